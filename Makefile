@@ -15,7 +15,21 @@ try:
 play: build
 	./qmail play < examples/first_message.play
 
+# The libraries that the program stands on: each after those that it names in crates.txt, and those that don't need each other side by
+# side. Nothing is proved here of tests, and no must-fail edit is tried.
+named_by = $(shell sed -n 's/^$(1)://p' crates.txt)
+crates := $(shell sed -n 's/^\([a-z_]*\):.*/\1/p' crates.txt)
+libraries_of = $(patsubst %,library-%,$(filter $(crates),$(call named_by,$(1))))
+
+define library
+.PHONY: library-$(1)
+library-$(1): $(call libraries_of,$(1))
+	cd crates/$(1) && rt lib
+endef
+$(foreach crate,$(crates),$(eval $(call library,$(crate))))
+
 build:
+	$(MAKE) --jobs=$$(nproc) --output-sync=target $(call libraries_of,qmail_cli)
 	cd crates/qmail_cli && rt run -- play < /dev/null > /dev/null
 	cp crates/qmail_cli/out/qmail_cli qmail
 
@@ -23,8 +37,8 @@ examples: build
 	@for script in examples/*.play; do \
 		name=$$(basename $$script .play); \
 		./qmail play < $$script | cmp - examples/$$name.out || exit 1; \
-		cmp $$script crates/play_tests/data/$$name.play || exit 1; \
-		cmp examples/$$name.out crates/play_tests/data/$$name.out || exit 1; \
+		cmp $$script crates/test_plays/data/$$name.play || exit 1; \
+		cmp examples/$$name.out crates/test_plays/data/$$name.out || exit 1; \
 		echo "$$name ok"; \
 	done
 

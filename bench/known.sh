@@ -1,5 +1,5 @@
 #!/usr/bin/env bash
-# bench/known.sh [N]: builds the program of sender_tests, and has a sender over a table of answers know N messages (10,000
+# bench/known.sh [N]: builds the program of test_sender, and has a sender over a table of answers know N messages (10,000
 # without it), each with one recipient, until all are removed, two turns for each. Prints how long that took, and by how much
 # the program is larger for each message that it knows than with one message. Exit status 1 if not all are removed.
 set -eu
@@ -7,11 +7,11 @@ count=${1:-10000}
 top=$(cd "$(dirname "$0")/.." && pwd)
 work=$(mktemp -d)
 trap 'rm -rf "$work"' EXIT
-(cd "$top/crates/sender_tests" && rt run -- 1 > /dev/null)
+(cd "$top/crates/test_sender" && rt run -- 1 > /dev/null)
 cd "$work"
 
 measured() { # N: the lines of time(1) go to a file
-  /usr/bin/time -f '%e %M' -o "time.$1" "$top/crates/sender_tests/out/sender_tests" "$1" > "out.$1"
+  /usr/bin/time -f '%e %M' -o "time.$1" "$top/crates/test_sender/out/test_sender" "$1" > "out.$1"
   grep "^crowd: $1 of $1 messages removed" "out.$1"
 }
 

@@ -6,6 +6,7 @@
 # up to the next item. It reaches what it names: a name of its own file, or one that a `use` of its file imports, also as
 # another name; a whole import (`as`) counts for the names that are written with it. A Rust type (`specs.declared`) counts
 # as one, by its item in src/, and reaches nothing. The kit's own library isn't counted. Names in comments don't count.
+# What a sender enters in ledgers isn't followed from `Safe` and `Promise`, which read no ledger: that is looked for.
 # LINES: how many lines to show of what wasn't found (0 without it).
 set -eu
 cd "$(dirname "$0")/.."
@@ -83,6 +84,8 @@ def passed_on(crate):
 
 
 reached, types, missing, queue = {}, {}, collections.Counter(), collections.deque()
+ENTERED = ('mail_world', 'History', 'told_by')
+unfollowed = {ENTERED}
 
 
 def go(path, name, why):
@@ -139,7 +142,7 @@ def follow():
                 if target is not None:
                     go(path, target, f'{crate} {rel}')
             elif word in items and items[word] and word != name:
-                if (crate, rel, word) not in reached:
+                if (crate, rel, word) not in reached and (crate, rel, word) not in unfollowed:
                     reached[(crate, rel, word)] = items[word]
                     queue.append((crate, rel, word))
 
@@ -151,13 +154,20 @@ def count():
 
 told = []
 for title, crate, rel, name in [
-    ('what is claimed of a state (`Safe`)', 'world_law', 'Headline', 'Safe'),
+    ('what is claimed after a history (`Safe`)', 'world_law', 'Headline', 'Safe'),
+    ('the promise (`Promise`)', 'world_law', 'Headline', 'Promise'),
     ('the headline (`Headline`)', 'world_law', 'Headline', 'Headline'),
     ('what `play` prints (`PrintsSafely`)', 'qmail_top', 'SafePlays', 'PrintsSafely'),
 ]:
     go(f'Rattle.{crate}.specs.{rel}', name, 'root')
     follow()
     told.append((title, *count()))
+    reads = [f'{c} {r} {n}' for (c, r, n), item in reached.items() if '.ledger' in item[2]]
+    if unfollowed and reads:
+        sys.exit(f'`{name}` reads a ledger: ' + ', '.join(reads))
+    if name == 'Promise':
+        unfollowed.clear()
+        go('.'.join(['Rattle', ENTERED[0], 'specs', ENTERED[1]]), ENTERED[2], 'entered')
 for line in open('crates/qmail_top/src/top.rt'):
     if line.startswith('ghost use '):
         for local, (path, name) in imports(re.sub('^ghost ', '', line)):
@@ -172,7 +182,7 @@ out = [head + '<!-- counted -->\n', '## How much that is\n',
        'Each row has what the rows above it have, and more. A line is a line of a definition with the comment over it.\n',
        '| What | Definitions | Lines | Files | Crates | Rust types |', '|---|---|---|---|---|---|']
 out += ['| ' + ' | '.join(str(x) for x in row) + ' |' for row in told]
-out += ['', '## File by file\n', 'In the order of crates.txt, lowest first.']
+out += ['', '## File by file\n', 'In the order of crates.txt, lowest first: the Rust types of each crate, and each file of its specs/ with how many lines that is, and the line of each definition.']
 rows = collections.OrderedDict()
 for c, rel, n in sorted(reached, key=lambda r: (place[r[0]], r[1], reached[r][0])):
     rows.setdefault(c, collections.OrderedDict()).setdefault(rel, []).append((n, reached[(c, rel, n)]))
@@ -180,12 +190,11 @@ kinds = collections.defaultdict(list)
 for c, t in sorted(types):
     kinds[c].append(t)
 for c in sorted(set(rows) | set(kinds), key=lambda c: place[c]):
-    out.append(f'\n### {c}\n')
-    if kinds[c]:
-        out.append('Types of `src/`: ' + ', '.join(f'`{t}`' for t in kinds[c]) + '.\n')
+    named = ', types ' + ', '.join(f'`{t}`' for t in kinds[c]) if kinds[c] else ''
+    out.append(f'\n**{c}**{named}\n')
     for rel, items in rows.get(c, {}).items():
         lines = sum(i[1] - i[0] + 1 for _, i in items)
-        out.append(f'- `specs/{rel.replace(".", "/")}.antt`, {lines} lines: ' + ', '.join(f'`{n}`:{i[0]}' for n, i in items))
+        out.append(f'- `specs/{rel.replace(".", "/")}.antt` ({lines}): ' + ', '.join(f'`{n}`:{i[0]}' for n, i in items))
 open('docs/TRUST.md', 'w').write('\n'.join(out) + '\n')
 for text, n in list(missing.most_common())[: int(sys.argv[1])]:
     print('not found:', text, file=sys.stderr)

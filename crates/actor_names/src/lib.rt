@@ -6,6 +6,14 @@
 //!
 //! The laws `child_names_differ` and `child_names_are_their_own` say that names of two kinds are never the same, nor those of two
 //! numbers.
+//!
+//! # What is claimed
+//!
+//! - Which names mails and the members of a generation may have; the names of the K-th bounce, of the K-th local
+//!   delivery and of what that forwards. A name of up to 24 bytes, held in place: `is_mail_name` (by `IsMailName`),
+//!   `is_member`, `bounce_name`, `delivery_name`, `forward_of`, `ActorName::{of, as_slice, copy, is}`.
+//! - Bounces, deliveries and forwards have a name of their own for each number and each kind, and none is that of a
+//!   mail or of a member of a generation: the laws `child_names_differ`, `child_names_are_their_own`.
 #![tactic(auto)]
 
 mod actor_name;

@@ -1,5 +1,5 @@
 -- The lines of a control file.
-use Rattle.std.proofs.Common.{◌≡◌, ℕ, ◌+◌, ◌*◌, ◌^◌, ◌<◌, ◌≤◌, List, [], ◌∷◌, ◌++◌, ◌&&◌, length, Some, None, Bool, true, false, refl, ap, ◌∙◌, arith}
+use Rattle.std.proofs.Common.{◌≡◌, ℕ, ◌+◌, ◌*◌, ◌^◌, ◌<◌, ◌≤◌, List, [], ◌∷◌, ◌++◌, ◌&&◌, length, Some, None, true, refl, ap, ◌∙◌, arith}
 use Rattle.std.specs.Prelude.{Contains, if◌then◌else◌}
 use Rattle.std.specs.List.{list_all, onto_first}
 use Rattle.std.proofs.lemmas.List.{length-append}
@@ -10,7 +10,7 @@ use Rattle.std.proofs.Math.Numerals.{add-one}
 use Rattle.std.proofs.Math.Nat.{pow-le-pow_right, pow-suc}
 use Rattle.mail_bytes.specs.Decimal.{value}
 use Rattle.address_rules.specs.Cuts.{first_cut}
-use Rattle.address_rules.specs.Lines.{lines, is_blank, trimmed, short_number}
+use Rattle.address_rules.specs.Lines.{lines, short_number}
 use Rattle.address_rules.proofs.ByteCuts.{first_cut_is, first_cut_lacks, head_differs, tail_lacks, differs_eqb}
 
 line_then : (line after : List ℕ) → ¬ (Contains line 10) → lines (line ++ 10 ∷ after) ≡ line ∷ lines after
@@ -39,32 +39,6 @@ lines_shorter text line after e =
 pub lines_uncut : (text : List ℕ) → 0 < length text → first_cut 10 text ≡ None → lines text ≡ text ∷ []
 lines_uncut [] some e = absurd (omega arith)
 lines_uncut (b ∷ rest) some e = last_line b rest (first_cut_lacks 10 (b ∷ rest) e)
-
--- Blanks at the end of a line.
-
-and_false : (b : Bool) → (b && false) ≡ false
-and_false true = refl
-and_false false = refl
-
-all_with_blank : (line : List ℕ) (b : ℕ) → is_blank b ≡ true → list_all is_blank (line ++ b ∷ []) ≡ list_all is_blank line
-all_with_blank [] b e = ap (λ t. t && true) e
-all_with_blank (x ∷ line) b e = ap (λ t. is_blank x && t) (all_with_blank line b e)
-
-not_all : (line : List ℕ) (b : ℕ) → is_blank b ≡ false → list_all is_blank (line ++ b ∷ []) ≡ false
-not_all [] b e = ap (λ t. t && true) e
-not_all (x ∷ line) b e = ap (λ t. is_blank x && t) (not_all line b e) ∙ and_false (is_blank x)
-
-pub trimmed_blank : (line : List ℕ) (b : ℕ) → is_blank b ≡ true → trimmed (line ++ b ∷ []) ≡ trimmed line
-trimmed_blank [] b e = ap (λ t. if t && true then [] else b ∷ []) e
-trimmed_blank (x ∷ line) b e =
-    ap (λ t. if is_blank x && t then [] else x ∷ trimmed (line ++ b ∷ [])) (all_with_blank line b e)
-    ∙ ap (λ t. if is_blank x && list_all is_blank line then [] else x ∷ t) (trimmed_blank line b e)
-
-pub trimmed_kept : (line : List ℕ) (b : ℕ) → is_blank b ≡ false → trimmed (line ++ b ∷ []) ≡ line ++ b ∷ []
-trimmed_kept [] b e = ap (λ t. if t && true then [] else b ∷ []) e
-trimmed_kept (x ∷ line) b e =
-    ap (λ t. if t then [] else x ∷ trimmed (line ++ b ∷ [])) (not_all (x ∷ line) b e)
-    ∙ ap (λ t. x ∷ t) (trimmed_kept line b e)
 
 -- A number of at most nine digits.
 

@@ -14,8 +14,9 @@ use Rattle.address_rules.specs.Cuts.{Parts, first_cut}
 use Rattle.address_rules.specs.Files.{content, controls_of, first_fault, list_in, me_of, text_in, virtual_domains_in, IsFaulty}
 use Rattle.address_rules.specs.Files.HasFault.{HasNul}
 use Rattle.address_rules.specs.Keys.{IsFirstPrefix}
-use Rattle.address_rules.specs.Lines.{is_blank, is_kept, kept_line, lines, listed, trimmed, value_of, virtual_domain, virtual_domains, virtual_of}
-use Rattle.address_rules.specs.Nuls.{HasNoNul, LineHasNoNul, HaveNoNul}
+use Rattle.address_rules.specs.Lines.{is_kept, kept_line, lines, listed, value_of, virtual_domain, virtual_domains, virtual_of}
+use Rattle.mail_bytes.specs.Texts.{is_blank, trimmed, HasNoNul}
+use Rattle.address_rules.specs.Nuls.{LineHasNoNul, HaveNoNul}
 use Rattle.address_rules.specs.Routes.{address_in, address_keys, route_of, IsQualified, IsRound, AfterRounds, IsDecided}
 use Rattle.address_rules.specs.Routes.AfterRounds.{NoRound, Round}
 use Rattle.address_rules.specs.Routes.IsDecided.{IsHere, HasPrefix, IsExcepted, IsElsewhere}

@@ -6,20 +6,12 @@ use Rattle.std.specs.Char.{is_ascii_digit}
 use Rattle.mail_bytes.specs.Decimal.{value}
 use Rattle.address_rules.specs.declared.virtual_domains.VirtualDomain.{VirtualDomain}
 use Rattle.address_rules.specs.Cuts.{Parts, first_cut}
+use Rattle.mail_bytes.specs.Texts.{trimmed}
 
 -- The lines of a text. A last line without newline counts, and a newline at the end begins no line.
 abbrev pub lines : List ℕ → List (List ℕ)
 lines [] = []
 lines (b ∷ rest) = if b == 10 then [] ∷ lines rest else onto_first b (lines rest)
-
--- a space or a tab
-abbrev pub is_blank : ℕ → Bool
-is_blank b = b == 32 || b == 9
-
--- a line without the blanks at its end
-abbrev pub trimmed : List ℕ → List ℕ
-trimmed [] = []
-trimmed (b ∷ rest) = if list_all is_blank (b ∷ rest) then [] else b ∷ trimmed rest
 
 -- The value of a file that holds one, in line 1: empty if that line is, or isn't there.
 abbrev pub value_of : List ℕ → List ℕ

@@ -1,12 +1,9 @@
 -- Texts without NUL. A line of a control file with one is refused, so what the files say has none; nor has the route of an
 -- address without one.
-use Rattle.std.specs.Prelude.{◌≢◌, ℕ, List, All}
+use Rattle.std.specs.Prelude.{All}
 use Rattle.address_rules.specs.declared.controls.Controls.{Controls}
 use Rattle.address_rules.specs.declared.virtual_domains.VirtualDomain.{VirtualDomain}
-
--- no byte of it is NUL
-abbrev pub HasNoNul : List ℕ → Type 0
-HasNoNul text = All (λ b. b ≢ 0) text
+use Rattle.mail_bytes.specs.Texts.{HasNoNul}
 
 abbrev pub LineHasNoNul : VirtualDomain → Type 0
 LineHasNoNul line = HasNoNul line.domain × HasNoNul line.prefix

@@ -8,7 +8,8 @@ ghost use Rattle.address_rules.specs.Cuts.{IsLastCut};
 ghost use Rattle.address_rules.specs.Keys.{domain_keys, IsFirstPrefix};
 ghost use Rattle.address_rules.specs.Files.{controls_of, first_fault, IsFaulty, IsFirstFault};
 ghost use Rattle.address_rules.specs.Routes.{address_in, route_of, IsRoute};
-ghost use Rattle.address_rules.specs.Nuls.{HasNoNul, HaveNoNul};
+ghost use Rattle.address_rules.specs.Nuls.{HaveNoNul};
+ghost use Rattle.mail_bytes.specs.Texts.{HasNoNul};
 ghost use Rattle.address_rules.specs.Names.{stripped, verp_of, IsStripped, IsVerp};
 
 /// An address has exactly one route.

@@ -2,12 +2,12 @@
 ghost use Rattle.std.specs.Prelude.{◌≡◌, ◌<◌, ◌≤◌, ◌∷◌, ◌++◌, IfOk, length, IsTrue};
 ghost use Rattle.std.specs.List.{position_from};
 ghost use Rattle.std.specs.Option.{option_copied};
-ghost use Rattle.address_rules.specs.Lines.{lines, is_blank, trimmed, value_of, kept_line, listed, virtual_domains, virtual_of, is_bad, short_number};
+ghost use Rattle.address_rules.specs.Lines.{lines, value_of, kept_line, listed, virtual_domains, virtual_of, is_bad, short_number};
 
 use crate::cuts::cut_first;
 use crate::text_list::TextList;
 use crate::virtual_domains::{VirtualDomain, VirtualDomains};
-use mail_bytes::{ByteText, Memory};
+use mail_bytes::{ByteText, Memory, trimmed};
 use std::alloc::Global;
 
 /// The first line, and what comes after its newline. The condition: there is a line.
@@ -20,27 +20,6 @@ fn cut_line(text: &[u8]) -> (&[u8], &[u8])
         Some(parts) => parts,
         None => (text, &[]),
     }
-}
-
-/// Whether a byte is a space or a tab.
-fn is_blank(byte: u8) -> bool
-    ensures { result ≡ is_blank byte }
-{
-    byte == b' ' || byte == b'\t'
-}
-
-/// A line without the spaces and tabs at its end.
-fn trimmed(line: &[u8]) -> &[u8]
-    ensures { result.now ≡ trimmed line.now }
-{
-    let mut rest = line;
-    while let Some((last, before)) = rest.split_last() {
-        if !is_blank(*last) {
-            return rest;
-        }
-        rest = before;
-    }
-    rest
 }
 
 /// The value of a file that has one, in its first line.
@@ -64,7 +43,7 @@ fn kept_line(line: &[u8]) -> Option<&[u8]>
     }
 }
 
-/// What a file with a list lists.
+/// What a file with a list lists. The error: out of memory.
 pub fn listed(alloc: Global, bytes: &[u8]) -> Result<TextList, Memory>
     ensures { IfOk result (λ list. list ≡ listed bytes.now) }
 {
@@ -80,7 +59,7 @@ pub fn listed(alloc: Global, bytes: &[u8]) -> Result<TextList, Memory>
     Ok(TextList::from_vec(texts))
 }
 
-/// The lines of virtualdomains among those that a file lists: those with a colon.
+/// The lines of virtualdomains among those that a file lists: those with a colon. The error: out of memory.
 pub fn virtual_domains(alloc: Global, bytes: &[u8]) -> Result<VirtualDomains, Memory>
     ensures { IfOk result (λ list. list ≡ virtual_domains bytes.now) }
 {

@@ -54,6 +54,7 @@ fn without_prefix<'a>(address: &'a [u8], prefix: &[u8]) -> &'a [u8]
 
 /// The sender that the recipient sees (VERP): of the sender `owner@host-@[]`, whose host has no `@`, and the recipient
 /// `box@domain`, cut at its last `@`, it is `ownerbox=domain@host`. Else the sender as it is.
+/// The error: out of memory.
 pub fn verp(alloc: Global, sender: &[u8], recipient: &[u8]) -> Result<Vec<u8>, Memory>
     ensures { IfOk result (λ text. text.items ≡ verp_of sender.now recipient.now) }
 {

@@ -21,7 +21,7 @@ use Rattle.bounce_record.specs.declared.note_row.NoteRow.{NoteRow}
 use Rattle.bounce_record.specs.declared.note_row.NoteRow.TheVariants as at
 use Rattle.bounce_record.specs.Runs.{NoteOf, IsWriting, begun, written_after}
 use Rattle.bounce_record.specs.Writing.{Writing, appended_row, bounce_path, created_row, next_piece, opened_row, piece, stated_row, synced_row, tail_read_row, tail_row, writing_due_at, written_on}
-use Rattle.bounce_record.proofs.Coming.{by_fit}
+use Rattle.call_fs.proofs.Coming.{by_fit}
 
 -- a descriptor by which may be appended
 abbrev pub Owns : (ℕ → Option Mode) → Fd → Type 0

@@ -23,7 +23,7 @@ use Rattle.bounce_record.specs.declared.return_row.ReturnRow.TheVariants as at
 use Rattle.bounce_record.specs.Returning.{Returning, awaited_row, bounce_at, given_row, goes, made, message_opened, message_path, message_read, notes_opened, notes_read, return_due_at, returned_at, started_row, unlinked_row}
 use Rattle.bounce_record.specs.Runs.{IsReturn, returned_after}
 use Rattle.bounce_record.specs.Writing.{bounce_path}
-use Rattle.bounce_record.proofs.Coming.{by_fit}
+use Rattle.call_fs.proofs.Coming.{by_fit}
 
 -- what a row holds open
 abbrev pub HoldsReturn : (ℕ → Option Mode) → ReturnRow → Type 0

@@ -32,7 +32,7 @@ use Rattle.bounce_record.specs.Bounces.{bounce_of}
 use Rattle.bounce_record.specs.Returning.{Returning, awaited_row, bounce_at, due_of_return, given_row, goes, input_of, made, message_opened, message_path, message_read, notes_opened, notes_read, return_due_at, returned_at, room_of, started_row, unlinked_row}
 use Rattle.bounce_record.specs.Runs.{IsInjected, IsReturn, IsReturned, IsSettled, bytes_at, bytes_of, returned_after}
 use Rattle.bounce_record.specs.Writing.{bounce_path}
-use Rattle.bounce_record.proofs.Coming.{by_fit}
+use Rattle.call_fs.proofs.Coming.{by_fit}
 
 -- A file that is read in pieces
 

@@ -6,8 +6,6 @@ pub mod Softening
 pub mod Naming
 -- which addresses a file names, line by line
 pub mod Counting
--- what may come of a file call
-pub mod Coming
 -- the calls of a note's writing use what it holds open
 pub mod HoldsNote
 -- the calls of a return use what it holds open

@@ -19,16 +19,16 @@ use Rattle.call_fs.specs.declared.past.GotData.TheVariants as came
 use Rattle.call_fs.specs.declared.past.Own.{Own}
 use Rattle.call_fs.specs.Apply.{Apply, changed, grown, synced, with_new, with_open, without_open, empty_file, from_place, read_by}
 use Rattle.call_fs.specs.Columns.{IsAnswerTo}
-use Rattle.call_fs.specs.Disk.{File, Open as OpenFile, Disk, IsSynced}
+use Rattle.call_fs.specs.Disk.{File, Open as OpenFile, Disk, IsSynced, IsWhole}
 use Rattle.call_fs.specs.Past.{LeadsTo, Makes}
 use Rattle.call_fs.specs.Program.{MayCome}
 use Rattle.call_fs.proofs.Maps.{put_same, put_at_same}
 use Rattle.bounce_record.specs.declared.note_row.NoteRow.{NoteRow}
 use Rattle.bounce_record.specs.declared.note_row.NoteRow.TheVariants as at
 use Rattle.bounce_record.specs.Notes.{note_text, parting, with_note}
-use Rattle.bounce_record.specs.Runs.{NoteOf, IsWriting, IsWhole, IsWrittenRow, begun, bytes_at, bytes_of, written_after}
+use Rattle.bounce_record.specs.Runs.{NoteOf, IsWriting, IsWrittenRow, begun, bytes_at, bytes_of, written_after}
 use Rattle.bounce_record.specs.Writing.{Writing, appended_row, bounce_path, created_row, left_out, next_piece, opened_row, piece, stated_row, synced_row, tail_read_row, tail_row, writing_due_at, written_on}
-use Rattle.bounce_record.proofs.Coming.{by_fit}
+use Rattle.call_fs.proofs.Coming.{by_fit}
 use Rattle.bounce_record.proofs.Counting.{parting_tail}
 
 some_same : (a b : ℕ) → ◌≡◌ {A = Option ℕ} (Some a) (Some b) → a ≡ b

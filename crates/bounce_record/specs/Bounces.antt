@@ -3,9 +3,7 @@ use Rattle.std.specs.Prelude.{ℕ, ◌-◌, List, [], ◌∷◌, ◌++◌, lengt
 use Rattle.std.specs.List.{concat, ends_with}
 use Rattle.received_line.specs.Received.{date_text}
 use Rattle.bounce_record.specs.declared.bounces.Bounce.{Bounce}
-
-abbrev pub line : List ℕ → List ℕ
-line text = text ++ 10 ∷ []
+use Rattle.mail_bytes.specs.Texts.{line}
 
 -- `user@host`, as it stands
 abbrev pub user_at : List ℕ → List ℕ → List ℕ

@@ -17,7 +17,7 @@ use Rattle.call_fs.specs.declared.past.NeedData.{NeedData}
 use Rattle.call_fs.specs.declared.past.NeedData.TheVariants as needs
 use Rattle.call_fs.specs.declared.program.Port.TheVariants as port
 use Rattle.envelope_records.specs.Envelope.{records_of}
-use Rattle.mail_bytes.specs.Netstring.{head}
+use Rattle.mail_bytes.specs.Netstring.{netstring}
 use Rattle.queue_paths.specs.Names.{path}
 use Rattle.queue_paths.specs.Names.Name.{Of}
 use Rattle.queue_paths.specs.Names.Part.{Mess as MessFile}
@@ -32,10 +32,6 @@ use Rattle.bounce_record.specs.Writing.{bounce_path}
 -- its envelope: from its sender, to its recipient
 abbrev pub envelope_of : Bounce → List ℕ
 envelope_of b = records_of b.sender (b.recipient ∷ []) ++ 0 ∷ []
-
--- its length in decimal, `:`, the bytes, and `,`
-abbrev pub netstring : List ℕ → List ℕ
-netstring bytes = head (length bytes) ++ (bytes ++ 44 ∷ [])
 
 -- two netstrings: the message, and then the envelope
 abbrev pub input_of : Bounce → List ℕ

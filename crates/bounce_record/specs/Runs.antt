@@ -10,7 +10,7 @@ use Rattle.call_fs.specs.declared.past.NeedData.TheVariants as needs
 use Rattle.call_fs.specs.declared.past.Own.{Own}
 use Rattle.call_fs.specs.declared.program.Port.TheVariants as port
 use Rattle.call_fs.specs.declared.program.Ready.{Ready}
-use Rattle.call_fs.specs.Disk.{File, Disk, IsSynced}
+use Rattle.call_fs.specs.Disk.{File, Disk, IsWhole}
 use Rattle.call_fs.specs.Past.{IsRunBy, LeadsTo, UsesHeld, held}
 use Rattle.bounce_record.specs.declared.bounces.Bounce.{Bounce}
 use Rattle.bounce_record.specs.declared.note_row.NoteRow.{NoteRow}
@@ -65,10 +65,6 @@ bytes_of (Some k) files = (files k).bytes
 
 abbrev pub bytes_at : Disk → List ℕ → List ℕ
 bytes_at d name = bytes_of (d.names name) d.files
-
--- the file of this name holds just these bytes, and all of them are on the disk
-abbrev pub IsWhole : Disk → List ℕ → List ℕ → Type 0
-IsWhole d name bytes = (k : ℕ) × (d.names name ≡ Some k) × IsSynced (d.files k) bytes
 
 -- the note is in the file: what is left is the close, or nothing
 abbrev pub IsWrittenRow : NoteRow → Type 0

@@ -1,7 +1,8 @@
 // The message that returns a bounce file.
 ghost use Rattle.std.specs.Prelude.{◌≡◌, ◌++◌, ◌↔◌, [], codes, IfOk, OnOk, IsNone};
 ghost use Rattle.mail_bytes.specs.Moments.{IsMoment};
-ghost use Rattle.bounce_record.specs.Bounces.{line, user_at, return_address, header, returned, single_text, double_text, bounce_of};
+ghost use Rattle.bounce_record.specs.Bounces.{user_at, return_address, header, returned, single_text, double_text, bounce_of};
+ghost use Rattle.mail_bytes.specs.Texts.{line};
 
 use mail_bytes::{ByteText, Memory};
 use received_line::date;
@@ -23,7 +24,7 @@ pub struct Bounce {
 /// and `double_host` doublebounceto and doublebouncehost. A message from a sender is returned to it, from the empty
 /// sender, without the `-@[]` that the sender may end with; one from the empty sender, a bounce, goes from `#@[]` to
 /// doublebounceto at doublebouncehost. `None` exactly if the sender is `#@[]`, so that a double bounce is dropped. The
-/// condition: a clock may tell the moment.
+/// condition: a clock may tell the moment. The error: out of memory.
 #[expect(clippy::too_many_arguments)]
 pub fn bounce_message(
     alloc: Global,

@@ -1,6 +1,7 @@
 // What the injector of a bounce is given.
 ghost use Rattle.std.specs.Prelude.{◌≡◌, ◌++◌, ◌∷◌, [], IfOk, OnOk};
-ghost use Rattle.bounce_record.specs.Returning.{envelope_of, input_of, netstring, room_of};
+ghost use Rattle.bounce_record.specs.Returning.{envelope_of, input_of, room_of};
+ghost use Rattle.mail_bytes.specs.Netstring.{netstring};
 
 use crate::Bounce;
 use mail_bytes::{Memory, dec};
@@ -15,7 +16,7 @@ pub struct Input {
     pub room: u64,
 }
 
-/// What the injector of this bounce is given (qmail-queue(8), envelopes(5)).
+/// What the injector of this bounce is given (qmail-queue(8), envelopes(5)). The error: out of memory.
 pub fn input_of(alloc: Global, bounce: &Bounce) -> Result<Input, Memory>
     ensures text { IfOk result (λ input. input.text.items ≡ input_of bounce.now) }
     ensures room { IfOk result (λ input. input.room ≡ room_of bounce.now) }

@@ -43,7 +43,7 @@ fn plain_note(alloc: Global, address: &[u8], report: &[u8]) -> Result<Vec<u8>, M
     Ok(text)
 }
 
-/// An address as a note names it: each newline as `_`.
+/// An address as a note names it: each newline as `_`. The error: out of memory.
 pub fn note_name(alloc: Global, address: &[u8]) -> Result<ByteText, Memory>
     ensures { IfOk result (λ name. name ≡ note_name address.now) }
 {
@@ -91,7 +91,7 @@ fn soften(text: &mut [u8])
 }
 
 /// The addresses that a bounce file names: one for each paragraph, at its start or after an empty line, whose first line
-/// is `<`, an address and `>:`.
+/// is `<`, an address and `>:`. The error: out of memory.
 pub fn notes_of(alloc: Global, bytes: &[u8]) -> Result<Vec<ByteText>, Memory>
     ensures { IfOk result (λ found. found.items ≡ notes_of bytes.now) }
 {

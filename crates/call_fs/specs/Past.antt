@@ -10,10 +10,11 @@ use Rattle.call_fs.specs.declared.calls.Told.{Told}
 use Rattle.call_fs.specs.declared.calls.Recorded.{Recorded}
 use Rattle.call_fs.specs.declared.program.Ready.{Ready}
 use Rattle.call_fs.specs.declared.past.NeedData.{NeedData}
-use Rattle.call_fs.specs.declared.past.NeedData.TheVariants.{File}
+use Rattle.call_fs.specs.declared.past.NeedData.TheVariants.{File, Take}
 use Rattle.call_fs.specs.declared.past.GotData.{GotData}
-use Rattle.call_fs.specs.declared.past.GotData.TheVariants.{Answered}
+use Rattle.call_fs.specs.declared.past.GotData.TheVariants.{Answered, Took}
 use Rattle.call_fs.specs.declared.past.Own.{Own}
+use Rattle.call_fs.specs.declared.program.Port.TheVariants.{Input}
 use Rattle.mail_bytes.specs.Moments.{IsMoment}
 use Rattle.call_fs.specs.Maps.{put}
 use Rattle.call_fs.specs.Disk.{Disk, IsForAppend, IsForWrite, IsForCut}
@@ -128,3 +129,15 @@ UsesHeld held due = Unit {0}
 -- A disk has open what is held.
 abbrev pub Backs : Disk → (ℕ → Option Mode) → Type 0
 Backs d held = (fd : ℕ) (mode : Mode) → held fd ≡ Some mode → (n : ℕ) × (d.opens fd ≡ Some (record { number = n; mode = mode }))
+
+-- What was taken
+
+-- the bytes of its input, after one event
+abbrev pub taken_by : List ℕ → NeedData → GotData → List ℕ
+taken_by old (Take Input) (Took bytes) = old ++ bytes
+taken_by old due got = old
+
+-- the bytes of its input
+abbrev pub taken : List Own → List ℕ
+taken [] = []
+taken (event ∷ before) = taken_by (taken before) event.due event.came

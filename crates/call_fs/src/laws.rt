@@ -10,15 +10,17 @@ ghost use Rattle.call_fs.specs.declared.past.Own.{Own};
 ghost use Rattle.call_fs.specs.declared.file_system.TheConstants.{PIECE};
 ghost use Rattle.call_fs.specs.Apply.{Apply, MayCall};
 ghost use Rattle.call_fs.specs.Choices.{Halts};
-ghost use Rattle.call_fs.specs.Columns.{IsTold, IsMissing, IsTaken, FaultLeaves, OnlyLooks};
+ghost use Rattle.call_fs.specs.Columns.{IsTold, IsMissing, IsTaken, IsAnswerTo, FaultLeaves, OnlyLooks};
 ghost use Rattle.call_fs.specs.Disk.{Disk};
 ghost use Rattle.call_fs.specs.declared.modes.Mode.{Mode};
 ghost use Rattle.call_fs.specs.Past.{LeadsTo, Backs, Uses, held};
 
-/// What the answers of a call mean, each apart. Unless a failure or running out of memory came first, `NotThere` comes
+/// What the answers of a call mean, each apart. Each is one that its call may have. Unless a failure or running out of memory came first, `NotThere` comes
 /// exactly if something is missing, and `Exists` exactly if the new name is there. A call that only looks changes nothing,
 /// nor does one that is refused; only a write that failed may have written a prefix.
 pub fn answers_mean()
+    ensures kind { (before after : Disk) (now : ℕ) (call : CallData) (told : Answer)
+        → Apply before now call told after → IsAnswerTo call told }
     ensures not_there { (before after : Disk) (now : ℕ) (call : CallData) (told : Answer)
         → Apply before now call told after → IsTold told → told ≡ Refused NotThere ↔ IsMissing before call }
     ensures exists { (before after : Disk) (now : ℕ) (call : CallData) (told : Answer)

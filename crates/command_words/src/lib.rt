@@ -11,6 +11,12 @@
 //! | `queue ENV DIR --uid N --bounce` | puts a message into the queue of DIR, as qmail-queue(8) |
 //! | `audit DIR` | prints what the queue of DIR holds |
 //! | `clean DIR` | runs the cleaner over the queue of DIR |
+//!
+//! # What is claimed
+//!
+//! - Which command the words are, as a simple `clap` command for each takes them, and what it is told; and the
+//!   places that they name: `read_words`: `ok` (by `Reads`), `usage` (by `IsNoCommand`); `places`; the laws
+//!   `words_are_one_command`, `words_by_row`, `words_of_queue`.
 #![tactic(auto)]
 
 mod command;

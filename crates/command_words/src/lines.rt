@@ -14,7 +14,7 @@ pub fn play_line<'a>(alloc: Global) -> Command<'a>
     Command::new(alloc, "play")
 }
 
-/// The words of `queue`.
+/// The words of `queue`. The error: out of memory.
 pub fn queue_line<'a>(alloc: Global) -> Result<Command<'a>, Memory>
     ensures { IfOk result (λ line. app_of line ≡ queue_line) }
 {
@@ -29,14 +29,14 @@ pub fn queue_line<'a>(alloc: Global) -> Result<Command<'a>, Memory>
         )
 }
 
-/// The words of `audit`.
+/// The words of `audit`. The error: out of memory.
 pub fn audit_line<'a>(alloc: Global) -> Result<Command<'a>, Memory>
     ensures { IfOk result (λ line. app_of line ≡ audit_line) }
 {
     Command::new(alloc, "audit").arg(Arg::new(alloc, "dir").required(true))
 }
 
-/// The words of `clean`.
+/// The words of `clean`. The error: out of memory.
 pub fn clean_line<'a>(alloc: Global) -> Result<Command<'a>, Memory>
     ensures { IfOk result (λ line. app_of line ≡ clean_line) }
 {

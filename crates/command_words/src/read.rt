@@ -39,6 +39,7 @@ pub fn read_words(alloc: Global, words: &[String]) -> Result<Command, WordsError
 }
 
 /// The file and the directory that the words name, if they are a command that has them; else neither.
+/// The error: out of memory.
 pub fn places(alloc: Global, words: &[String]) -> Result<Places, Memory>
     ensures { IfOk result (λ places. places ≡ places_of (command_of (map string_bytes words.now))) }
 {

@@ -6,7 +6,8 @@ use Rattle.std.proofs.lemmas.List.{append-nil}
 use Rattle.std.proofs.lemmas.List.Elements.{All-cons, All-contains, All-nil}
 use Rattle.dot_qmail.specs.declared.line.Line.{Line}
 use Rattle.dot_qmail.specs.declared.line.Line.TheVariants.{Command, Forward, Mailbox, Maildir}
-use Rattle.dot_qmail.specs.Lines.{begins_blank, line_of, lines, path_line, plan_of, said, said_by, trimmed, until_nul}
+use Rattle.dot_qmail.specs.Lines.{begins_blank, line_of, lines, path_line, plan_of, said, said_by, until_nul}
+use Rattle.mail_bytes.specs.Texts.{trimmed}
 use Rattle.dot_qmail.specs.Paths.{EndsInSlash, path_in, without_dot}
 use Rattle.dot_qmail.proofs.Ranking.{ends_decides, starts_decides}
 

@@ -1,38 +1,12 @@
--- Blanks at the end of a line, and the loop over the lines of a file.
-use Rattle.std.proofs.Common.{◌≡◌, ℕ, ◌+◌, ◌<◌, List, [], ◌∷◌, ◌++◌, ◌&&◌, length, take, drop, get_or, Bool, true, false, cond, nat_lt, refl, sym, ap, ◌∙◌, append_assoc, arith, Option, Some, None}
-use Rattle.std.specs.Prelude.{if◌then◌else◌, position}
-use Rattle.std.specs.List.{list_all, filter_map, cons_option, before_first, position_or_len}
+-- The loop over the lines of a file.
+use Rattle.std.proofs.Common.{◌≡◌, ℕ, ◌+◌, ◌<◌, List, ◌∷◌, ◌++◌, length, take, drop, get_or, Bool, true, false, cond, nat_lt, refl, sym, ap, ◌∙◌, append_assoc, arith, Option, Some, None}
+use Rattle.std.specs.Prelude.{position}
+use Rattle.std.specs.List.{filter_map, cons_option, before_first, position_or_len}
 use Rattle.std.specs.Option.{option_to_list}
 use Rattle.std.proofs.lemmas.List.{append-nil, drop_more, drop_all, take_all}
 use Rattle.std.proofs.lemmas.Bool.{cond-true, cond-false, ltb-false}
 use Rattle.dot_qmail.specs.declared.line.Line.{Line}
-use Rattle.dot_qmail.specs.Lines.{is_blank, trimmed, line_of, lines, begins_blank, plan_of}
-
-and_false : (b : Bool) → (b && false) ≡ false
-and_false true = refl
-and_false false = refl
-
-all_with_blank : (line : List ℕ) (b : ℕ) → is_blank b ≡ true → list_all is_blank (line ++ b ∷ []) ≡ list_all is_blank line
-all_with_blank [] b e = ap (λ t. t && true) e
-all_with_blank (x ∷ line) b e = ap (λ t. is_blank x && t) (all_with_blank line b e)
-
-not_all : (line : List ℕ) (b : ℕ) → is_blank b ≡ false → list_all is_blank (line ++ b ∷ []) ≡ false
-not_all [] b e = ap (λ t. t && true) e
-not_all (x ∷ line) b e = ap (λ t. is_blank x && t) (not_all line b e) ∙ and_false (is_blank x)
-
-pub trimmed_blank : (line : List ℕ) (b : ℕ) → is_blank b ≡ true → trimmed (line ++ b ∷ []) ≡ trimmed line
-trimmed_blank [] b e = ap (λ t. if t && true then [] else b ∷ []) e
-trimmed_blank (x ∷ line) b e =
-    ap (λ t. if is_blank x && t then [] else x ∷ trimmed (line ++ b ∷ [])) (all_with_blank line b e)
-    ∙ ap (λ t. if is_blank x && list_all is_blank line then [] else x ∷ t) (trimmed_blank line b e)
-
-pub trimmed_kept : (line : List ℕ) (b : ℕ) → is_blank b ≡ false → trimmed (line ++ b ∷ []) ≡ line ++ b ∷ []
-trimmed_kept [] b e = ap (λ t. if t && true then [] else b ∷ []) e
-trimmed_kept (x ∷ line) b e =
-    ap (λ t. if t then [] else x ∷ trimmed (line ++ b ∷ [])) (not_all (x ∷ line) b e)
-    ∙ ap (λ t. x ∷ t) (trimmed_kept line b e)
-
--- The loop
+use Rattle.dot_qmail.specs.Lines.{line_of, lines, begins_blank, plan_of}
 
 consed : (o : Option Line) (xs : List Line) → cons_option o xs ≡ option_to_list o ++ xs
 consed None xs = refl

@@ -1,23 +1,15 @@
 -- What the lines of a .qmail file tell to do (dot-qmail(5)).
 use Rattle.std.specs.Prelude.{◌≡◌, ℕ, List, [], ◌∷◌, Bool, true, false, ◌&&◌, ◌||◌, not, Option, Some, None, if◌then◌else◌, ◌==◌, nat_eq}
-use Rattle.std.specs.List.{list_all, filter_map, before_first, slice_split, ends_with}
+use Rattle.std.specs.List.{filter_map, before_first, slice_split, ends_with}
 use Rattle.dot_qmail.specs.declared.line.Line.{Line}
 use Rattle.dot_qmail.specs.declared.line.Line.TheVariants.{Command, Maildir, Mailbox, Forward}
 use Rattle.dot_qmail.specs.declared.line.PlanError.{PlanError}
 use Rattle.dot_qmail.specs.declared.line.PlanError.TheVariants.{BlankFirst, Memory}
+use Rattle.mail_bytes.specs.Texts.{trimmed}
 
 -- The pieces of a file between its newlines. After a newline at its end comes an empty piece, which tells nothing.
 abbrev pub lines : List ℕ → List (List ℕ)
 lines bytes = slice_split (λ b. b == 10) bytes
-
--- a space or a tab
-abbrev pub is_blank : ℕ → Bool
-is_blank b = b == 32 || b == 9
-
--- a line without the blanks at its end
-abbrev pub trimmed : List ℕ → List ℕ
-trimmed [] = []
-trimmed (b ∷ rest) = if list_all is_blank (b ∷ rest) then [] else b ∷ trimmed rest
 
 -- an address ends before its first NUL
 abbrev pub until_nul : List ℕ → List ℕ

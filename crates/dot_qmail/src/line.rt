@@ -2,9 +2,9 @@
 ghost use Rattle.std.specs.Prelude.{◌≡◌, ◌++◌, ◌==◌, Some, position, IfOk, IfErr, OnOk};
 ghost use Rattle.std.specs.List.{before_first};
 ghost use Rattle.std.specs.Option.{option_to_list};
-ghost use Rattle.dot_qmail.specs.Lines.{is_blank, trimmed, begins_blank, until_nul, said, said_by, path_line, line_of, plan_of, IsPlanFault};
+ghost use Rattle.dot_qmail.specs.Lines.{begins_blank, until_nul, said, said_by, path_line, line_of, plan_of, IsPlanFault};
 
-use mail_bytes::{ByteText, Memory};
+use mail_bytes::{ByteText, Memory, trimmed};
 use std::alloc::{AllocError, AllocFailed, Global};
 use thiserror::Error;
 
@@ -79,27 +79,6 @@ fn begins_blank(bytes: &[u8]) -> bool
     ensures { result ≡ begins_blank bytes.now }
 {
     !bytes.is_empty() && trimmed(before(bytes, b'\n')).is_empty()
-}
-
-/// Whether a byte is a space or a tab.
-fn is_blank(byte: u8) -> bool
-    ensures { result ≡ is_blank byte }
-{
-    byte == b' ' || byte == b'\t'
-}
-
-/// A line without the spaces and tabs at its end.
-fn trimmed(line: &[u8]) -> &[u8]
-    ensures { result.now ≡ trimmed line.now }
-{
-    let mut rest = line;
-    while let Some((last, front)) = rest.split_last() {
-        if !is_blank(*last) {
-            return rest;
-        }
-        rest = front;
-    }
-    rest
 }
 
 /// Puts what a line tells, if it tells anything, at the end of a list.

@@ -6,7 +6,7 @@ use mail_bytes::{ByteText, Memory};
 use std::alloc::Global;
 
 /// Where a path leads that a `.qmail` file of this home tells: one that begins with `/` is as it stands; of any other one
-/// leading `./` is dropped, and the home and `/` go before it.
+/// leading `./` is dropped, and the home and `/` go before it. The error: out of memory.
 pub fn path_in(alloc: Global, home: &[u8], path: &[u8]) -> Result<ByteText, Memory>
     ensures { IfOk result (λ text. text ≡ path_in home.now path.now) }
 {

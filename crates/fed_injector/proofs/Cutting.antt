@@ -4,9 +4,8 @@ use Rattle.std.specs.Prelude.{◌↔◌, ◌==◌, true, false}
 use Rattle.std.proofs.lemmas.List.{append_assoc, get_or_at, length-append, length-take-le, take-append-drop, take_all, take_at, drop_at, drop_more, length-drop, length-take}
 use Rattle.mail_bytes.specs.declared.netstrings.NetHead.{NetHead}
 use Rattle.mail_bytes.specs.declared.netstrings.NetHead.TheVariants.{Len}
-use Rattle.mail_bytes.specs.Netstring.{head, IsHead}
+use Rattle.mail_bytes.specs.Netstring.{head, IsHead, netstring}
 use Rattle.mail_bytes.proofs.Heads.{exact}
-use Rattle.fed_injector.specs.Texts.{netstring}
 
 -- a netstring begins with its head
 parts : (text rest : List ℕ) → netstring text ++ rest ≡ head (length text) ++ (text ++ (44 ∷ rest))

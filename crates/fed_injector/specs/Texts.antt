@@ -1,12 +1,8 @@
 -- What an injector is given by its parent: two netstrings.
-use Rattle.std.specs.Prelude.{◌≡◌, ℕ, List, [], ◌∷◌, ◌++◌, length}
+use Rattle.std.specs.Prelude.{◌≡◌, ℕ, List, ◌++◌}
 use Rattle.call_fs.specs.declared.past.NeedData.{NeedData}
 use Rattle.call_fs.specs.declared.past.NeedData.TheVariants.{Give}
-use Rattle.mail_bytes.specs.Netstring.{head}
-
--- a text as a netstring: its length, `:`, the text and `,`
-abbrev pub netstring : List ℕ → List ℕ
-netstring text = head (length text) ++ (text ++ 44 ∷ [])
+use Rattle.mail_bytes.specs.Netstring.{netstring}
 
 -- what is due to the parent gives these two texts
 abbrev pub GivesTexts : NeedData → List ℕ → List ℕ → Type 0

@@ -1,6 +1,7 @@
 // What an injector is given by its parent: two netstrings.
 ghost use Rattle.std.specs.Prelude.{◌≡◌, ◌≢◌, ◌<◌, ◌^◌, ◌++◌, List, ℕ, IfOk, IfSome, IsNone, length};
-ghost use Rattle.fed_injector.specs.Texts.{netstring, GivesTexts, GivesTwo};
+ghost use Rattle.fed_injector.specs.Texts.{GivesTexts, GivesTwo};
+ghost use Rattle.mail_bytes.specs.Netstring.{netstring};
 
 use call_fs::NeedData;
 use mail_bytes::{ByteText, Memory, NetHead, net_head};
@@ -43,7 +44,7 @@ fn netstring_of(bytes: &[u8]) -> Option<(&[u8], &[u8])>
 }
 
 /// The message and the envelope that are given to an injector when this is due to its parent, and a copy of each to keep. The condition:
-/// it gives them, as two netstrings.
+/// it gives them, as two netstrings. The error: out of memory.
 pub fn texts_to_give(
     alloc: Global,
     due: &NeedData,

@@ -46,6 +46,7 @@ fn is_dir<S: System>(system: &S, path: &str) -> bool {
 }
 
 /// Opens a file for reading, and for what else is asked.
+/// `NotThere` if the system says that it is missing; a directory, and any other refusal, is a fault.
 pub fn open_file<S: System>(system: &S, path: &str, how: How) -> Result<S::File, FsError>
     ensures exists { ¬ (IsErrOf result FsError.Exists) }
     ensures memory { ¬ (IsErrOf result FsError.Memory) }
@@ -84,7 +85,7 @@ fn directory_of(path: &str) -> &str {
     }
 }
 
-/// Takes a name away.
+/// Takes a name away. `NotThere` if the system says that it is missing; any other refusal is a fault.
 pub fn unlink_file<S: System>(system: &S, path: &str) -> Result<(), FsError>
     ensures exists { ¬ (IsErrOf result FsError.Exists) }
     ensures memory { ¬ (IsErrOf result FsError.Memory) }
@@ -96,6 +97,7 @@ pub fn unlink_file<S: System>(system: &S, path: &str) -> Result<(), FsError>
 }
 
 /// Tells the file of a name.
+/// `NotThere` if the system says that it is missing; a directory, and any other refusal, is a fault.
 pub fn stat_file<S: System>(system: &S, path: &str) -> Result<Stat, FsError>
     ensures moment { IfOk result (λ stat. IsMoment stat.moment) }
     ensures exists { ¬ (IsErrOf result FsError.Exists) }

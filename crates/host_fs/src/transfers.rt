@@ -65,7 +65,7 @@ impl<'a, S: System> Write for End<'a, S> {
 }
 
 /// Reads until the buffer is full or the reader is at its end, and answers how many bytes those were. An interrupted
-/// read is tried again.
+/// read is tried again. A read that fails otherwise, or is interrupted more than 1000 times, is a fault.
 pub fn read_full<R: Read>(reader: &mut R, into: &mut [u8]) -> Result<u64, FsError>
     ensures count { IfOk result (λ count. count ≤ length into.old) }
     ensures fault { OnErr result (IsErrOf result FsError.Fault) }

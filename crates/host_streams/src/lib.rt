@@ -1,10 +1,20 @@
-//! The streams of a real system: sources over readers, as standard input and a file that is opened late, a sink over a
-//! writer, as standard output and standard error, the clock of the system, what stands for words of the command line that
-//! couldn't be read, and the exit status.
+//! The streams of a real system: sources over readers, as standard input and a file that is opened late, and a sink over
+//! a writer, as standard output and standard error. Also the clock of the system, what stands for words of the command
+//! line that couldn't be read, and the exit status.
 //!
 //! The contract of this crate: each is what its trait in outside asks for, and counts a failure of the stream below it as
 //! one. What a real stream or clock holds no contract can say, so a source and a clock don't tell; of a writer that tells
 //! what it holds, it holds what the sink was given. The calls are those of read(2), write(2), time(2) and getpid(2).
+//!
+//! # What is claimed
+//!
+//! - The adapters count a failure of standard input, output and error, and of the file of the envelope, as one. A
+//!   writer that tells what it holds has taken all that a sink says was given, and after a failure a prefix of it;
+//!   a read of the envelope fails if the words name no file. The clock never falls and tells no moment past the
+//!   last; which moment follows for given seconds; words that can't be read are none, which is no command, unless
+//!   memory ran out, which is an error. The exit status is the call's, or 51 if memory ran out before it: `impl
+//!   Source`, `impl Sink` (`give`: `cause`, `all`, `some`), `impl Clock`; `next_moment`; `LateFile::read`: `none`;
+//!   `unread_words`; `status_of`.
 #![tactic(auto)]
 
 mod host_clock;

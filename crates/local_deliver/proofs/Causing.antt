@@ -20,26 +20,26 @@ use Rattle.call_fs.specs.declared.past.Own.{Own}
 use Rattle.call_fs.specs.declared.program.Port.TheVariants as port
 use Rattle.call_fs.specs.declared.program.Ready.{Ready}
 use Rattle.call_fs.specs.Columns.{IsAnswerTo}
-use Rattle.call_fs.specs.Past.{HasCall, IsRunBy}
+use Rattle.call_fs.specs.Past.{HasCall, IsRunBy, taken}
 use Rattle.call_fs.specs.Program.{MayCome}
 use Rattle.dot_qmail.specs.declared.choice.Chosen.{Chosen}
 use Rattle.dot_qmail.specs.declared.choice.Chosen.TheVariants as chosen
 use Rattle.dot_qmail.specs.declared.line.Line.{Line}
 use Rattle.dot_qmail.specs.declared.line.Line.TheVariants as line
 use Rattle.dot_qmail.specs.Lines.{plan_of}
-use Rattle.local_steps.specs.declared.arguments.LocalArgs.{LocalArgs}
-use Rattle.local_steps.specs.declared.forwarding.Injection.{Injection}
-use Rattle.local_steps.specs.Choosing.{chosen_by, file_name}
-use Rattle.local_steps.specs.Course.{Work, begun as begun_course, course_of, cut, default_text, lines_of, passed, work_of}
-use Rattle.local_steps.specs.Course.Work.{Nothing, ToCommand, ToMaildir, ToMailbox}
-use Rattle.local_steps.specs.Endings.{is_lasting_command, is_lasting_injection, status_by}
-use Rattle.local_steps.specs.Forwarding.{injection_of}
-use Rattle.local_steps.specs.Host.{host_in}
-use Rattle.local_steps.specs.Inputs.{message_in}
-use Rattle.local_steps.specs.Looping.{is_looping}
-use Rattle.local_steps.specs.Names.{last_name}
-use Rattle.local_steps.specs.Texts.{delivered_to}
-use Rattle.local_steps.proofs.Courses.{lines_stay}
+use Rattle.local_parts.specs.declared.arguments.LocalArgs.{LocalArgs}
+use Rattle.local_parts.specs.declared.forwarding.Injection.{Injection}
+use Rattle.local_parts.specs.Choosing.{chosen_by, file_name}
+use Rattle.local_parts.specs.Course.{Work, begun as begun_course, course_of, cut, default_text, lines_of, passed, work_of}
+use Rattle.local_parts.specs.Course.Work.{Nothing, ToCommand, ToMaildir, ToMailbox}
+use Rattle.local_parts.specs.Endings.{is_lasting_command, is_lasting_injection, status_by}
+use Rattle.local_parts.specs.Forwarding.{injection_of}
+use Rattle.local_parts.specs.Host.{host_in}
+use Rattle.local_parts.specs.Inputs.{message_in}
+use Rattle.local_parts.specs.Looping.{is_looping}
+use Rattle.local_parts.specs.Names.{last_name}
+use Rattle.local_parts.specs.Texts.{delivered_to}
+use Rattle.local_parts.proofs.Courses.{lines_stay}
 use Rattle.maildir_drop.specs.declared.arguments.Arguments.{Arguments}
 use Rattle.maildir_drop.specs.declared.names.DropNames.{DropNames}
 use Rattle.maildir_drop.specs.declared.row.Attempt.TheVariants.{First}
@@ -68,12 +68,13 @@ use Rattle.local_deliver.specs.Causes.IsCausedBy.{Lasting, NoMemory, Passing, Su
 use Rattle.local_deliver.specs.Causes.IsLasting.{CommandExited, HasNoMailbox, InjectorExited, IsLoop}
 use Rattle.local_deliver.specs.Causes.IsPassing.{CallFailed, CommandFailed, DefaultIsBlank, DropDeferred, FileIsBlank, FileIsMissing, GiveFailed, HasMailbox, HomeHasNoForm, HomeIsMissing, HostIsBad, InjectorFailed, InputFailed, IsNoMessage, StartFailed}
 use Rattle.local_deliver.specs.Causes.IsPassingEnd.{Crashed, OtherStatus, Unknown}
-use Rattle.local_deliver.specs.Deeds.{bytes_read, taken, told_names}
+use Rattle.local_deliver.specs.Deeds.{bytes_read, told_names}
 use Rattle.local_deliver.specs.Drops.{Drop, begun_drop, drop_arguments, end_drop, moved_drop}
 use Rattle.local_deliver.specs.Failures.{status_of, text_of}
 use Rattle.local_deliver.specs.Table.{Next, act, begins_lines, closed, command_failed, dropped, dropped_by, drops_by, due_at, due_by_drop, file_wanted, follows, forward_failed, forwarded, gave, goes_on, hosted, hosted_by, input_ended, instructed, last_step, line_done, lines_done, looks, named, opened, place_after, read_on, step_of, takes}
-use Rattle.local_deliver.proofs.Carrying.{AtSome as AtWork, Inv, carried_out, holds, not_ended_drop}
-use Rattle.local_deliver.proofs.Coming.{by_fit}
+use Rattle.local_deliver.proofs.Carrying.{carried_out, holds, not_ended_drop}
+use Rattle.local_deliver.proofs.Underway.{AtSome as AtWork, Inv}
+use Rattle.call_fs.proofs.Coming.{by_fit}
 use Rattle.local_deliver.proofs.Deeds.{deeds_of}
 
 -- the causes that stay causes when more comes

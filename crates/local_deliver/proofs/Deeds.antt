@@ -4,7 +4,8 @@ use Rattle.call_fs.specs.declared.past.ChildData.{ChildData}
 use Rattle.call_fs.specs.declared.past.GotData.{GotData}
 use Rattle.call_fs.specs.declared.past.NeedData.{NeedData}
 use Rattle.call_fs.specs.declared.past.Own.{Own}
-use Rattle.local_deliver.specs.Deeds.{Exited, LinkMade, bytes_read, exits, exits_by, feeds, feeds_by, links, last_opened, links_by, me_read, me_with, names_by, opens_by, read_by, starts, starts_by, statuses, statuses_by, taken, taken_by, told_names}
+use Rattle.local_deliver.specs.Deeds.{Exited, LinkMade, bytes_read, exits, exits_by, feeds, feeds_by, links, last_opened, links_by, me_read, me_with, names_by, opens_by, read_by, starts, starts_by, statuses, statuses_by, told_names}
+use Rattle.call_fs.specs.Past.{taken, taken_by}
 
 pub record Deeds : Type 0 where
   pub taken : List ℕ

@@ -14,17 +14,17 @@ use Rattle.call_fs.specs.Program.{MayCome}
 use Rattle.dot_qmail.specs.declared.choice.Chosen.{Chosen}
 use Rattle.dot_qmail.specs.declared.choice.Chosen.TheVariants as chosen
 use Rattle.dot_qmail.specs.declared.line.Line.{Line}
-use Rattle.local_steps.specs.declared.arguments.LocalArgs.{LocalArgs}
-use Rattle.local_steps.specs.declared.forwarding.Injection.{Injection}
-use Rattle.local_steps.specs.Choosing.{chosen_by}
-use Rattle.local_steps.specs.Course.{Course, Work, course_of, cut, default_text, lines_of, passed, work_of}
-use Rattle.local_steps.specs.Course.Work.{Nothing, ToCommand, ToMaildir, ToMailbox}
-use Rattle.local_steps.specs.Forwarding.{injection_of}
-use Rattle.local_steps.specs.Host.{host_in}
-use Rattle.local_steps.specs.Inputs.{message_in}
-use Rattle.local_steps.specs.Looping.{is_looping}
-use Rattle.local_steps.specs.Names.{last_name}
-use Rattle.local_steps.specs.Texts.{delivered_to}
+use Rattle.local_parts.specs.declared.arguments.LocalArgs.{LocalArgs}
+use Rattle.local_parts.specs.declared.forwarding.Injection.{Injection}
+use Rattle.local_parts.specs.Choosing.{chosen_by}
+use Rattle.local_parts.specs.Course.{Course, Work, course_of, cut, default_text, lines_of, passed, work_of}
+use Rattle.local_parts.specs.Course.Work.{Nothing, ToCommand, ToMaildir, ToMailbox}
+use Rattle.local_parts.specs.Forwarding.{injection_of}
+use Rattle.local_parts.specs.Host.{host_in}
+use Rattle.local_parts.specs.Inputs.{message_in}
+use Rattle.local_parts.specs.Looping.{is_looping}
+use Rattle.local_parts.specs.Names.{last_name}
+use Rattle.local_parts.specs.Texts.{delivered_to}
 use Rattle.maildir_drop.specs.Ends.{EndData}
 use Rattle.maildir_drop.specs.Ends.EndData.{IsDropped, IsDeferred, LacksMemory}
 use Rattle.maildir_drop.specs.Names.{is_name}
@@ -42,7 +42,7 @@ use Rattle.local_deliver.specs.Drops.{Drop, begun_drop, drop_arguments, end_drop
 use Rattle.local_deliver.specs.Failures.{status_of}
 use Rattle.local_deliver.specs.Table.{act, begins_lines, closed, command_failed, dropped, dropped_by, drops_by, due_at, due_by_drop, fed, file_wanted, follows, forward_failed, forwarded, gave, goes_on, hosted, hosted_by, injected, injected_with, input_ended, instructed, last_step, line_done, lines_done, looks, missing, named, opened, ran, read_on, read_whole, started, step_of, takes, took}
 use Rattle.local_deliver.specs.Writes.{at_work}
-use Rattle.local_deliver.proofs.Coming.{by_fit}
+use Rattle.call_fs.proofs.Coming.{by_fit}
 
 -- Q holds of the drop, if one is at work; and F and S hold where the injector is given its input, and where its status is taken
 abbrev pub AtRow : (Drop → Type 0) → Type 0 → Type 0 → Row → Option Drop → Type 0

@@ -12,11 +12,11 @@ use Rattle.call_fs.specs.declared.program.Ready.{Ready}
 use Rattle.call_fs.specs.Past.{IsRunBy}
 use Rattle.call_fs.specs.Program.{MayCome}
 use Rattle.dot_qmail.specs.declared.line.Line.{Line}
-use Rattle.local_steps.specs.declared.arguments.LocalArgs.{LocalArgs}
-use Rattle.local_steps.specs.declared.forwarding.Injection.{Injection}
-use Rattle.local_steps.specs.Course.{lines_of}
-use Rattle.local_steps.specs.Forwarding.{envelope, forward_sender, forwards, injected, injection_of, injection_to, net_text}
-use Rattle.local_steps.specs.Texts.{forward_text}
+use Rattle.local_parts.specs.declared.arguments.LocalArgs.{LocalArgs}
+use Rattle.local_parts.specs.declared.forwarding.Injection.{Injection}
+use Rattle.local_parts.specs.Course.{lines_of}
+use Rattle.local_parts.specs.Forwarding.{envelope, forward_sender, forwards, injected, injection_of, injection_to, net_text}
+use Rattle.local_parts.specs.Texts.{forward_text}
 use Rattle.maildir_drop.specs.declared.names.DropNames.{DropNames}
 use Rattle.maildir_drop.specs.declared.row.Row.{Row as DropRow}
 use Rattle.maildir_drop.specs.declared.row.Row.TheVariants as drop
@@ -28,7 +28,8 @@ use Rattle.local_deliver.specs.Deeds.{starts}
 use Rattle.local_deliver.specs.Drops.{Drop}
 use Rattle.local_deliver.specs.Forwards.{HasGiven, HasStarted, IsForwardInput}
 use Rattle.local_deliver.specs.Table.{Next, act, due_at, due_by_drop, due_of_place, place_after}
-use Rattle.local_deliver.proofs.Carrying.{AtFeed, Inv, holds}
+use Rattle.local_deliver.proofs.Carrying.{holds}
+use Rattle.local_deliver.proofs.Underway.{AtFeed, Inv}
 use Rattle.local_deliver.proofs.Deeds.{deeds_of}
 use Rattle.local_deliver.proofs.Dropped.{AtPlace, AtRow, stepped}
 

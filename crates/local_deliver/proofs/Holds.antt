@@ -19,17 +19,17 @@ use Rattle.call_fs.proofs.Maps.{put_same}
 use Rattle.dot_qmail.specs.declared.choice.Chosen.{Chosen}
 use Rattle.dot_qmail.specs.declared.choice.Chosen.TheVariants as chosen
 use Rattle.dot_qmail.specs.declared.line.Line.{Line}
-use Rattle.local_steps.specs.declared.arguments.LocalArgs.{LocalArgs}
-use Rattle.local_steps.specs.declared.forwarding.Injection.{Injection}
-use Rattle.local_steps.specs.Choosing.{chosen_by}
-use Rattle.local_steps.specs.Course.{Course, Work, work_of, passed, cut, lines_of, course_of, default_text}
-use Rattle.local_steps.specs.Course.Work.{Nothing, ToCommand, ToMaildir, ToMailbox}
-use Rattle.local_steps.specs.Forwarding.{injection_of}
-use Rattle.local_steps.specs.Host.{host_in}
-use Rattle.local_steps.specs.Inputs.{message_in}
-use Rattle.local_steps.specs.Looping.{is_looping}
-use Rattle.local_steps.specs.Names.{last_name}
-use Rattle.local_steps.specs.Texts.{delivered_to}
+use Rattle.local_parts.specs.declared.arguments.LocalArgs.{LocalArgs}
+use Rattle.local_parts.specs.declared.forwarding.Injection.{Injection}
+use Rattle.local_parts.specs.Choosing.{chosen_by}
+use Rattle.local_parts.specs.Course.{Course, Work, work_of, passed, cut, lines_of, course_of, default_text}
+use Rattle.local_parts.specs.Course.Work.{Nothing, ToCommand, ToMaildir, ToMailbox}
+use Rattle.local_parts.specs.Forwarding.{injection_of}
+use Rattle.local_parts.specs.Host.{host_in}
+use Rattle.local_parts.specs.Inputs.{message_in}
+use Rattle.local_parts.specs.Looping.{is_looping}
+use Rattle.local_parts.specs.Names.{last_name}
+use Rattle.local_parts.specs.Texts.{delivered_to}
 use Rattle.maildir_drop.specs.declared.row.Attempt.TheVariants.{First}
 use Rattle.maildir_drop.specs.Ends.{EndData}
 use Rattle.maildir_drop.specs.Ends.EndData.{IsDropped, IsDeferred, LacksMemory}
@@ -47,7 +47,7 @@ use Rattle.local_deliver.specs.declared.step.Step.{Step}
 use Rattle.local_deliver.specs.declared.step.Step.TheVariants as step
 use Rattle.local_deliver.specs.Drops.{Drop, drop_arguments, due_drop, end_drop, moved_drop}
 use Rattle.local_deliver.specs.Table.{act, begins_lines, by_default, closed, command_failed, dropped, dropped_by, due_by_drop, drops_by, due_at, exited, file_wanted, follows, forward_failed, forwarded, goes_on, hosted, hosted_by, injected, injected_with, input_ended, instructed, last_step, line_done, lines_done, looks, missing, named, Next, opened, place_after, ran, read_on, read_whole, started, step_of, takes, took, fed, gave}
-use Rattle.local_deliver.proofs.Coming.{by_fit}
+use Rattle.call_fs.proofs.Coming.{by_fit}
 
 -- what a row, with the drop at work, holds open
 abbrev pub HoldsRow : (ℕ → Option Mode) → Row → Option Drop → Type 0

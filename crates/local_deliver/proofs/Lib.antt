@@ -1,5 +1,3 @@
--- what may come of a need
-pub mod Coming
 -- what a delivery holds open
 pub mod Holds
 -- going on to the next line
@@ -14,6 +12,8 @@ pub mod Deeds
 pub mod Reaching
 -- no file of instructions is control/me
 pub mod MeNames
+-- what a delivery has done and knows at each of its rows
+pub mod Underway
 -- what a delivery has done
 pub mod Carrying
 -- what holds of the drop at work

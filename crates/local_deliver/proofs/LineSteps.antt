@@ -1,11 +1,11 @@
 -- Going on to the next line, as it is computed before the lines are passed.
 use Rattle.std.proofs.Common.{◌≡◌, ℕ, List, refl, sym, ap, ◌∙◌}
-use Rattle.local_steps.specs.declared.arguments.LocalArgs.{LocalArgs}
-use Rattle.local_steps.specs.Course.{Course, Work, after_work, cut, lines_of, passed, work_of}
-use Rattle.local_steps.specs.Course.Work.{Nothing, ToCommand, ToMaildir, ToMailbox}
+use Rattle.local_parts.specs.declared.arguments.LocalArgs.{LocalArgs}
+use Rattle.local_parts.specs.Course.{Course, Work, after_work, cut, lines_of, passed, work_of}
+use Rattle.local_parts.specs.Course.Work.{Nothing, ToCommand, ToMaildir, ToMailbox}
 use Rattle.dot_qmail.specs.declared.line.Line.{Line}
-use Rattle.local_steps.specs.Forwarding.{injection_of}
-use Rattle.local_steps.proofs.Courses.{lines_stay}
+use Rattle.local_parts.specs.Forwarding.{injection_of}
+use Rattle.local_parts.proofs.Courses.{lines_stay}
 use Rattle.local_deliver.specs.declared.place.Place.{Place}
 use Rattle.local_deliver.specs.declared.step.Step.{Step}
 use Rattle.local_deliver.specs.Table.{last_step, line_done, lines_done, step_of, takes}

@@ -1,16 +1,15 @@
 -- No file of instructions is control/me.
-use Rattle.std.proofs.Common.{◌≡◌, ℕ, List, [], ◌∷◌, ◌++◌, Bool, true, false, Option, Some, None, refl, sym, ap, ◌∙◌, subst, codes}
+use Rattle.std.proofs.Common.{◌≡◌, ℕ, List, [], ◌∷◌, ◌++◌, Bool, true, false, Option, Some, None, refl, sym, ap, ◌∙◌, codes}
 use Rattle.std.specs.Prelude.{map, slice_index_or, bytes_eq, ◌&&◌, ◌||◌, ◌==◌}
 use Rattle.std.specs.Option.{option_or}
 use Rattle.std.proofs.lemmas.Bool.{false≢true, false_from_ne_true}
 use Rattle.std.proofs.lemmas.Slice.Eq.{bytes_eq-Decides}
-use Rattle.dot_qmail.specs.declared.choice.Chosen.{Chosen}
 use Rattle.dot_qmail.specs.declared.choice.Chosen.TheVariants.{File}
 use Rattle.dot_qmail.specs.Choice.{bare_choice, chosen, dash_choice, default_name, first_place, looked_for, place_of, safe, stems}
 use Rattle.dot_qmail.proofs.Places.{Found, found}
 use Rattle.dot_qmail.proofs.Places.Found.{There, Nowhere}
-use Rattle.local_steps.specs.declared.arguments.LocalArgs.{LocalArgs}
-use Rattle.local_steps.specs.Choosing.{chosen_by, file_name}
+use Rattle.local_parts.specs.declared.arguments.LocalArgs.{LocalArgs}
+use Rattle.local_parts.specs.Choosing.{chosen_by, file_name}
 use Rattle.local_deliver.specs.Deeds.{me_name}
 
 -- A text with `/.` in it

@@ -2,9 +2,9 @@
 use Rattle.std.proofs.Common.{◌≡◌, ℕ, List, [], ◌∷◌, ◌++◌, subst}
 use Rattle.dot_qmail.specs.declared.line.Line.{Line}
 use Rattle.dot_qmail.specs.declared.line.Line.TheVariants as line
-use Rattle.local_steps.specs.declared.arguments.LocalArgs.{LocalArgs}
-use Rattle.local_steps.specs.Course.{after_work, up_to_work, work_of}
-use Rattle.local_steps.specs.Course.Work.{Nothing, ToCommand, ToMaildir}
+use Rattle.local_parts.specs.declared.arguments.LocalArgs.{LocalArgs}
+use Rattle.local_parts.specs.Course.{after_work, up_to_work, work_of}
+use Rattle.local_parts.specs.Course.Work.{Nothing, ToCommand, ToMaildir}
 use Rattle.local_deliver.specs.Carried.{AreDrops, IsDropLink, Reaches}
 use Rattle.local_deliver.specs.Carried.AreDrops.{NoDrops, ByForward, ByCommand, ByMaildir}
 use Rattle.local_deliver.specs.Carried.Reaches.{AtEnd, AtStop, PastCommand, PastForward, PastMaildir}

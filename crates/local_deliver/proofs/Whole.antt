@@ -7,21 +7,20 @@ use Rattle.call_fs.specs.declared.past.GotData.{GotData}
 use Rattle.call_fs.specs.declared.past.NeedData.TheVariants as needs
 use Rattle.call_fs.specs.declared.past.Own.{Own}
 use Rattle.call_fs.specs.declared.program.Ready.{Ready}
-use Rattle.call_fs.specs.Disk.{Disk}
-use Rattle.call_fs.specs.Past.{IsRunBy, LeadsTo, Makes}
+use Rattle.call_fs.specs.Disk.{Disk, IsWhole}
+use Rattle.call_fs.specs.Past.{IsRunBy, LeadsTo, Makes, taken, taken_by}
 use Rattle.call_fs.specs.Program.{MayCome}
 use Rattle.dot_qmail.specs.declared.line.Line.{Line}
 use Rattle.dot_qmail.specs.declared.line.Line.TheVariants as line
-use Rattle.local_steps.specs.declared.arguments.LocalArgs.{LocalArgs}
-use Rattle.local_steps.specs.Course.{lines_of, work_of}
-use Rattle.local_steps.specs.Course.Work.{ToMaildir}
-use Rattle.local_steps.specs.Inputs.{message_in}
-use Rattle.local_steps.specs.Texts.{maildir_text}
+use Rattle.local_parts.specs.declared.arguments.LocalArgs.{LocalArgs}
+use Rattle.local_parts.specs.Course.{lines_of, work_of}
+use Rattle.local_parts.specs.Course.Work.{ToMaildir}
+use Rattle.local_parts.specs.Inputs.{message_in}
+use Rattle.local_parts.specs.Texts.{maildir_text}
 use Rattle.maildir_drop.specs.declared.arguments.Arguments.{Arguments}
 use Rattle.maildir_drop.specs.declared.names.DropNames.{DropNames}
 use Rattle.maildir_drop.specs.declared.row.Row.{Row as DropRow}
 use Rattle.maildir_drop.specs.declared.row.Row.TheVariants as drop
-use Rattle.maildir_drop.specs.Laws.{IsWhole}
 use Rattle.maildir_drop.specs.Names.{names_of, pair_at}
 use Rattle.maildir_drop.specs.Rests.{LeavesAlone, Rests, RestsOn}
 use Rattle.maildir_drop.specs.Table.{due_at as drop_due, moved as drop_moved}
@@ -31,12 +30,12 @@ use Rattle.local_deliver.specs.declared.row.Row.{Row}
 use Rattle.local_deliver.specs.declared.row.Row.TheVariants as at
 use Rattle.local_deliver.specs.declared.row.Wanted.TheVariants as wanted
 use Rattle.local_deliver.specs.Carried.{AreWhole}
-use Rattle.local_deliver.specs.Deeds.{taken, taken_by}
 use Rattle.local_deliver.specs.Drops.{Drop, drop_arguments, due_drop, moved_drop}
 use Rattle.local_deliver.specs.Table.{Next, act, due_at, due_by_drop, place_after}
 use Rattle.local_deliver.specs.Writes.{AtWork, Writes, WritesOn, at_work}
 use Rattle.local_deliver.proofs.Deeds.{Deeds, deeds_of}
-use Rattle.local_deliver.proofs.Carrying.{AtSome, Inv, holds}
+use Rattle.local_deliver.proofs.Carrying.{holds}
+use Rattle.local_deliver.proofs.Underway.{AtSome, Inv}
 use Rattle.local_deliver.proofs.Causing.{told_at_drop}
 use Rattle.local_deliver.proofs.Dropped.{MayBegin, stepped, works}
 

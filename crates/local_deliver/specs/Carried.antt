@@ -7,24 +7,23 @@ use Rattle.call_fs.specs.declared.past.ChildData.TheVariants.{Forward as Forward
 use Rattle.call_fs.specs.declared.past.GotData.TheVariants.{Answered}
 use Rattle.call_fs.specs.declared.past.NeedData.TheVariants.{File}
 use Rattle.call_fs.specs.declared.past.Own.{Own}
-use Rattle.call_fs.specs.Disk.{Disk}
-use Rattle.call_fs.specs.Past.{LeadsTo}
+use Rattle.call_fs.specs.Disk.{Disk, IsWhole}
+use Rattle.call_fs.specs.Past.{LeadsTo, taken}
 use Rattle.dot_qmail.specs.declared.choice.Chosen.{Chosen}
 use Rattle.dot_qmail.specs.declared.choice.Chosen.TheVariants as chosen
 use Rattle.dot_qmail.specs.declared.line.Line.{Line}
 use Rattle.dot_qmail.specs.declared.line.Line.TheVariants as line
 use Rattle.dot_qmail.specs.Lines.{plan_of}
-use Rattle.local_steps.specs.declared.arguments.LocalArgs.{LocalArgs}
-use Rattle.local_steps.specs.declared.forwarding.Injection.{Injection}
-use Rattle.local_steps.specs.Choosing.{chosen_by}
-use Rattle.local_steps.specs.Course.{default_text}
-use Rattle.local_steps.specs.Forwarding.{injection_of}
-use Rattle.local_steps.specs.Inputs.{message_in}
-use Rattle.local_steps.specs.Texts.{maildir_text}
+use Rattle.local_parts.specs.declared.arguments.LocalArgs.{LocalArgs}
+use Rattle.local_parts.specs.declared.forwarding.Injection.{Injection}
+use Rattle.local_parts.specs.Choosing.{chosen_by}
+use Rattle.local_parts.specs.Course.{default_text}
+use Rattle.local_parts.specs.Forwarding.{injection_of}
+use Rattle.local_parts.specs.Inputs.{message_in}
+use Rattle.local_parts.specs.Texts.{maildir_text}
 use Rattle.maildir_drop.specs.declared.row.Attempt.{Attempt}
-use Rattle.maildir_drop.specs.Laws.{IsWhole}
 use Rattle.maildir_drop.specs.Names.{names_of, pair_at}
-use Rattle.local_deliver.specs.Deeds.{Exited, LinkMade, bytes_read, exits, feeds, host_read, links, starts, statuses, taken, told_names}
+use Rattle.local_deliver.specs.Deeds.{Exited, LinkMade, bytes_read, exits, feeds, host_read, links, starts, statuses, told_names}
 use Rattle.local_deliver.specs.Drops.{drop_arguments}
 
 -- The instructions, by the names of the home and the bytes of the chosen file

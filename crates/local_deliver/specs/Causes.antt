@@ -18,20 +18,21 @@ use Rattle.dot_qmail.specs.declared.choice.Chosen.TheVariants as chosen
 use Rattle.dot_qmail.specs.declared.line.Line.{Line}
 use Rattle.dot_qmail.specs.declared.line.Line.TheVariants.{Mailbox}
 use Rattle.dot_qmail.specs.Lines.{plan_of}
-use Rattle.local_steps.specs.declared.arguments.LocalArgs.{LocalArgs}
-use Rattle.local_steps.specs.declared.endings.TheConstants.{PERMANENT, TEMPORARY}
-use Rattle.local_steps.specs.Choosing.{chosen_by, file_name}
-use Rattle.local_steps.specs.Course.{default_text}
-use Rattle.local_steps.specs.Endings.{is_lasting_command, is_lasting_injection}
-use Rattle.local_steps.specs.Host.{host_in}
-use Rattle.local_steps.specs.Inputs.{message_in}
-use Rattle.local_steps.specs.Looping.{is_looping}
-use Rattle.local_steps.specs.Texts.{delivered_to}
+use Rattle.local_parts.specs.declared.arguments.LocalArgs.{LocalArgs}
+use Rattle.local_parts.specs.declared.endings.TheConstants.{PERMANENT, TEMPORARY}
+use Rattle.local_parts.specs.Choosing.{chosen_by, file_name}
+use Rattle.local_parts.specs.Course.{default_text}
+use Rattle.local_parts.specs.Endings.{is_lasting_command, is_lasting_injection}
+use Rattle.local_parts.specs.Host.{host_in}
+use Rattle.local_parts.specs.Inputs.{message_in}
+use Rattle.local_parts.specs.Looping.{is_looping}
+use Rattle.local_parts.specs.Texts.{delivered_to}
 use Rattle.maildir_drop.specs.Causes.{IsDeferred}
 use Rattle.maildir_drop.specs.Names.{is_name, names_of}
 use Rattle.queue_limits.specs.declared.statuses.TheConstants.{DONE, MEMORY}
 use Rattle.local_deliver.specs.Carried.{IsCarried, instructions, of_file}
-use Rattle.local_deliver.specs.Deeds.{bytes_read, taken, told_names}
+use Rattle.local_deliver.specs.Deeds.{bytes_read, told_names}
+use Rattle.call_fs.specs.Past.{taken}
 use Rattle.local_deliver.specs.Drops.{drop_arguments}
 
 -- what came last, and of which need

@@ -11,16 +11,7 @@ use Rattle.call_fs.specs.declared.past.NeedData.{NeedData}
 use Rattle.call_fs.specs.declared.past.NeedData.TheVariants as needs
 use Rattle.call_fs.specs.declared.past.Own.{Own}
 use Rattle.call_fs.specs.declared.program.Port.TheVariants as port
-use Rattle.local_steps.specs.Host.{host_in}
-
--- the bytes of its input
-abbrev pub taken_by : List ℕ → NeedData → GotData → List ℕ
-taken_by old (needs.Take port.Input) (came.Took bytes) = old ++ bytes
-taken_by old due got = old
-
-abbrev pub taken : List Own → List ℕ
-taken [] = []
-taken (event ∷ before) = taken_by (taken before) event.due event.came
+use Rattle.local_parts.specs.Host.{host_in}
 
 -- the names of the home that it was told, in order
 abbrev pub told_by : List (List ℕ) → CallData → Answer → List (List ℕ)

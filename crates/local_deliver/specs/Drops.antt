@@ -3,8 +3,8 @@ use Rattle.std.specs.Prelude.{ℕ, List, Bool, Option}
 use Rattle.call_fs.specs.declared.past.GotData.{GotData}
 use Rattle.call_fs.specs.declared.past.NeedData.{NeedData}
 use Rattle.dot_qmail.specs.Paths.{path_in}
-use Rattle.local_steps.specs.declared.arguments.LocalArgs.{LocalArgs}
-use Rattle.local_steps.specs.Texts.{maildir_text}
+use Rattle.local_parts.specs.declared.arguments.LocalArgs.{LocalArgs}
+use Rattle.local_parts.specs.Texts.{maildir_text}
 use Rattle.maildir_drop.specs.declared.arguments.Arguments.{Arguments}
 use Rattle.maildir_drop.specs.declared.names.DropNames.{DropNames}
 use Rattle.maildir_drop.specs.Ends.{EndData, end_at, is_linked as is_linked_row}

@@ -1,6 +1,6 @@
 -- The texts of failures, and their exit statuses (qmail-local(8)).
 use Rattle.std.specs.Prelude.{ℕ, List, [], ◌∷◌, ◌++◌, codes}
-use Rattle.local_steps.specs.declared.endings.TheConstants.{PERMANENT, TEMPORARY}
+use Rattle.local_parts.specs.declared.endings.TheConstants.{PERMANENT, TEMPORARY}
 use Rattle.local_deliver.specs.declared.row.Failure.{Failure}
 use Rattle.local_deliver.specs.declared.row.Failure.TheVariants.{Unreadable, Looping, Home, NoMailbox, BlankFirst, Mailbox, Maildir}
 

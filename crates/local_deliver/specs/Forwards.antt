@@ -6,13 +6,14 @@ use Rattle.call_fs.specs.declared.past.NeedData.TheVariants as needs
 use Rattle.call_fs.specs.declared.past.Own.{Own}
 use Rattle.call_fs.specs.declared.program.Port.TheVariants as port
 use Rattle.dot_qmail.specs.declared.line.Line.{Line}
-use Rattle.local_steps.specs.declared.arguments.LocalArgs.{LocalArgs}
-use Rattle.local_steps.specs.Forwarding.{envelope, forward_sender, forwards, net_text}
-use Rattle.local_steps.specs.Inputs.{message_in}
-use Rattle.local_steps.specs.Texts.{forward_text}
+use Rattle.local_parts.specs.declared.arguments.LocalArgs.{LocalArgs}
+use Rattle.local_parts.specs.Forwarding.{envelope, forward_sender, forwards, net_text}
+use Rattle.local_parts.specs.Inputs.{message_in}
+use Rattle.local_parts.specs.Texts.{forward_text}
 use Rattle.local_deliver.specs.Carried.{Reaches, instructions}
 use Rattle.local_deliver.specs.Causes.{LastIs}
-use Rattle.local_deliver.specs.Deeds.{exits, taken, told_names}
+use Rattle.local_deliver.specs.Deeds.{exits, told_names}
+use Rattle.call_fs.specs.Past.{taken}
 
 -- it started a program just now
 abbrev pub HasStarted : List Own → Type 0

@@ -20,20 +20,20 @@ use Rattle.call_fs.specs.declared.program.Ready.{Ready}
 use Rattle.dot_qmail.specs.declared.line.Line.{Line}
 use Rattle.dot_qmail.specs.declared.choice.Chosen.{Chosen}
 use Rattle.dot_qmail.specs.declared.choice.Chosen.TheVariants as chosen
-use Rattle.local_steps.specs.declared.arguments.LocalArgs.{LocalArgs}
-use Rattle.local_steps.specs.declared.forwarding.Injection.{Injection}
-use Rattle.local_steps.specs.Choosing.{chosen_by, file_name}
-use Rattle.local_steps.specs.Course.{Course, Work, work_of, begun as begun_course, passed, cut, lines_of, course_of, default_text}
-use Rattle.local_steps.specs.Course.Work.{Nothing, ToCommand, ToMaildir, ToMailbox}
-use Rattle.local_steps.specs.Endings.{command_report, command_status, forward_report, forward_status}
-use Rattle.local_steps.specs.Forwarding.{injection_of}
-use Rattle.local_steps.specs.Host.{host_in}
-use Rattle.local_steps.specs.Inputs.{message_in}
-use Rattle.local_steps.specs.Looping.{is_looping}
-use Rattle.local_steps.specs.Names.{last_name}
-use Rattle.local_steps.specs.Tally.{did_report, forwarded_report}
-use Rattle.local_steps.specs.Texts.{delivered_to}
-use Rattle.local_steps.specs.declared.endings.TheConstants.{TEMPORARY}
+use Rattle.local_parts.specs.declared.arguments.LocalArgs.{LocalArgs}
+use Rattle.local_parts.specs.declared.forwarding.Injection.{Injection}
+use Rattle.local_parts.specs.Choosing.{chosen_by, file_name}
+use Rattle.local_parts.specs.Course.{Course, Work, work_of, begun as begun_course, passed, cut, lines_of, course_of, default_text}
+use Rattle.local_parts.specs.Course.Work.{Nothing, ToCommand, ToMaildir, ToMailbox}
+use Rattle.local_parts.specs.Endings.{command_report, command_status, forward_report, forward_status}
+use Rattle.local_parts.specs.Forwarding.{injection_of}
+use Rattle.local_parts.specs.Host.{host_in}
+use Rattle.local_parts.specs.Inputs.{message_in}
+use Rattle.local_parts.specs.Looping.{is_looping}
+use Rattle.local_parts.specs.Names.{last_name}
+use Rattle.local_parts.specs.Tally.{did_report, forwarded_report}
+use Rattle.local_parts.specs.Texts.{delivered_to}
+use Rattle.local_parts.specs.declared.endings.TheConstants.{TEMPORARY}
 use Rattle.maildir_drop.specs.Ends.{EndData}
 use Rattle.maildir_drop.specs.Ends.EndData.{IsDropped, IsDeferred, LacksMemory}
 use Rattle.maildir_drop.specs.Names.{is_name}

@@ -14,8 +14,9 @@ use Rattle.call_fs.specs.declared.past.NeedData.TheVariants as needs
 use Rattle.call_fs.specs.declared.past.Own.{Own}
 use Rattle.call_fs.specs.declared.program.Port.TheVariants as port
 use Rattle.call_fs.specs.declared.program.Ready.{Ready}
-use Rattle.local_steps.specs.declared.arguments.LocalArgs.{LocalArgs}
+use Rattle.local_parts.specs.declared.arguments.LocalArgs.{LocalArgs}
 use Rattle.local_deliver.specs.Table.{Next}
+use Rattle.mail_bytes.specs.Texts.{line}
 
 abbrev pub nothing : Ready
 nothing = record { links = false ∷ (false ∷ (false ∷ (false ∷ []))); child = None }
@@ -46,10 +47,6 @@ to_j = record {
   uid = 1000;
   pid = 82;
 }
-
--- a line
-abbrev pub line : List ℕ → List ℕ
-line text = text ++ 10 ∷ []
 
 abbrev pub not_there : GotData
 not_there = told (answer.Refused why.NotThere)

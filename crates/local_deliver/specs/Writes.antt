@@ -4,15 +4,15 @@ use Rattle.call_fs.specs.declared.past.Own.{Own}
 use Rattle.call_fs.specs.Disk.{Disk}
 use Rattle.dot_qmail.specs.declared.line.Line.{Line}
 use Rattle.dot_qmail.specs.declared.line.Line.TheVariants.{Maildir}
-use Rattle.local_steps.specs.declared.arguments.LocalArgs.{LocalArgs}
-use Rattle.local_steps.specs.Inputs.{message_in}
+use Rattle.local_parts.specs.declared.arguments.LocalArgs.{LocalArgs}
+use Rattle.local_parts.specs.Inputs.{message_in}
 use Rattle.maildir_drop.specs.Names.{names_of}
 use Rattle.maildir_drop.specs.Rests.{RestsOn}
 use Rattle.local_deliver.specs.declared.place.Place.{Place}
 use Rattle.local_deliver.specs.declared.row.Row.{Row}
 use Rattle.local_deliver.specs.declared.row.Row.TheVariants as at
 use Rattle.local_deliver.specs.Carried.{instructions}
-use Rattle.local_deliver.specs.Deeds.{taken}
+use Rattle.call_fs.specs.Past.{taken}
 use Rattle.local_deliver.specs.Drops.{Drop, drop_arguments}
 use Rattle.local_deliver.specs.Table.{place_after}
 

@@ -6,7 +6,7 @@ ghost use Rattle.local_deliver.specs.DropInside.{told_end};
 
 use call_fs::{Got, Need};
 use dot_qmail::path_in;
-use local_steps::{Blocks, LocalArgs, maildir_blocks};
+use local_parts::{Blocks, LocalArgs, maildir_blocks};
 use mail_bytes::Memory;
 use maildir_drop::{End, MaildirDrop};
 use std::alloc::Global;
@@ -29,7 +29,7 @@ impl Model for Dropping {
 }
 
 impl Dropping {
-    /// The drop of the message into the maildir of this path, made at this moment.
+    /// The drop of the message into the maildir of this path, made at this moment. The error: out of memory.
     pub fn new(
         alloc: Global,
         args: &LocalArgs,

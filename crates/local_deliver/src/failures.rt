@@ -3,7 +3,7 @@ ghost use Rattle.std.specs.Prelude.{◌≡◌};
 ghost use Rattle.local_deliver.specs.Failures.{status_of, text_of};
 
 use crate::Failure;
-use local_steps::{PERMANENT, TEMPORARY};
+use local_parts::{PERMANENT, TEMPORARY};
 
 /// What is printed of a failure.
 pub fn text_of(failure: Failure) -> &'static [u8]

@@ -2,13 +2,13 @@
 ghost use Rattle.std.specs.Prelude.{◌≡◌, OnOk, OnErr, IfOk};
 ghost use Rattle.local_deliver.specs.Drops.{end_drop};
 ghost use Rattle.local_deliver.specs.Table.{begins_lines, by_default, drops_by, fails, goes_on, last_step, line_done, lines_done, reports, step_of, takes};
-ghost use Rattle.local_steps.specs.Course.{lines_of, work_data};
-ghost use Rattle.local_steps.specs.Forwarding.{injection_of};
+ghost use Rattle.local_parts.specs.Course.{lines_of, work_data};
+ghost use Rattle.local_parts.specs.Forwarding.{injection_of};
 
 use crate::step::Step;
 use crate::{Dropping, Failure, Place, Row};
 use dot_qmail::Line;
-use local_steps::{Course, LocalArgs, Work, default_course, did_report, injection_of};
+use local_parts::{Course, LocalArgs, Work, default_course, did_report, injection_of};
 use mail_bytes::{ByteText, Memory};
 use queue_limits::DONE;
 use std::alloc::Global;
@@ -93,7 +93,7 @@ fn begins_drop(place: &mut Place, drop: Dropping)
     }
 }
 
-/// Begins with instructions; without any, the first line was blank.
+/// Begins with instructions; without any, the first line was blank. The error: out of memory.
 pub fn begins_lines(
     place: &mut Place,
     alloc: Global,
@@ -128,7 +128,7 @@ pub fn by_default(
     begins_lines(place, alloc, args, now, course)
 }
 
-/// The line at work was done.
+/// The line at work was done. The error: out of memory.
 pub fn line_done(place: &mut Place, alloc: Global, args: &LocalArgs, now: u64) -> Result<(), Memory>
     ensures ok { OnOk result (place.new ≡ line_done args.now now place.old) }
     ensures err { OnErr result (place.new ≡ place.old) }
@@ -140,7 +140,7 @@ pub fn line_done(place: &mut Place, alloc: Global, args: &LocalArgs, now: u64) -
     Ok(())
 }
 
-/// The line at work was a command that has the later lines passed over.
+/// The line at work was a command that has the later lines passed over. The error: out of memory.
 pub fn lines_done(
     place: &mut Place,
     alloc: Global,

@@ -3,7 +3,7 @@ ghost use Rattle.std.specs.Prelude.{◌≡◌, ◌∷◌, [], List, ℕ, IfOk, O
 ghost use Rattle.call_fs.specs.Program.{due_of, came_of, IsKind};
 ghost use Rattle.call_fs.specs.declared.past.Own.{Own};
 ghost use Rattle.mail_bytes.specs.Moments.{IsMoment};
-ghost use Rattle.local_steps.specs.declared.arguments.LocalArgs.{LocalArgs as Words};
+ghost use Rattle.local_parts.specs.declared.arguments.LocalArgs.{LocalArgs as Words};
 ghost use Rattle.local_deliver.specs.Stands.{Stands, due_now, gone_on};
 ghost use Rattle.local_deliver.specs.Table.{Next, act, begun, due_at, due_by_drop, due_of_place, file_wanted};
 
@@ -11,16 +11,10 @@ use crate::failures::{status_of, text_of};
 use crate::reading::{closed, named_with, opened_with, read_with};
 use crate::steps::{dropped, fed, gave, injected, ran, started, took};
 use crate::{Dropping, Place, Row, Wanted};
-use call_fs::{Call, Child, Got, How, Machine, Need, PIECE, Port, Ready};
-use local_steps::{Blocks, Course, LocalArgs, Names};
+use call_fs::{Call, Child, Got, How, Machine, Need, PIECE, Port, Ready, UNREADY};
+use local_parts::{Blocks, Course, LocalArgs, Names};
 use mail_bytes::{ByteText, Memory};
 use std::alloc::Global;
-
-/// Nothing is ready.
-const UNREADY: Ready = Ready {
-    links: [false; 4],
-    child: None,
-};
 
 /// One local delivery (qmail-local(8)), as a machine. It takes its message as a netstring, to the end of its input; reads
 /// control/me, the names of the home and the instructions; follows these line by line; and at last injects the message
@@ -190,7 +184,7 @@ impl Machine for Local {
     ghost use Rattle.call_fs.specs.declared.past.Own.{Own};
     ghost use Rattle.call_fs.specs.declared.program.Ready.{Ready as Found};
     ghost use Rattle.call_fs.specs.Past.{IsRunBy, UsesHeld, held};
-    ghost use Rattle.local_steps.specs.declared.arguments.LocalArgs.{LocalArgs as Words};
+    ghost use Rattle.local_parts.specs.declared.arguments.LocalArgs.{LocalArgs as Words};
     ghost use Rattle.local_deliver.specs.Stands.{Stands, due_now, gone_on};
     ghost use Rattle.local_deliver.specs.Table.{Next};
 

@@ -1,7 +1,7 @@
 // What a local delivery keeps.
 
 use crate::{Dropping, Row};
-use local_steps::{Blocks, Course, Names};
+use local_parts::{Blocks, Course, Names};
 use mail_bytes::ByteText;
 
 /// What a local delivery keeps: where it stands, and what its steps need.

@@ -8,7 +8,7 @@ use crate::lines::{begins_lines, by_default, fails};
 use crate::{Failure, Place, Reading, Row, Wanted};
 use call_fs::{Answer, Fd, FsError, Got, PIECE};
 use dot_qmail::Chosen;
-use local_steps::{LocalArgs, chosen_by, course_of, delivered_to, file_name, host_in, is_looping};
+use local_parts::{LocalArgs, chosen_by, course_of, delivered_to, file_name, host_in, is_looping};
 use mail_bytes::{ByteText, Memory};
 use maildir_drop::is_name;
 use queue_limits::MEMORY;
@@ -21,7 +21,7 @@ pub fn ends(place: &mut Place, status: u8)
     place.row = Row::Ended { status };
 }
 
-/// After the open of a file.
+/// After the open of a file. The error: out of memory.
 pub fn opened_with(
     place: &mut Place,
     alloc: Global,
@@ -78,7 +78,7 @@ fn missing(place: &mut Place, alloc: Global, args: &LocalArgs, wanted: Wanted) -
     }
 }
 
-/// After a read of a file.
+/// After a read of a file. The error: out of memory.
 pub fn read_with(place: &mut Place, wanted: Wanted, fd: Fd, got: &Got<'_>) -> Result<(), Memory>
     ensures ok { OnOk result (place.new ≡ read_with wanted fd (came_of got.now) place.old) }
     ensures err { OnErr result (place.new ≡ place.old) }
@@ -136,7 +136,7 @@ fn read_row(wanted: Wanted, fd: Fd, bytes: &[u8]) -> Row
     }
 }
 
-/// After the close of a file.
+/// After the close of a file. The error: out of memory.
 pub fn closed(
     place: &mut Place,
     alloc: Global,
@@ -233,7 +233,7 @@ fn looks(place: &mut Place, args: &LocalArgs)
     }
 }
 
-/// After a search for the next name of the home.
+/// After a search for the next name of the home. The error: out of memory.
 pub fn named_with(
     place: &mut Place,
     alloc: Global,

@@ -1,7 +1,7 @@
 // What a line, or the end of the lines, leads to.
 
 use crate::{Dropping, Failure};
-use local_steps::Injection;
+use local_parts::Injection;
 use mail_bytes::ByteText;
 
 /// What a line of the instructions, or their end, leads to.

@@ -3,14 +3,14 @@ ghost use Rattle.std.specs.Prelude.{◌≡◌, false, None, OnOk, OnErr, ℕ};
 ghost use Rattle.call_fs.specs.Program.{came_of, IsKind};
 ghost use Rattle.local_deliver.specs.Drops.{end_drop};
 ghost use Rattle.local_deliver.specs.DropAfter.{after_of, is_answer, is_made, went};
-ghost use Rattle.local_steps.specs.declared.arguments.LocalArgs.{LocalArgs as Words};
+ghost use Rattle.local_parts.specs.declared.arguments.LocalArgs.{LocalArgs as Words};
 ghost use Rattle.local_deliver.specs.Table.{command_failed, due_by_drop, dropped, exited, fed, forward_failed, forwarded, gave, injected, injected_with, input_ended, line_done, ran, started, took};
 
 use crate::lines::{fails, line_done, lines_done, reports};
 use crate::reading::ends;
 use crate::{Dropping, Failure, Place, Row, Wanted};
 use call_fs::Got;
-use local_steps::{
+use local_parts::{
     Blocks, LocalArgs, TEMPORARY, command_report, command_status, forward_report, forward_status,
     forwarded_report, message_in,
 };
@@ -19,7 +19,7 @@ use maildir_drop::End;
 use queue_limits::{DONE, MEMORY};
 use std::alloc::Global;
 
-/// After a taking of the input.
+/// After a taking of the input. The error: out of memory.
 pub fn took(place: &mut Place, alloc: Global, got: &Got<'_>) -> Result<(), Memory>
     ensures ok { OnOk result (place.new ≡ took (came_of got.now) place.old) }
     ensures err { OnErr result (place.new ≡ place.old) }
@@ -53,7 +53,7 @@ fn input_ended(place: &mut Place, message: Option<Blocks>)
     }
 }
 
-/// After a step of the drop. The condition: what came is of the kind of its need.
+/// After a step of the drop. The condition: what came is of the kind of its need. The error: out of memory.
 pub fn dropped(
     place: &mut Place,
     alloc: Global,
@@ -154,7 +154,7 @@ fn drop_made(place: &mut Place, alloc: Global, args: &LocalArgs, now: u64) -> Re
     made
 }
 
-/// After a command.
+/// After a command. The error: out of memory.
 pub fn ran(
     place: &mut Place,
     alloc: Global,
@@ -203,7 +203,7 @@ fn command_failed(place: &mut Place, alloc: Global, code: u8) -> Result<(), Memo
     Ok(())
 }
 
-/// After the start of the injector.
+/// After the start of the injector. The error: out of memory.
 pub fn started(place: &mut Place, alloc: Global, got: &Got<'_>) -> Result<(), Memory>
     ensures ok { OnOk result (place.new ≡ started (came_of got.now) place.old) }
     ensures err { OnErr result (place.new ≡ place.old) }
@@ -242,7 +242,7 @@ pub fn fed(place: &mut Place, got: &Got<'_>)
     }
 }
 
-/// After the taking of the injector's status.
+/// After the taking of the injector's status. The error: out of memory.
 pub fn injected(place: &mut Place, alloc: Global, got: &Got<'_>) -> Result<(), Memory>
     ensures ok { OnOk result (place.new ≡ injected (came_of got.now) place.old) }
     ensures err { OnErr result (place.new ≡ place.old) }

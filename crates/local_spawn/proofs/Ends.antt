@@ -10,13 +10,13 @@ use Rattle.call_fs.specs.declared.past.NeedData.TheVariants as needs
 use Rattle.call_fs.specs.declared.past.Own.{Own}
 use Rattle.call_fs.specs.declared.program.Port.TheVariants as port
 use Rattle.call_fs.specs.declared.program.Ready.{Ready}
-use Rattle.call_fs.specs.Past.{IsRunBy}
+use Rattle.call_fs.specs.Past.{IsRunBy, taken}
 use Rattle.spawn_protocol.specs.Request.{HasRead, Reader}
 use Rattle.spawn_protocol.specs.declared.request.Request.{Request}
 use Rattle.spawner_parts.specs.declared.place.Place.{Place as Work}
 use Rattle.spawner_parts.specs.declared.row.Row.{Row as WorkRow}
 use Rattle.spawner_parts.specs.declared.row.Row.TheVariants as work_at
-use Rattle.spawner_parts.specs.Causes.{EndsWith, IsOver, taken}
+use Rattle.spawner_parts.specs.Causes.{EndsWith, IsOver}
 use Rattle.spawner_parts.specs.Causes.EndsWith.{GiveFailed, RequestsFailed, ProgramFailed}
 use Rattle.spawner_parts.specs.Counts.{IsAtRest, IsSettled, asked, dealt_with}
 use Rattle.spawner_parts.specs.Known.{Tells, last_read}
@@ -35,7 +35,8 @@ use Rattle.local_spawn.specs.Causes.{HasEnded, HasFailed, IsStarved, Starves}
 use Rattle.local_spawn.specs.Causes.HasEnded.{AsAny as ended_as_any, InItsStart as ended_in_start}
 use Rattle.local_spawn.specs.Causes.HasFailed.{AsAny as failed_as_any, InItsStart as failed_in_start}
 use Rattle.local_spawn.specs.Causes.Starves.{OpenRefused}
-use Rattle.local_spawn.specs.Deliveries.{delivery_for, netstring}
+use Rattle.local_spawn.specs.Deliveries.{delivery_for}
+use Rattle.mail_bytes.specs.Netstring.{netstring}
 use Rattle.local_spawn.specs.Starts.{IsDeliveryOfOne}
 use Rattle.local_spawn.specs.Table.{Next, act, begun, due_at, due_by, due_from, local_kind, place_after, program_of, users_name}
 use Rattle.local_spawn.proofs.DeliveryLemmas.{delivery_is}

@@ -15,7 +15,7 @@ use Rattle.call_fs.specs.declared.modes.Mode.{Mode}
 use Rattle.call_fs.specs.Past.{IsRunBy, held, held_by, held_after, UsesHeld}
 use Rattle.call_fs.specs.Program.{MayCome}
 use Rattle.call_fs.proofs.Maps.{put_same}
-use Rattle.spawner_parts.proofs.Coming.{by_fit}
+use Rattle.call_fs.proofs.Coming.{by_fit}
 use Rattle.spawner_parts.proofs.Holds.{uses as uses_at}
 use Rattle.local_spawn.specs.declared.place.Place.{Place}
 use Rattle.local_spawn.specs.declared.row.Row.{Row}

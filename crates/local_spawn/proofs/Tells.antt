@@ -25,7 +25,7 @@ use Rattle.spawner_parts.specs.Table.{IsKind, IsNoStart, IsReadied}
 use Rattle.spawner_parts.specs.Table.IsReadied.{IsAnswered, IsGiven}
 use Rattle.spawner_parts.proofs.Agree.{begins, goes_on, waits}
 use Rattle.spawner_parts.proofs.Carried.{carried}
-use Rattle.spawner_parts.proofs.Coming.{by_fit}
+use Rattle.call_fs.proofs.Coming.{by_fit}
 use Rattle.spawner_parts.proofs.Rows.{no_start}
 use Rattle.local_spawn.specs.declared.assign.Assignment.{Assignment}
 use Rattle.local_spawn.specs.declared.delivery.Delivery.{Delivery}
@@ -34,7 +34,8 @@ use Rattle.local_spawn.specs.declared.row.Row.{Row}
 use Rattle.local_spawn.specs.declared.row.Row.TheVariants as at
 use Rattle.local_spawn.specs.Causes.{IsStarved, Starves}
 use Rattle.local_spawn.specs.Causes.Starves.{OpenRefused}
-use Rattle.local_spawn.specs.Deliveries.{delivery_for, netstring, refusal}
+use Rattle.local_spawn.specs.Deliveries.{delivery_for, refusal}
+use Rattle.mail_bytes.specs.Netstring.{netstring}
 use Rattle.local_spawn.specs.Starts.{HasUsers, either, has_greeted, is_give, is_missing, missing_by, more_text, text_by, users_text}
 use Rattle.local_spawn.specs.Starts.HasUsers.{NoFile, FileRead}
 use Rattle.local_spawn.specs.Table.{Next, act, delivery_after, due_at, due_from, local_kind, place_after, program_of, readied_by, served, serves, users_closed, users_name, users_opened, users_opened_by, users_read, users_read_by}

@@ -1,8 +1,7 @@
 -- The delivery of a request (qmail-lspawn(8), qmail-local(8)): for which user, with which words, what it is given, and the report of
 -- its end.
-use Rattle.std.specs.Prelude.{ℕ, ◌+◌, ◌-◌, List, [], ◌∷◌, ◌++◌, length, take, drop, Option, Some, None, ◌==◌, slice_get, codes}
+use Rattle.std.specs.Prelude.{ℕ, ◌+◌, ◌-◌, List, ◌∷◌, ◌++◌, length, take, drop, Option, Some, None, ◌==◌, slice_get, codes}
 use Rattle.std.specs.List.{before_first}
-use Rattle.mail_bytes.specs.Netstring.{head}
 use Rattle.outside.specs.declared.spawner.Status.{Status}
 use Rattle.outside.specs.declared.spawner.Status.TheVariants.{Ended, Crashed, Failed}
 use Rattle.spawn_protocol.specs.declared.request.Request.{Request}
@@ -12,6 +11,7 @@ use Rattle.local_spawn.specs.declared.delivery.Delivery.{Delivery}
 use Rattle.local_spawn.specs.declared.finding.Found.{Found}
 use Rattle.local_spawn.specs.Letters.{letter_of}
 use Rattle.local_spawn.specs.Users.{found_in}
+use Rattle.mail_bytes.specs.Texts.{line}
 
 -- what comes before the last `@` of an address that has one
 abbrev pub local_of : List ℕ → List ℕ
@@ -50,9 +50,6 @@ abbrev pub delivery_for : Option (List Assignment) → Request → Option Delive
 delivery_for None r = None
 delivery_for (Some lines) r = delivery_of lines r (found_in lines (local_of r.recipient))
 
-abbrev pub line : List ℕ → List ℕ
-line text = text ++ 10 ∷ []
-
 abbrev pub no_mailbox : List ℕ
 no_mailbox = line (codes "DSorry, no mailbox here by that name. (#5.1.1)")
 
@@ -63,10 +60,6 @@ trouble = line (codes "ZTrouble reading users/assign. (#4.3.0)")
 abbrev pub refusal : Option (List Assignment) → List ℕ
 refusal None = trouble
 refusal (Some lines) = no_mailbox
-
--- `5:hello,` is the netstring of `hello`
-abbrev pub netstring : List ℕ → List ℕ
-netstring bytes = head (length bytes) ++ (bytes ++ 44 ∷ [])
 
 abbrev pub crashed : List ℕ
 crashed = line (codes "Zqmail-local crashed.")

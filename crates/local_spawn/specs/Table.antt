@@ -27,7 +27,8 @@ use Rattle.local_spawn.specs.declared.delivery.Delivery.{Delivery}
 use Rattle.local_spawn.specs.declared.place.Place.{Place}
 use Rattle.local_spawn.specs.declared.row.Row.{Row}
 use Rattle.local_spawn.specs.declared.row.Row.TheVariants as at
-use Rattle.local_spawn.specs.Deliveries.{crashed, delivery_for, local_report, netstring, refusal}
+use Rattle.local_spawn.specs.Deliveries.{crashed, delivery_for, local_report, refusal}
+use Rattle.mail_bytes.specs.Netstring.{netstring}
 use Rattle.local_spawn.specs.Users.{users_in}
 
 abbrev pub no_delivery : Delivery

@@ -15,6 +15,7 @@ use Rattle.call_fs.specs.declared.past.Own.{Own}
 use Rattle.call_fs.specs.declared.program.Port.TheVariants as port
 use Rattle.call_fs.specs.declared.program.Ready.{Ready}
 use Rattle.local_spawn.specs.Table.{Next}
+use Rattle.mail_bytes.specs.Texts.{line}
 
 -- requests are ready or not, and this delivery has ended
 abbrev pub found : Bool → Option ℕ → Ready
@@ -55,9 +56,6 @@ users = needs.File (call.Open (codes "users/assign") how.Read)
 -- a report is its slot, its letter and text, and NUL; `line` ends with a newline
 abbrev pub reports : ℕ → List ℕ → NeedData
 reports slot text = needs.Give port.Output (slot ∷ field text)
-
-abbrev pub line : List ℕ → List ℕ
-line text = text ++ 10 ∷ []
 
 -- The line `+j-:joe:507:50:/home/joe:-:x-:` is for `J-b`, and the extension is `x-b`. What the delivery prints counts up to its NUL.
 abbrev pub delivery : List (Ready × GotData)

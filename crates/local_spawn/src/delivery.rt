@@ -1,7 +1,8 @@
 // The delivery of a request.
 ghost use Rattle.std.specs.Prelude.{◌≡◌, ◌==◌, drop, IfOk};
 ghost use Rattle.std.specs.List.{before_first, position};
-ghost use Rattle.local_spawn.specs.Deliveries.{default_line, delivery_by, delivery_for, delivery_of, local_of, local_report, netstring};
+ghost use Rattle.local_spawn.specs.Deliveries.{default_line, delivery_by, delivery_for, delivery_of, local_of, local_report};
+ghost use Rattle.mail_bytes.specs.Netstring.{netstring};
 
 use crate::assign::{Assign, Assignment};
 use crate::finding::{Found, find};

@@ -11,18 +11,12 @@ use crate::place::Place;
 use crate::row::Row;
 use crate::steps::{served, users_closed, users_opened, users_read};
 use call_fs::{
-    Call, Child, DeliveryWords, DeliveryWordsData, Got, How, Machine, Need, PIECE, Ready,
+    Call, Child, DeliveryWords, DeliveryWordsData, Got, How, Machine, Need, PIECE, Ready, UNREADY,
 };
 use mail_bytes::{ByteText, Memory};
 use queue_limits::MEMORY;
 use spawner_parts::{Row as WorkRow, begun as begun_work, need_at as need_of_work, row_now};
 use std::alloc::Global;
-
-/// Nothing is ready.
-const UNREADY: Ready = Ready {
-    links: [false; 4],
-    child: None,
-};
 
 /// The file of the users.
 const USERS: &[u8] = b"users/assign";

@@ -48,7 +48,7 @@ pub fn users_opened(place: &mut Place, alloc: Global, got: &Got<'_>)
     }
 }
 
-/// After a read of it.
+/// After a read of it. The error: out of memory.
 pub fn users_read(place: &mut Place, fd: Fd, got: &Got<'_>) -> Result<(), Memory>
     ensures ok { OnOk result (place.new ≡ users_read fd (came_of got.now) place.old) }
     ensures err { OnErr result (place.new ≡ place.old) }
@@ -74,7 +74,7 @@ fn users_row(fd: Fd, bytes: &[u8]) -> Row
     }
 }
 
-/// After its close.
+/// After its close. The error: out of memory.
 pub fn users_closed(place: &mut Place, alloc: Global, whole: bool) -> Result<(), Memory>
     ensures ok { OnOk result (place.new ≡ users_closed whole place.old) }
     ensures err { OnErr result (place.new ≡ place.old) }
@@ -100,7 +100,7 @@ fn users_in(alloc: Global, text: &[u8]) -> Result<Option<Assign>, Memory>
     }
 }
 
-/// After what came at a row of its work.
+/// After what came at a row of its work. The error: out of memory.
 pub fn served(place: &mut Place, alloc: Global, row: WorkRow, got: &Got<'_>) -> Result<(), Memory>
     ensures ok { OnOk result (place.new ≡ served row (came_of got.now) place.old) }
     ensures err { OnErr result (place.new ≡ place.old) }

@@ -148,7 +148,7 @@ there_after s (Child parent own o program) there a d b is gone =
 there_after s (Generation sender clean lspawn rspawn) there a d b is gone =
     there a d b (runs_if (is_member a) None (s.pipework.programs a d) b (no_tenant b) is)
     (none_put _ (codes "sender") (newborn sender) b (none_put _ (codes "clean") (newborn clean) b (none_put _ (codes "lspawn") (newborn lspawn) b (none_put _ (codes "rspawn") (newborn rspawn) b gone))))
-there_after s (Report slot letter text) there a d b is gone =
+there_after s (Report slot output) there a d b is gone =
     there a d b (runs_if (bytes_eq a (codes "rspawn") && (d == slot)) (Some (Remote true)) (s.pipework.programs a d) b (remote_tenant true b) is) gone
 there_after s (End o read ready status) there a d b is gone =
     there a d b (finished_runs s o (Over status) (s.actors o) a d b is) (finished_none s o (Over status) (s.actors o) b gone)
@@ -439,8 +439,8 @@ module _ (parent c : List ℕ) (p q : Program) (same : IsSameButInput p q) where
           λ a d there. only a d (runs_if (is_member a) None (s.pipework.programs a d) c (no_tenant c) there),
         )
 
-    report_goes : (slot letter : ℕ) (text : List ℕ) → MayReport s slot → Goes (Report slot letter text)
-    report_goes slot letter text h = (
+    report_goes : (slot : ℕ) (output : List ℕ) → MayReport s slot → Goes (Report slot output)
+    report_goes slot output h = (
       record { lives = living (codes "rspawn") h.lives; runs = h.runs },
       record { disk = refl; holder = refl; now = refl; books = refl; pipework = refl; others = others; life = life; was = was; is = is },
       λ a d there. only a d (runs_if (bytes_eq a (codes "rspawn") && (d == slot)) (Some (Remote true)) (s.pipework.programs a d) c (remote_tenant true c) there),
@@ -461,7 +461,7 @@ module _ (parent c : List ℕ) (p q : Program) (same : IsSameButInput p q) where
     event_goes (Act a own wrote) apart h = act_goes a own wrote apart.0 apart.1 h
     event_goes (Child a own b program) apart h = child_goes a own b program apart.0 apart.1 h
     event_goes (Generation sender clean lspawn rspawn) apart h = generation_goes sender clean lspawn rspawn h
-    event_goes (Report slot letter text) apart h = report_goes slot letter text h
+    event_goes (Report slot output) apart h = report_goes slot output h
     event_goes (End a read ready status) apart h = end_goes a read ready status apart h
     event_goes (Stop a) apart h = stop_goes a h
     event_goes (Moment n) apart h = (record { moment = h.moment; no_earlier = h.no_earlier }, record { disk = refl; holder = refl; now = refl; books = refl; pipework = refl; others = others; life = life; was = was; is = is }, only)

@@ -29,7 +29,7 @@ use Rattle.mail_world.specs.declared.actor.Actor.{Actor as Held}
 use Rattle.mail_world.specs.declared.any_machine.AnyMachine.{AnyMachine}
 use Rattle.mail_world.specs.declared.any_machine.AnyMachine.TheVariants.{Mail, Clean, Send, Local, Deliver, Remote as RemoteSpawns}
 use Rattle.mail_world.specs.ByKind.{IsMail, Follows, Mails, CanFind, awaits_of, need_of}
-use Rattle.mail_world.specs.History.{Actor, Life, State, acted, finished, happens, next_of, report_text}
+use Rattle.mail_world.specs.History.{Actor, Life, State, acted, finished, happens, next_of}
 use Rattle.mail_world.specs.History.Event.{Report}
 use Rattle.mail_world.specs.Inside.{Owes}
 use Rattle.mail_world.specs.Readiness.{input_alone, is_awaiting, found_by}
@@ -198,10 +198,10 @@ module _ (s : State) (x : Actor) (life : Life) (a b : List ℕ) where
       (whether (is_awaiting (finished s a life (Some x)) b))
 
 -- The report of a remote program
-pub report_awaits : (s : State) (slot letter : ℕ) (text : List ℕ) (b : List ℕ) → is_awaiting (happens s (Report slot letter text)) b ≡ is_awaiting s b
-report_awaits s slot letter text b =
-    awaits_same s (happens s (Report slot letter text)) b refl
-    (port_not s.pipework.pipes (λ pipe. closed (given (report_text letter text) pipe)) b (codes "rspawn") (port.Program slot) refl)
+pub report_awaits : (s : State) (slot : ℕ) (output : List ℕ) (b : List ℕ) → is_awaiting (happens s (Report slot output)) b ≡ is_awaiting s b
+report_awaits s slot output b =
+    awaits_same s (happens s (Report slot output)) b refl
+    (port_not s.pipework.pipes (λ pipe. closed (given output pipe)) b (codes "rspawn") (port.Program slot) refl)
 
 -- Its machine
 

@@ -19,7 +19,7 @@ use Rattle.call_fs.specs.declared.past.Own.{Own}
 use Rattle.call_fs.specs.declared.program.Port.{Port}
 use Rattle.call_fs.specs.declared.program.Port.TheVariants as port
 use Rattle.actor_names.specs.ChildNames.{bounce_name, delivery_name, forward_of}
-use Rattle.local_steps.specs.Arguments.{local_args}
+use Rattle.local_parts.specs.Arguments.{local_args}
 use Rattle.world_events.specs.Inputs.{bounce, forward}
 use Rattle.world_events.specs.Children.{IsActor, counts_with, entry_after}
 use Rattle.world_events.specs.declared.books.Entry.{Entry}
@@ -33,7 +33,7 @@ use Rattle.mail_world.specs.declared.actor.Actor.{Actor as Held}
 use Rattle.mail_world.specs.declared.any_machine.AnyMachine.{AnyMachine}
 use Rattle.mail_world.specs.Books.{AreBooked, entry_by}
 use Rattle.mail_world.specs.ByKind.{injection_of, BearsIn, IsMail, Follows, awaits_of}
-use Rattle.crew_pipes.specs.Seating.{IsFreshOne, HasPipesFor, HasPlaceAfter}
+use Rattle.world_pipes.specs.Seating.{IsFreshOne, HasPipesFor, HasPlaceAfter}
 use Rattle.mail_world.specs.History.{Actor, State, IsDelivery, IsLocalSpawner, acted, bears, begins, newborn, next_of}
 use Rattle.mail_world.specs.History.Life.{Alive}
 use Rattle.mail_world.specs.Inside.{known, among_all, RunsAt, RunsBy, HasBorneLast, HasJustStarted, MayFeed, IsAwaited, IsBorne, IsUnwired, IsMember, IsStranger, HasOpen, IsOpenTo, IsWorld, ArePiped}
@@ -45,8 +45,8 @@ use Rattle.mail_world.specs.Children.{Begins, IsDueOfChild, IsMachineOf, IsStart
 use Rattle.mail_world.specs.Generations.{idled_by}
 use Rattle.mail_world.specs.World.{Counts, child_of, IsKeptStart, next_pid, starts_in, with_inputs}
 use Rattle.mail_world.specs.declared.world.Did.{Did}
-use Rattle.crew_pipes.proofs.Grows.{wired_grows, slots_grow, children_grow, over_grow}
-use Rattle.crew_pipes.proofs.Keeps.{slots_set, children_started, over_alike, over_started}
+use Rattle.world_pipes.proofs.Grows.{wired_grows, slots_grow, children_grow, over_grow}
+use Rattle.world_pipes.proofs.Keeps.{slots_set, children_started, over_alike, over_started}
 use Rattle.mail_world.proofs.Awaiting.{awaits_same}
 use Rattle.mail_world.proofs.Births.{born_parts, HasNames, IsNewChild, new_child, bounces_within, deliveries_within, count_then, unborn_then, undelivered_then, numbered_then}
 use Rattle.mail_world.proofs.Booked.{look_booked, child_booked, unentered_booked}

@@ -35,7 +35,7 @@ use Rattle.mail_world.proofs.Bounces.{bounce_begun, delivery_begun, forward_begu
 use Rattle.mail_world.proofs.Known.{known_push}
 use Rattle.mail_world.proofs.Leaving.{child_named}
 use Rattle.mail_world.proofs.Lists.{get_drop, some_at}
-use Rattle.crew_pipes.proofs.Renews.{wired_renews, slots_renew, children_renew, over_renew, renewed_ran}
+use Rattle.world_pipes.proofs.Renews.{wired_renews, slots_renew, children_renew, over_renew, renewed_ran}
 use Rattle.mail_world.proofs.Members.{whether, member_cases, four_other, four_sender, four_clean, four_lspawn, four_rspawn}
 use Rattle.mail_world.proofs.Seats.{HasSeat, seat_some, seat_none, no_seat, by_seat}
 use Rattle.mail_world.proofs.Spans.{span_push, span_stays}

@@ -15,7 +15,7 @@ use Rattle.call_fs.specs.declared.past.NeedData.TheVariants as needs
 use Rattle.call_fs.specs.declared.past.Own.{Own}
 use Rattle.call_fs.specs.declared.program.Ready.{Ready}
 use Rattle.local_deliver.specs.Deeds.{starts, starts_by}
-use Rattle.local_steps.specs.Arguments.{local_args}
+use Rattle.local_parts.specs.Arguments.{local_args}
 use Rattle.world_events.specs.Children.{counts_with}
 use Rattle.world_events.specs.Inputs.{bounce, forward}
 use Rattle.world_events.specs.declared.event.Event.{Event as Kept}

@@ -405,7 +405,7 @@ all_mailed d (k ∷ events) ((Generation sender clean lspawn rspawn) ∷ h) told
     (put_run of s.actors (codes "sender") (newborn sender) (all_mailed d events h told.1)
     (subst (of (codes "sender")) (sym are.sender_is) tt)) (subst (of (codes "clean")) (sym are.clean_is) tt))
     (subst (of (codes "lspawn")) (sym are.lspawn_is) tt)) (subst (of (codes "rspawn")) (sym are.rspawn_is) tt) a x is
-all_mailed d (k ∷ events) ((Report slot letter text) ∷ h) told a x is = all_mailed d events h told.1 a x is
+all_mailed d (k ∷ events) ((Report slot output) ∷ h) told a x is = all_mailed d events h told.1 a x is
 all_mailed d (k ∷ events) ((End b read ready status) ∷ h) told a x is =
     finished_run (IsMailed (mails_of h)) (after d h) b (Over status) ((after d h).actors b) refl (all_mailed d events h told.1) a x is
 all_mailed d (k ∷ events) ((Stop b) ∷ h) told a x is =
@@ -538,9 +538,9 @@ each_told d (k ∷ events) ((Act b own wrote) ∷ h) legal told q is =
     act_told d h b own wrote legal (all_mailed d events h told.1) (each_told d events h legal.0 told.1) q is
 each_told d (k ∷ events) ((Child parent own b program) ∷ h) legal told q is = absurd (bears_none d h parent own b program legal)
 each_told d (k ∷ events) ((Generation sender clean lspawn rspawn) ∷ h) legal told q is = absurd legal.1
-each_told d (k ∷ events) ((Report slot letter text) ∷ h) legal told q is =
+each_told d (k ∷ events) ((Report slot output) ∷ h) legal told q is =
     let s = after d h in
-    same_told h (Report slot letter text ∷ h) s s.books s.actors refl [] (sym (append-nil (mails_of h))) (λ a. refl) (λ a run. run) (each_told d events h legal.0 told.1) q is
+    same_told h (Report slot output ∷ h) s s.books s.actors refl [] (sym (append-nil (mails_of h))) (λ a. refl) (λ a run. run) (each_told d events h legal.0 told.1) q is
 each_told d (k ∷ events) ((End b read ready status) ∷ h) legal told q is =
     let s = after d h in
     same_told h (End b read ready status ∷ h) s (happens s (End b read ready status)).books (happens s (End b read ready status)).actors

@@ -10,7 +10,7 @@ use Rattle.call_fs.specs.declared.past.NeedData.TheVariants as needs
 use Rattle.call_fs.specs.declared.program.Port.{Port}
 use Rattle.call_fs.specs.declared.program.Port.TheVariants as port
 use Rattle.call_fs.specs.Program.{IsTaken, MayCome}
-use Rattle.mail_world.specs.History.{Life, State, ComesOf, IsStatusOf, TenantEnds}
+use Rattle.mail_world.specs.History.{Life, State, ComesOf, IsEnding, IsStatusOf, TenantEnds}
 use Rattle.mail_world.specs.History.Life.{Alive, Over, Stopped}
 use Rattle.mail_world.specs.Pipework.{Pipe, Tenant, Yields}
 use Rattle.mail_world.specs.Pipework.Tenant.{Runs, Remote}
@@ -32,10 +32,16 @@ life_taken d Alive came e = absurd e
 life_taken d (Over status) came e = subst (IsTaken (port.Status d)) (sym e) tt
 life_taken d Stopped came e = subst (IsTaken (port.Status d)) (sym e) tt
 
+-- a process that has ended
+ending_taken : (d : ℕ) (came : GotData) → IsEnding came → IsTaken (port.Status d) came
+ending_taken d (got.Ended status) e = tt
+ending_taken d got.Crashed e = tt
+ending_taken d other e = absurd e
+
 tenant_taken : (s : State) (d : ℕ) (o : Option Tenant) (came : GotData) → TenantEnds s o came → IsTaken (port.Status d) came
 tenant_taken s d None came e = absurd e
 tenant_taken s d (Some (Runs b)) came e = life_taken d e.0.life came e.2
-tenant_taken s d (Some (Remote true)) came e = subst (IsTaken (port.Status d)) (sym e) tt
+tenant_taken s d (Some (Remote true)) came e = ending_taken d came e
 tenant_taken s d (Some (Remote false)) came e = absurd e
 
 call_may : (s : State) (a : List ℕ) (c : CallData) (came : GotData) (wrote : ℕ) → ComesOf s a (needs.File c) came wrote → MayCome (needs.File c) came

@@ -26,17 +26,17 @@ use Rattle.world_events.specs.declared.event.Program.TheVariants.{Injector, Clea
 use Rattle.world_events.specs.Children.{IsActor}
 use Rattle.local_deliver.specs.Forwards.{HasStarted}
 use Rattle.local_deliver.specs.Deeds.{starts, told_names}
-use Rattle.local_steps.specs.Forwarding.{envelope, forward_sender, forwards}
-use Rattle.local_steps.specs.Texts.{forward_text}
+use Rattle.local_parts.specs.Forwarding.{envelope, forward_sender, forwards}
+use Rattle.local_parts.specs.Texts.{forward_text}
 use Rattle.local_deliver.proofs.Forwards.{single, given, next}
-use Rattle.local_steps.specs.declared.arguments.LocalArgs.{LocalArgs}
+use Rattle.local_parts.specs.declared.arguments.LocalArgs.{LocalArgs}
 use Rattle.mail_world.specs.ByKind.{BearsIn, IsMail}
 use Rattle.mail_world.specs.History.{IsDelivery, IsLocalSpawner, next_of}
 use Rattle.mail_world.specs.Inside.{IsBirth, RunsBy, HasBorneLast}
 use Rattle.mail_world.specs.Pipework.{slot_of}
 use Rattle.mail_world.specs.Wired.{MayRunIn}
 use Rattle.mail_world.proofs.Programs.{program_starts_none}
-use Rattle.mail_world.proofs.ReturnSteps.{IsGiving, birth_is, birth_gives, gives_texts, sender_asks}
+use Rattle.mail_world.proofs.ReturnGives.{IsGiving, birth_is, birth_gives, gives_texts, sender_asks}
 
 -- a program that starts injectors, each in its first slot, and feeds it next
 abbrev pub IsFeeder : Program → Type 0

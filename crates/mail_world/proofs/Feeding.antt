@@ -43,7 +43,7 @@ use Rattle.mail_world.proofs.Booked.{look_booked, entry_of_child, fed_booked}
 use Rattle.mail_world.proofs.Borne.{just_fed}
 use Rattle.mail_world.proofs.Crew.{apart_by, life_same}
 use Rattle.mail_world.proofs.Feeders.{IsFeeder, feeder_gives, no_mail_feeds, feeder_bears, bears_feeds}
-use Rattle.crew_pipes.proofs.Keeps.{over_alike}
+use Rattle.world_pipes.proofs.Keeps.{over_alike}
 use Rattle.mail_world.proofs.Histories.{LeadsOn, feed_told, led_still}
 use Rattle.mail_world.proofs.Known.{IsRefilled, known_fed, just_idle}
 use Rattle.mail_world.proofs.Fed.{borne_feeds, fed_mail}

@@ -41,7 +41,7 @@ use Rattle.mail_world.proofs.Borne.{feed_push}
 use Rattle.mail_world.proofs.Fed.{borne_feeds, fed_mail}
 use Rattle.mail_world.proofs.Piped.{borne_put, runs_put}
 use Rattle.mail_world.proofs.Crew.{apart_by, crew_acts}
-use Rattle.crew_pipes.proofs.Keeps.{StayIn, all_stay, slots_set, children_set, over_set, over_alike}
+use Rattle.world_pipes.proofs.Keeps.{StayIn, all_stay, slots_set, children_set, over_set, over_alike}
 use Rattle.mail_world.proofs.Histories.{LeadsOn, pass_told, led_still}
 use Rattle.mail_world.proofs.Known.{known_push}
 use Rattle.mail_world.proofs.Unwired.{put_away}

@@ -17,7 +17,7 @@ use Rattle.world_pipes.specs.Mouths.{pipe_of, tenant_kept, is_ended, ended_in, e
 use Rattle.world_pipes.specs.Pipework.{Pipe, Tenant, is_ready}
 use Rattle.world_pipes.specs.Pipework.Tenant.{Runs, Remote}
 use Rattle.mail_world.specs.History.{State}
-use Rattle.mail_world.specs.Readiness.{is_gone, has_ended, lowest_ended, input_alone, input_or_child, is_awaiting, found_by}
+use Rattle.mail_world.specs.Readiness.{is_gone, has_ended, lowest_ended, input_alone, only_child, input_or_child, is_awaiting, found_by}
 use Rattle.mail_world.specs.Wired.{IsOwnPort, AreWired, AreOver, slots_at, HaveSlots}
 use Rattle.mail_world.specs.Inside.{RunsBy}
 use Rattle.mail_world.specs.ByKind.{IsMail}
@@ -114,12 +114,18 @@ position_alike t u (x ∷ xs) same =
     ap (λ (b : Bool). if not b then 1 + prefix_len (λ d. not (t d)) xs else 0) (same x)
     ∙ ap (λ (n : ℕ). if not (u x) then 1 + n else 0) (position_alike t u xs same)
 
+-- the program in a slot of its own
+slot_found : (s : State) (wires : List ℕ → Option ℕ) (mouths : List Mouths) (a : List ℕ) (i : ℕ) (m : Mouths) → AreWired wires mouths s.pipework → AreOver (λ c. is_gone (s.actors c)) mouths
+    → wires a ≡ Some i → slice_get mouths i ≡ Some m → (d : ℕ) → has_ended s (s.pipework.programs a d) ≡ ended_of m d
+slot_found s wires mouths a i m wired over at is d =
+    ap (has_ended s) (own_tenant wires mouths s.pipework a i m wired at is d) ∙ by_slot s (slice_get m.slots.items d) (λ c runs. over i m d c is runs)
+
 lowest_found : (s : State) (wires : List ℕ → Option ℕ) (mouths : List Mouths) (a : List ℕ) (i : ℕ) (m : Mouths) (child : Option ℕ) → AreWired wires mouths s.pipework → HaveSlots mouths
     → AreOver (λ c. is_gone (s.actors c)) mouths → wires a ≡ Some i → slice_get mouths i ≡ Some m → IsLowest (ended_of m) 0 child → lowest_ended s a ≡ child
 lowest_found s wires mouths a i m child wired slots over at is low =
     ap (λ (p : ℕ). if nat_lt p (length (range_with_len 0 256)) then Some p else None)
     (position_alike (λ d. has_ended s (s.pipework.programs a d)) (ended_of m) (range_with_len 0 256)
-    (λ d. ap (has_ended s) (own_tenant wires mouths s.pipework a i m wired at is d) ∙ by_slot s (slice_get m.slots.items d) (λ c runs. over i m d c is runs)))
+    (slot_found s wires mouths a i m wired over at is))
     ∙ lowest_is (ended_of m) child
     (λ d yes.
     let slot = some_slot (slice_get m.slots.items d) yes in
@@ -164,7 +170,10 @@ found_is s wires mouths a (Some i) program awaits ready wired slots over at runs
 
     by_seat : (i : ℕ) (program : Program) → RunsBy (Some i) program → wires a ≡ Some i → slice_get mouths i ≡ Some m → FindsBy i m ready → ready ≡ found_by s a program
     by_seat zero (Sender start) runs at is finds =
-        finds ∙ ap (λ (l : List Bool). record { links = l; child = None })
+        let f : List Bool → Bool → Ready = λ l b. record { links = l; child = only_child b } in
+        finds
+        ∙ ap (f (is_ready (pipe_of m port.Clean) ∷ is_ready (pipe_of m port.Lspawn) ∷ is_ready (pipe_of m port.Rspawn) ∷ false ∷ [])) (sym (slot_found s wires mouths a zero m wired over at is 0))
+        ∙ ap (λ (l : List Bool). f l (has_ended s (s.pipework.programs a 0)))
         (three_links (pipe_of m port.Clean) (pipe_of m port.Lspawn) (pipe_of m port.Rspawn) (s.pipework.pipes a port.Clean) (s.pipework.pipes a port.Lspawn) (s.pipework.pipes a port.Rspawn)
         (pipe zero at is port.Clean (omega arith)) (pipe zero at is port.Lspawn (omega arith)) (pipe zero at is port.Rspawn (omega arith)))
     by_seat zero other runs at is finds = absurd runs

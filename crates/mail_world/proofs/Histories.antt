@@ -24,7 +24,7 @@ use Rattle.world_events.specs.Inputs.{with_texts, start_with, with_inputs}
 use Rattle.call_fs.specs.declared.past.Own.{Own}
 use Rattle.world_events.specs.declared.event.Event.{Event as Kept}
 use Rattle.world_events.specs.declared.event.Event.TheVariants as kept
-use Rattle.mail_world.specs.History.{Event, call_act, own_call, netstring, start_of, Actor, Life, State, next_of, acted, MayRun, MayFind, MayReport, Allowed, MayRead, ComesOf, IsFed, IsInputOf, IsProgramOf, happens, called, finished, shut_by, after, latest, Opening, EachAllowed, Legal}
+use Rattle.mail_world.specs.History.{Event, call_act, own_call, netstring, report_text, start_of, Actor, Life, State, next_of, acted, MayRun, MayFind, MayReport, Allowed, MayRead, ComesOf, IsFed, IsInputOf, IsProgramOf, happens, called, finished, shut_by, after, latest, Opening, EachAllowed, Legal}
 use Rattle.mail_world.specs.History.Event.{Start, Act, Child, Generation, Report, End, Stop, Moment, Halt}
 use Rattle.mail_world.specs.History.Life.{Alive}
 use Rattle.mail_world.specs.World.{Tells, begun_with, IsBefore, IsByName, AreByName, Leads, IsHistory}
@@ -279,14 +279,14 @@ report_goes_on : (o d : Disk) (events : List Kept) (p : ℕ) (h : List Event) (s
     → (e : Event) × Leads o d (events ++ kept.Report slot letter text ∷ []) p (e ∷ h)
 report_goes_on o d events p h slot letter text is whole may =
     let s = after o h in
-    let e : Event = Report slot letter text in
+    let e : Event = Report slot (report_text letter text) in
     let same = after_known o events h is.told in
     let pipes = known_pipework o events h is.told whole in
     let allowed : Allowed s e = record {
       lives = record { actor = may.lives.actor; is = ap (λ (m : List ℕ → Option Actor). m (codes "rspawn")) same.actors ∙ may.lives.is; alive = may.lives.alive };
       runs = ap (λ (w : Pipework). w.programs (codes "rspawn") slot) pipes ∙ may.runs;
     } in
-    let next = history_push o d events p h (kept.Report slot letter text) e tt is refl allowed tt in
+    let next = history_push o d events p h (kept.Report slot letter text) e tt is (letter, text, refl, refl) allowed tt in
     (e, record { allowed = next.allowed; told = next.told; named = next.named; disk = is.disk; moment = is.moment })
 
 halt_goes_on : (o d e : Disk) (events : List Kept) (p : ℕ) (h : List Event) (how : Survival) (halts : Halts how d e)
@@ -323,7 +323,7 @@ began_event c message envelope ks h k e is told began = by_event e is where
   by_event (Act a own wrote) is = subst (TellsBegun c message envelope ks h (Act a own wrote)) (sym is) (refl, began)
   by_event (Child parent own a program) is = subst (TellsBegun c message envelope ks h (Child parent own a program)) (sym is) (began_by_name c message envelope ks h parent own a program (bytes_eq a c) told began)
   by_event (Generation sender clean lspawn rspawn) is = subst (TellsBegun c message envelope ks h (Generation sender clean lspawn rspawn)) (sym is.1) ((is.0, refl, is.2), began)
-  by_event (Report slot letter text) is = subst (TellsBegun c message envelope ks h (Report slot letter text)) (sym is) (refl, began)
+  by_event (Report slot output) is = subst (TellsBegun c message envelope ks h (Report slot output)) (sym is.2) ((is.0, is.1, refl, is.3), began)
   by_event (End a read ready status) is = subst (TellsBegun c message envelope ks h (End a read ready status)) (sym is) (refl, began)
   by_event (Stop a) is = subst (TellsBegun c message envelope ks h (Stop a)) (sym is) (refl, began)
   by_event (Moment m) is = subst (TellsBegun c message envelope ks h (Moment m)) (sym is) (refl, began)
@@ -346,7 +346,7 @@ apart_event parent c message envelope k (Child a own b program) h is apart =
       ap (λ (t : Bool). if t then (Child a own b (with_texts message envelope program)) ∷ h else (Child a own b program ∷ begun_with c message envelope h)) (other_text b c far.2),
     )
 apart_event parent c message envelope k (Generation sender clean lspawn rspawn) h is apart = (tt, refl)
-apart_event parent c message envelope k (Report slot letter text) h is apart = (tt, refl)
+apart_event parent c message envelope k (Report slot output) h is apart = (tt, refl)
 apart_event parent c message envelope k (End a read ready status) h is apart = ((subst (IsApart parent c) is apart).1, refl)
 apart_event parent c message envelope k (Stop a) h is apart = (tt, refl)
 apart_event parent c message envelope k (Moment m) h is apart = (tt, refl)
@@ -376,7 +376,7 @@ begun_at parent own c program message envelope k (Child a other b runs) h here i
 begun_at parent own c program message envelope k (Start a runs) h here is = let no : kept.Child parent own c program ≡ kept.Start a runs = sym here ∙ is in absurd (cc)
 begun_at parent own c program message envelope k (Act a other wrote) h here is = let no : kept.Child parent own c program ≡ kept.Act a other = sym here ∙ is in absurd (cc)
 begun_at parent own c program message envelope k (Generation sender clean lspawn rspawn) h here is = let no : kept.Child parent own c program ≡ kept.Generation is.0 = sym here ∙ is.1 in absurd (cc)
-begun_at parent own c program message envelope k (Report slot letter text) h here is = let no : kept.Child parent own c program ≡ kept.Report slot letter text = sym here ∙ is in absurd (cc)
+begun_at parent own c program message envelope k (Report slot output) h here is = let no : kept.Child parent own c program ≡ kept.Report slot is.0 is.1 = sym here ∙ is.2 in absurd (cc)
 begun_at parent own c program message envelope k (End a read ready status) h here is = let no : kept.Child parent own c program ≡ kept.End a read ready status = sym here ∙ is in absurd (cc)
 begun_at parent own c program message envelope k (Stop a) h here is = let no : kept.Child parent own c program ≡ kept.Stop a = sym here ∙ is in absurd (cc)
 begun_at parent own c program message envelope k (Moment m) h here is = let no : kept.Child parent own c program ≡ kept.Moment m = sym here ∙ is in absurd (cc)

@@ -19,7 +19,7 @@ use Rattle.queue_paths.specs.Names.Part.{Intd, Todo}
 use Rattle.queue_paths.specs.Names.Name.{Pid, Of}
 use Rattle.world_events.specs.declared.event.Program.{Program}
 use Rattle.world_events.specs.declared.event.Program.TheVariants.{Injector}
-use Rattle.mail_world.specs.History.{Event, Life, Injection, Books, Actor, State, newborn, begins, report_text, next_of, own_call, acted, called, unless_by, shut_by, finished, stopped, happens, MayRun, MayRead, MayEnd, IsLiving, Opening, opening, after}
+use Rattle.mail_world.specs.History.{Event, Life, Injection, Books, Actor, State, newborn, begins, next_of, own_call, acted, called, unless_by, shut_by, finished, stopped, happens, MayRun, MayRead, MayEnd, IsLiving, Opening, opening, after}
 use Rattle.mail_world.specs.History.Event.{Start, Act, Child, Generation, Report, End, Stop, Moment, Halt}
 use Rattle.mail_world.specs.History.Life.{Alive, Over, Stopped}
 use Rattle.call_fs.proofs.Maps.{put_at_cases}
@@ -266,8 +266,8 @@ kept controls s (Act a own wrote) I h =
     record { inv = w.inv; rest = record { outside = λ _. w.outside; opens = w.opens; accepted = w.accepted; sorted = λ _. w.sorted } }
 kept controls s (Child parent own a program) I h = absurd (program_starts_none h.actor.program h.actor.past own.read own.ready h.asked (runs controls s I parent h.actor h.reads.is) (h.due ∙ h.starts))
 kept controls s (Generation sender clean lspawn rspawn) I h = absurd h
-kept controls s (Report slot letter text) I h =
-    keeps controls s (Report slot letter text) (kept_pipework controls s (with_report s.pipework slot (report_text letter text)) I) refl refl refl refl
+kept controls s (Report slot output) I h =
+    keeps controls s (Report slot output) (kept_pipework controls s (with_report s.pipework slot output) I) refl refl refl refl
 kept controls s (End a read ready status) I h =
     let w = kept_end controls s I a read ready status h in
     record { inv = w.inv; rest = record { outside = λ _. w.outside; opens = w.opens; accepted = w.accepted; sorted = λ _. w.sorted } }

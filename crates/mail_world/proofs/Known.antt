@@ -130,8 +130,8 @@ happens_alike s t k (Child parent own a program) told c =
 happens_alike s t k (Generation sender clean lspawn rspawn) told c =
     subst (λ (k : Kept). AreAlike (happens s (Generation sender clean lspawn rspawn)) (happens t (event_of k))) (sym told.1)
     (members_alike s t told.0 sender clean lspawn rspawn told.2 c)
-happens_alike s t k (Report slot letter text) told c =
-    subst (λ (k : Kept). AreAlike (happens s (Report slot letter text)) (happens t (event_of k))) (sym told) (record { holder = c.holder; now = c.now; actors = c.actors })
+happens_alike s t k (Report slot output) told c =
+    subst (λ (k : Kept). AreAlike (happens s (Report slot output)) (happens t (event_of k))) (sym told.2) (record { holder = c.holder; now = c.now; actors = c.actors })
 happens_alike s t k (End a read ready status) told c =
     subst (λ (k : Kept). AreAlike (happens s (End a read ready status)) (happens t (event_of k))) (sym told)
     (subst (λ (x : Option Actor). AreAlike (finished s a (Life.Over status) (s.actors a)) (finished t a (Life.Over status) x))
@@ -227,9 +227,9 @@ happens_pipework s t k (Child parent own a program) told whole c same =
     (ap (λ (m : List ℕ → Option Actor). m parent) c.actors) (acted_pipework s t parent own 0 0 (s.actors parent) gives same)))
 happens_pipework s t k (Generation sender clean lspawn rspawn) told whole c same =
     subst (λ (k : Kept). (happens s (Generation sender clean lspawn rspawn)).pipework ≡ (happens t (event_of k)).pipework) (sym told.1) (ap with_generation same)
-happens_pipework s t k (Report slot letter text) told whole c same =
-    subst (λ (k : Kept). (happens s (Report slot letter text)).pipework ≡ (happens t (event_of k)).pipework) (sym told)
-    (ap (λ (p : Pipework). with_report p slot (report_text letter text)) same)
+happens_pipework s t k (Report slot output) told whole c same =
+    subst (λ (k : Kept). (happens s (Report slot output)).pipework ≡ (happens t (event_of k)).pipework) (sym told.2)
+    (ap (λ (p : Pipework). with_report p slot output) same ∙ ap (λ (bytes : List ℕ). with_report t.pipework slot bytes) told.3)
 happens_pipework s t k (End a read ready status) told whole c same =
     subst (λ (k : Kept). (happens s (End a read ready status)).pipework ≡ (happens t (event_of k)).pipework) (sym told)
     (subst (λ (x : Option Actor). (finished s a (Life.Over status) (s.actors a)).pipework ≡ (finished t a (Life.Over status) x).pipework)

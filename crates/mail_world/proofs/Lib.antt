@@ -16,10 +16,10 @@ pub mod Waiting
 -- what kept events tell, whatever the disk is
 pub mod Known
 -- what an event changes of the pipes that are kept
-pub use Rattle.crew_pipes.proofs.Wires
-pub use Rattle.crew_pipes.proofs.Keeps
-pub use Rattle.crew_pipes.proofs.Feeds
-pub use Rattle.crew_pipes.proofs.Shuts
+pub use Rattle.world_pipes.proofs.Wires
+pub use Rattle.world_pipes.proofs.Keeps
+pub use Rattle.world_pipes.proofs.Feeds
+pub use Rattle.world_pipes.proofs.Shuts
 -- who was never started has no pipes
 pub mod Unwired
 pub mod Piped
@@ -51,7 +51,7 @@ pub mod Served
 -- a history goes on with one event more
 pub mod Histories
 -- lists of open descriptors
-pub use Rattle.open_files.proofs.Descriptors
+pub use Rattle.world_events.proofs.Descriptors
 -- what calls open and close
 pub mod Opens
 -- what machines stand for and need
@@ -59,7 +59,7 @@ pub mod Machines
 -- the life of an actor
 pub mod Spans
 -- lists by their places
-pub use Rattle.crew_pipes.proofs.Lists
+pub use Rattle.world_pipes.proofs.Lists
 -- of which kind those are that start injectors, and who was never started
 pub mod Fed
 pub mod Births
@@ -75,7 +75,7 @@ pub mod Acts
 pub mod Hands
 -- the names of members, and where they stand
 pub mod Members
-pub use Rattle.crew_pipes.proofs.Seats
+pub use Rattle.world_pipes.proofs.Seats
 -- who awaits its input
 pub mod Awaiting
 -- the child of an actor that is over
@@ -106,6 +106,8 @@ pub mod QueuedBooks
 pub mod Anew
 -- what a return does inside a sender: it starts an injector, gives it two texts, and takes its status
 pub mod ReturnSteps
+-- what a sender gives to the injector of a bounce, by its past
+pub mod ReturnGives
 -- who starts injectors, by its table
 pub mod Feeders
 -- what a world keeps of its actors, as it does for one of them what concerns a child

@@ -98,8 +98,8 @@ happens_started s k (Child parent own b program) a told =
 happens_started s k (Generation sender clean lspawn rspawn) a told =
     subst (λ (k : Kept). (is_some (s.actors a) || starts a k) ≡ is_some ((happens s (Generation sender clean lspawn rspawn)).actors a)) (sym told.1)
     (members_there s.actors sender clean lspawn rspawn a)
-happens_started s k (Report slot letter text) a told =
-    subst (λ (k : Kept). (is_some (s.actors a) || starts a k) ≡ is_some (s.actors a)) (sym told) (or-false (is_some (s.actors a)))
+happens_started s k (Report slot output) a told =
+    subst (λ (k : Kept). (is_some (s.actors a) || starts a k) ≡ is_some (s.actors a)) (sym told.2) (or-false (is_some (s.actors a)))
 happens_started s k (End b read ready status) a told =
     subst (λ (k : Kept). (is_some (s.actors a) || starts a k) ≡ is_some ((happens s (End b read ready status)).actors a)) (sym told)
     (or-false (is_some (s.actors a)) ∙ sym (finished_there s b (Over status) (s.actors b) a refl))
@@ -162,7 +162,7 @@ starts_alike k (Start a program) told = ap starts_in told
 starts_alike k (Act a own w) told = ap starts_in told
 starts_alike k (Child parent own a program) told = ap starts_in told
 starts_alike k (Generation sender clean lspawn rspawn) told = ap starts_in told.1
-starts_alike k (Report slot letter text) told = ap starts_in told
+starts_alike k (Report slot output) told = ap starts_in told.2
 starts_alike k (End a read ready status) told = ap starts_in told
 starts_alike k (Stop a) told = ap starts_in told
 starts_alike k (Moment m) told = ap starts_in told
@@ -308,8 +308,8 @@ happens_suits s n k (Generation sender clean lspawn rspawn) a span told allowed 
     (λ other. subst (Suits (span_after a (kept.Generation told.0) n span)) (sym (four_other s.actors sender clean lspawn rspawn a other))
     (suits_still a (kept.Generation told.0) n span (s.actors a) other refl was))
     (whether (is_member a)))
-happens_suits s n k (Report slot letter text) a span told allowed was =
-    subst (λ (k : Kept). Suits (span_after a k n span) (s.actors a)) (sym told) (suits_still a (kept.Report slot letter text) n span (s.actors a) refl refl was)
+happens_suits s n k (Report slot output) a span told allowed was =
+    subst (λ (k : Kept). Suits (span_after a k n span) (s.actors a)) (sym told.2) (suits_still a (kept.Report slot told.0 told.1) n span (s.actors a) refl refl was)
 happens_suits s n k (End b read ready status) a span told allowed was =
     let one : Kept = kept.End b read ready status in
     let is = allowed.reads.is in

@@ -6,7 +6,7 @@ use Rattle.world_events.specs.declared.event.Program.{Program}
 use Rattle.mail_world.specs.Pipework.{is_member}
 use Rattle.mail_world.specs.History.{Actor, newborn}
 -- their names
-pub use Rattle.crew_pipes.proofs.Members.{whether, other_than, IsOneOfFour, member_cases, member_contained, contained_member, mail_is_none, if_its}
+pub use Rattle.world_pipes.proofs.Members.{whether, other_than, IsOneOfFour, member_cases, member_contained, contained_member, mail_is_none, if_its}
 
 -- The four actors of a generation start
 

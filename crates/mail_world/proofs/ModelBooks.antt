@@ -245,8 +245,8 @@ mails_there d (k ∷ events) ((Generation sender clean lspawn rspawn) ∷ h) leg
     let s = after d h in
     all_there s (happens s (Generation sender clean lspawn rspawn)) (mails_of h)
     (λ a there. subst RunsAlone (sym (alone_four s sender clean lspawn rspawn a legal.1 there)) there) (mails_there d events h legal.0 told.1)
-mails_there d (k ∷ events) ((Report slot letter text) ∷ h) legal told =
-    all_there (after d h) (happens (after d h) (Report slot letter text)) (mails_of h) (λ a there. there) (mails_there d events h legal.0 told.1)
+mails_there d (k ∷ events) ((Report slot output) ∷ h) legal told =
+    all_there (after d h) (happens (after d h) (Report slot output)) (mails_of h) (λ a there. there) (mails_there d events h legal.0 told.1)
 mails_there d (k ∷ events) ((End b read ready status) ∷ h) legal told =
     let s = after d h in
     all_there s (happens s (End b read ready status)) (mails_of h) (λ a there. alone_finished s b (Over status) (s.actors b) a refl there) (mails_there d events h legal.0 told.1)
@@ -291,7 +291,7 @@ quiet d (k ∷ events) ((Generation sender clean lspawn rspawn) ∷ h) legal tol
     let s = after d h in
     quiet d events h legal.0 told.1 a
     (none_before (s.actors a) ((happens s (Generation sender clean lspawn rspawn)).actors a) (λ there. some_four s.actors sender clean lspawn rspawn a there) none)
-quiet d (k ∷ events) ((Report slot letter text) ∷ h) legal told a none = quiet d events h legal.0 told.1 a none
+quiet d (k ∷ events) ((Report slot output) ∷ h) legal told a none = quiet d events h legal.0 told.1 a none
 quiet d (k ∷ events) ((End b read ready status) ∷ h) legal told a none =
     let s = after d h in
     quiet d events h legal.0 told.1 a
@@ -442,10 +442,10 @@ told_so d (k ∷ events) ((Generation sender clean lspawn rspawn) ∷ h) legal t
     more_books k (kept.Generation told.0.0) (books_of events) (entry_in s h) (entry_in (happens s e) (e ∷ h)) s (mails_of h)
     told.0.1 refl (told_so d events h legal.0 told.1) (mails_there d events h legal.0 told.1)
     (λ mail there. ap (λ life. made mail (number_of mail.0 h) (is_accepted mail.0 h) life) (ap life_in (sym (alone_four s sender clean lspawn rspawn mail.0 legal.1 there))))
-told_so d (k ∷ events) ((Report slot letter text) ∷ h) legal told =
+told_so d (k ∷ events) ((Report slot output) ∷ h) legal told =
     let s = after d h in
-    more_books k (kept.Report slot letter text) (books_of events) (entry_in s h) (entry_in (happens s (Report slot letter text)) (Report slot letter text ∷ h)) s (mails_of h)
-    told.0 refl (told_so d events h legal.0 told.1) (mails_there d events h legal.0 told.1) (λ mail there. refl)
+    more_books k (kept.Report slot told.0.0 told.0.1) (books_of events) (entry_in s h) (entry_in (happens s (Report slot output)) (Report slot output ∷ h)) s (mails_of h)
+    told.0.2 refl (told_so d events h legal.0 told.1) (mails_there d events h legal.0 told.1) (λ mail there. refl)
 told_so d (k ∷ events) ((End b read ready status) ∷ h) legal told =
     let s = after d h in
     more_books k (kept.End b read ready status) (books_of events) (entry_in s h) (entry_in (happens s (End b read ready status)) (End b read ready status ∷ h)) s (mails_of h)

@@ -20,7 +20,7 @@ use Rattle.world_pipes.specs.Pipework.{Pipe, Pipework, Tenant, Yields}
 use Rattle.world_pipes.specs.Pipework.Tenant.{Runs, Remote}
 use Rattle.world_pipes.specs.Pipes.{offered}
 use Rattle.mail_world.proofs.Awaiting.{GivesToNone}
-use Rattle.mail_world.specs.History.{State, disk_after, holder_after, ComesOf, TenantEnds, IsFed}
+use Rattle.mail_world.specs.History.{State, disk_after, holder_after, ComesOf, IsEnding, TenantEnds, IsFed}
 use Rattle.world_pipes.specs.declared.mouths.Mouths.{Mouths}
 use Rattle.world_pipes.specs.Mouths.{actor_of}
 use Rattle.mail_world.specs.Wired.{tenant_in, kept_at, AreWired}
@@ -128,7 +128,7 @@ pub comes_of : (s : State) (w : Pipework) (pid most : ℕ) (a : List ℕ) (due :
     → Brings w pid most a due came → ComesOf s a due came 0
 comes_of s w pid most a (needs.File c) came same none many brings = absurd brings
 comes_of s w pid most a (needs.Take (port.Status d)) came same none many brings =
-    inr (subst (λ (o : Option Tenant). TenantEnds s o came) (sym (ap (λ (w : Pipework). w.programs a d) same ∙ brings.0)) brings.1)
+    inr (subst (λ (o : Option Tenant). TenantEnds s o came) (sym (ap (λ (w : Pipework). w.programs a d) same ∙ brings.0)) (subst IsEnding (sym brings.1) (omega arith)))
 comes_of s w pid most a (needs.Take port.Input) came same none many brings = offered_yields most (s.pipework.pipes a port.Input) came many (ap (λ (w : Pipework). offered most (w.pipes a port.Input)) same ∙ brings)
 comes_of s w pid most a (needs.Take port.Output) came same none many brings = offered_yields most (s.pipework.pipes a port.Output) came many (ap (λ (w : Pipework). offered most (w.pipes a port.Output)) same ∙ brings)
 comes_of s w pid most a (needs.Take port.Clean) came same none many brings = offered_yields most (s.pipework.pipes a port.Clean) came many (ap (λ (w : Pipework). offered most (w.pipes a port.Clean)) same ∙ brings)

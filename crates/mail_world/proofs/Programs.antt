@@ -32,7 +32,7 @@ use Rattle.mail_world.specs.Pipework.{Slot, Pipework, is_ready}
 use Rattle.mail_world.specs.History.{Life, State, InputIsFound, FindsInputAlone, MayFind, MayRun, next_of, latest, own_call, booked_by, held_by, cut_off}
 use Rattle.mail_world.specs.History.Life.{Alive, Over}
 use Rattle.mail_world.specs.Waiting.{IsBooked}
-use Rattle.mail_world.specs.Readiness.{input_alone, is_awaiting, found_by}
+use Rattle.mail_world.specs.Readiness.{input_alone, only_child, has_ended, is_awaiting, found_by}
 use Rattle.mail_world.specs.World.{most_of}
 use Rattle.call_fs.specs.declared.file_system.TheConstants.{PIECE}
 use Rattle.fed_injector.specs.declared.fed.FedInjector.{FedInjector}
@@ -90,13 +90,17 @@ input_found : (w : Pipework) (a : List ℕ) (o : Option Slot) (past : List Own)
 input_found w a None past = tt
 input_found w a (Some slot) past = inr (λ found. lies_if_found (is_ready (w.pipes a port.Input)) found)
 
+none_or_first : (ended : Bool) → (only_child ended ≡ None) ⊎ (only_child ended ≡ Some 0)
+none_or_first true = inr refl
+none_or_first false = inl refl
+
 pub found_finds : (s t : State) (a : List ℕ) (program : Program) (past : List Own) → t.pipework ≡ s.pipework → MayFind t a program past (found_by s a program)
 found_finds s t a (Injector args) past same = (
   input_only (is_awaiting s a),
   subst (λ (w : Pipework). InputIsFound w a (w.slots a) past (found_by s a (Injector args))) (sym same) (input_found s.pipework a (s.pipework.slots a) past),
 )
 found_finds s t a (Cleaner start) past same = (refl, refl)
-found_finds s t a (Sender start) past same = (_, _, _, refl, refl)
+found_finds s t a (Sender start) past same = (_, _, _, refl, none_or_first (has_ended s (s.pipework.programs a 0)))
 found_finds s t a (LocalSpawner start) past same = refl
 found_finds s t a (RemoteSpawner start) past same = refl
 found_finds s t a (Delivery start args) past same = refl

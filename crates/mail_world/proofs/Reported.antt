@@ -221,7 +221,7 @@ pub report_keeps : (told : Option Disk) (places : List ℕ → Option ℕ) (acto
 report_keeps told places actors events p n b slot letter text w leads =
     let s = known events in
     let k = kept.Report slot letter text in
-    let t = happens s (Report slot letter text) in
+    let t = happens s (Report slot (report_text letter text)) in
     subst (λ (s : State). IsWorld told places actors s (events ++ k ∷ []) p n b) (sym (known_push events k tt)) (record {
       moment = w.moment;
       now = w.now;
@@ -230,7 +230,7 @@ report_keeps told places actors events p n b slot letter text w leads =
       unborn = w.unborn;
       undelivered = w.undelivered;
       numbered = numbered_still s t refl w.numbered;
-      kept = crew_waits places actors s t events k p p (omega arith) w.kept refl refl (λ a. refl) (λ a. refl) (report_awaits s slot letter text);
+      kept = crew_waits places actors s t events k p p (omega arith) w.kept refl refl (λ a. refl) (λ a. refl) (report_awaits s slot (report_text letter text));
       opens = on_told told (λ d. IsOpenTo d actors s) (λ d. IsOpenTo d actors t) (λ d o. report_opens d actors s t refl refl o) w.opens;
       led = led_still told events (events ++ k ∷ []) p p leads w.led;
     })
@@ -241,7 +241,7 @@ pub report_piped : (crew : ℕ) (mouths : List Mouths) (actors : List Held) (eve
 report_piped crew mouths actors events m n slot letter text piped is now =
     let s = known events in
     let k = kept.Report slot letter text in
-    let t = happens s (Report slot letter text) in
+    let t = happens s (Report slot (report_text letter text)) in
     let stay = others_stay m n slot (Some (Remote true)) true (λ c e. cc) now.tenants now.ended in
     subst (λ (t : State). ArePiped crew (set mouths 3 n) actors t (events ++ k ∷ [])) (sym (known_push events k tt)) (record {
       wires = piped.wires;
@@ -269,9 +269,9 @@ report_piped crew mouths actors events m n slot letter text piped is now =
           };
       fed = λ a x there alive borne.
           let may = piped.fed a x there alive borne in
-          feed_push s t events k a tt (λ c runs awaiting. tt) (still_runs a may.child may.runs) (λ c runs awaits. report_awaits s slot letter text c ∙ awaits) may;
+          feed_push s t events k a tt (λ c runs awaiting. tt) (still_runs a may.child may.runs) (λ c runs awaits. report_awaits s slot (report_text letter text) c ∙ awaits) may;
       awaited = λ c x there mail awaits.
-          let was = piped.awaited c x there mail (sym (report_awaits s slot letter text c) ∙ awaits) in
+          let was = piped.awaited c x there mail (sym (report_awaits s slot (report_text letter text) c) ∙ awaits) in
           record { parent = was.parent; runs = still_runs was.parent c was.runs ∙ was.runs; actor = was.actor; is = was.is; alive = was.alive; borne = was.borne };
       count = subst (λ (n : ℕ). (n ≡ 0) ⊎ ((4 ≤ n) × (crew ≡ 4))) (sym (length-set mouths 3 n)) piped.count;
       few = piped.few;
@@ -286,7 +286,7 @@ report_piped crew mouths actors events m n slot letter text piped is now =
         ap (λ (o : Option Mouths). tenant_in o d) (sym is) ∙ sym (spawner_runs crew mouths actors (known events) events piped d) ∙ runs in
         (piped.children 3 m d c is here).0
 
-    still_runs : (a c : List ℕ) → (known events).pipework.programs a 0 ≡ Some (Runs c) → (happens (known events) (Report slot letter text)).pipework.programs a 0 ≡ (known events).pipework.programs a 0
+    still_runs : (a c : List ℕ) → (known events).pipework.programs a 0 ≡ Some (Runs c) → (happens (known events) (Report slot (report_text letter text))).pipework.programs a 0 ≡ (known events).pipework.programs a 0
     still_runs a c runs = ⊎_elim
         (λ f. absurd (no_feeder 0 c (ap (λ (a : List ℕ). (known events).pipework.programs a 0) (sym f.0) ∙ runs)))
         (λ f. ap (λ (t : Bool). if t && (0 == slot) then Some (Remote true) else (known events).pipework.programs a 0) f.1)

@@ -1,5 +1,5 @@
 -- What a return does inside a sender: it starts an injector, gives it two texts, and takes its status, and nothing else of a sender does.
-use Rattle.std.proofs.Common.{◌≡◌, ℕ, ◌-◌, List, [], ◌∷◌, ◌++◌, length, Bool, true, false, Option, Some, None, refl, sym, ap, ◌∙◌, subst, bytes_eq, nat_lt}
+use Rattle.std.proofs.Common.{◌≡◌, ℕ, ◌-◌, List, [], ◌∷◌, ◌++◌, length, Bool, true, false, Option, Some, None, refl, bytes_eq, nat_lt}
 use Rattle.std.specs.Prelude.{if◌then◌else◌, is_some, slice_get, ◌==◌}
 use Rattle.address_rules.specs.declared.controls.Controls.{Controls}
 use Rattle.bounce_record.specs.declared.bounces.Bounce.{Bounce}
@@ -23,9 +23,8 @@ use Rattle.call_fs.specs.declared.past.NeedData.TheVariants as needs
 use Rattle.call_fs.specs.declared.past.Own.{Own}
 use Rattle.call_fs.specs.declared.program.Port.TheVariants as port
 use Rattle.call_fs.specs.declared.program.Ready.{Ready}
-use Rattle.call_fs.specs.Past.{IsRunBy}
 use Rattle.envelope_records.specs.declared.channel.Record.{Record}
-use Rattle.fed_injector.specs.Texts.{netstring}
+use Rattle.mail_bytes.specs.Netstring.{netstring}
 use Rattle.retry_schedule.specs.Due.{first_due}
 use Rattle.send_jobs.specs.declared.attempts.Mark.{Mark}
 use Rattle.send_jobs.specs.declared.channels.Channel.{Channel}
@@ -35,25 +34,25 @@ use Rattle.send_jobs.specs.Lanes.{job_over, next}
 use Rattle.send_jobs.specs.Sending.{lane}
 use Rattle.send_jobs.specs.Slots.{lowest}
 use Rattle.send_known.specs.Known.{sender_of}
-use Rattle.send_steps.specs.declared.reading.Progress.{Progress}
-use Rattle.send_steps.specs.declared.reading.Progress.TheVariants.{Goes, Whole, Missing, Failed}
-use Rattle.send_steps.specs.declared.reading.Reading.{Reading}
-use Rattle.send_steps.specs.declared.reading.Reading.TheVariants.{Opening, Going, Closing, Shutting}
-use Rattle.send_steps.specs.declared.reply.Way.{Way}
-use Rattle.send_steps.specs.declared.reply.Way.TheVariants as way
-use Rattle.send_steps.specs.declared.rows.FinishRow.{FinishRow}
-use Rattle.send_steps.specs.declared.rows.FinishRow.TheVariants as finish
-use Rattle.send_steps.specs.declared.rows.Search.{Search}
-use Rattle.send_steps.specs.declared.rows.StartRow.{StartRow}
-use Rattle.send_steps.specs.declared.rows.StartRow.TheVariants as start
-use Rattle.send_steps.specs.declared.rows.SweepRow.{SweepRow}
-use Rattle.send_steps.specs.declared.rows.SweepRow.TheVariants as sweep
-use Rattle.send_steps.specs.Files.{message_number, records_of}
-use Rattle.send_steps.specs.Finish.{finish_to}
-use Rattle.send_steps.specs.Readings.{read_on}
-use Rattle.send_steps.specs.Replies.{Said, said}
-use Rattle.send_steps.specs.Rows.{is_again}
-use Rattle.send_steps.specs.Sweep.{sweep_to}
+use Rattle.send_parts.specs.declared.reading.Progress.{Progress}
+use Rattle.send_parts.specs.declared.reading.Progress.TheVariants.{Goes, Whole, Missing, Failed}
+use Rattle.send_parts.specs.declared.reading.Reading.{Reading}
+use Rattle.send_parts.specs.declared.reading.Reading.TheVariants.{Opening, Going, Closing, Shutting}
+use Rattle.send_parts.specs.declared.reply.Way.{Way}
+use Rattle.send_parts.specs.declared.reply.Way.TheVariants as way
+use Rattle.send_parts.specs.declared.rows.FinishRow.{FinishRow}
+use Rattle.send_parts.specs.declared.rows.FinishRow.TheVariants as finish
+use Rattle.send_parts.specs.declared.rows.Search.{Search}
+use Rattle.send_parts.specs.declared.rows.StartRow.{StartRow}
+use Rattle.send_parts.specs.declared.rows.StartRow.TheVariants as start
+use Rattle.send_parts.specs.declared.rows.SweepRow.{SweepRow}
+use Rattle.send_parts.specs.declared.rows.SweepRow.TheVariants as sweep
+use Rattle.send_parts.specs.Files.{message_number, records_of}
+use Rattle.send_parts.specs.Finish.{finish_to}
+use Rattle.send_parts.specs.Readings.{read_on}
+use Rattle.send_parts.specs.Replies.{Said, said}
+use Rattle.send_parts.specs.Rows.{is_again}
+use Rattle.send_parts.specs.Sweep.{sweep_to}
 use Rattle.todo_pass.specs.declared.row.Row.{Row as PassRow}
 use Rattle.todo_pass.specs.declared.row.Row.TheVariants as todo
 use Rattle.todo_pass.specs.declared.row.Why.TheVariants as left
@@ -66,21 +65,19 @@ use Rattle.send_core.specs.declared.row.Point.{Point}
 use Rattle.send_core.specs.declared.row.Point.TheVariants as point
 use Rattle.send_core.specs.declared.row.Row.{Row}
 use Rattle.send_core.specs.declared.row.Row.TheVariants as at
-use Rattle.send_core.specs.Desk.{closed, closed_by, due_on, goes, has_begun, is_free_for, next_idle, past_finish, past_todo, ready as ready_on_both, request_sent, stands_at, sweep_due, turn_counted, turn_over}
+use Rattle.send_core.specs.Desk.{closed, closed_by, due_on, goes, has_begun, is_free_for, next_idle, past_finish, past_todo, request_sent, stands_at, sweep_due, turn_counted, turn_over}
 use Rattle.send_core.specs.Finish.{act_finish, bounce_on, finish_at, looked_up, returned_to, sweep_at, sweep_begun}
 use Rattle.send_core.specs.Start.{start_at}
 use Rattle.send_core.specs.Table.{act, arrive, beginning, busy, desk_after, due_at, finishing, finishing_by, from_begin, from_local, from_point, from_remote, from_reports, from_sweep, from_take, going_on, holds, link_of, marking, marking_by, moved_by, or_else, passing, row_now, sweeping, taking}
 use Rattle.send_core.specs.Turn.{act_mark, begin_note, noted, noted_at, begun_at, file_read, in_todo, lost, mark_opened, mark_over, pass_opened, requested, todo_found, todo_named, todo_none, todo_on, todo_over, took, unlinked}
-use Rattle.world_events.specs.declared.event.Program.TheVariants.{Sender}
-use Rattle.mail_world.specs.History.{next_of}
-use Rattle.mail_world.specs.Inside.{IsBirth, HasBorneLast}
+use Rattle.mail_world.specs.Inside.{IsBirth}
 
 -- at a return
-abbrev IsReturn : Row → Type 0
+abbrev pub IsReturn : Row → Type 0
 IsReturn (at.Finish finish.Return n) = Unit {0}
 IsReturn row = ⊥
 
-returns_there : (row : Row) → IsReturn row → (n : ℕ) × (row ≡ at.Finish finish.Return n)
+pub returns_there : (row : Row) → IsReturn row → (n : ℕ) × (row ≡ at.Finish finish.Return n)
 returns_there (at.Finish finish.Return n) w = (n, refl)
 returns_there row w = absurd w
 
@@ -177,7 +174,7 @@ module _ (d : Desk) (now : ℕ) (ready : Ready) where
   point_begins point.Sweep = sweep_begins
 
 -- so who arrives at a return stood there
-arrived : (row : Row) (d : Desk) (now : ℕ) (ready : Ready) → IsReturn (arrive row d now ready) → IsReturn row
+pub arrived : (row : Row) (d : Desk) (now : ℕ) (ready : Ready) → IsReturn (arrive row d now ready) → IsReturn row
 arrived (at.Turn p) d now ready w = absurd (begins_none (from_point p d now ready) (point_begins d now ready p) w)
 arrived (at.Start row) d now ready w = w
 arrived (at.TakeLink c) d now ready w = w
@@ -389,13 +386,13 @@ pub record AreTexts (bytes : List ℕ) : Type 0 where
   pub are : bytes ≡ netstring message ++ netstring envelope
 
 -- from the start of its injector until that was given its input, two texts are kept for it
-abbrev HasTexts : ReturnRow → List ℕ → Type 0
+abbrev pub HasTexts : ReturnRow → List ℕ → Type 0
 HasTexts back.Start input = AreTexts input
 HasTexts (back.Give pid) input = AreTexts input
 HasTexts row input = Unit {0}
 
 -- it is given its input just after its start
-abbrev IsBorne : ReturnRow → NeedData → GotData → Type 0
+abbrev pub IsBorne : ReturnRow → NeedData → GotData → Type 0
 IsBorne (back.Give pid) due got = IsBirth due got
 IsBorne row due got = Unit {0}
 
@@ -576,17 +573,17 @@ led_at at.InTodo e read ready got k = step at.InTodo read got (at_row at.InTodo 
 led_at (at.Finish row n) e read ready got k = step (at.Finish row n) read got (at_row (at.Finish row n) e) tt k
 
 -- what is said of the return after one event more
-led : (d : Desk) (read : ℕ) (ready : Ready) (got : GotData) → Keeps d.row d.bounce
+pub led : (d : Desk) (read : ℕ) (ready : Ready) (got : GotData) → Keeps d.row d.bounce
     → IsReturn (moved_by (row_now d read ready) read got d).row → Fares (due_at (row_now d read ready) d) got (moved_by (row_now d read ready) read got d).bounce
 led d read ready got k = led_at d.row d read ready got k
 
-keeps : (past : List Own) → Keeps (desk_after None past).row (desk_after None past).bounce
+pub keeps : (past : List Own) → Keeps (desk_after None past).row (desk_after None past).bounce
 keeps [] w = absurd w
 keeps (own ∷ before) w = (led (desk_after None before) own.read own.ready own.came (keeps before) w).0
 
 -- What is due of a child is a return's
 
-abbrev IsOfChild : NeedData → Type 0
+abbrev pub IsOfChild : NeedData → Type 0
 IsOfChild (needs.Start asked) = Unit {0}
 IsOfChild (needs.Give (port.Program slot) bytes) = Unit {0}
 IsOfChild (needs.Take (port.Status slot)) = Unit {0}
@@ -652,7 +649,7 @@ module _ (d : Desk) where
   sweep_asks sweep.Over = λ w. w
   sweep_asks sweep.Lost = λ w. w
 
-  returns_alone : (row : Row) → IsOfChild (due_at row d) → IsReturn row
+  pub returns_alone : (row : Row) → IsOfChild (due_at row d) → IsReturn row
   returns_alone (at.Finish finish.Return n) w = tt
   returns_alone (at.Finish finish.OpenBounce n) w = absurd w
   returns_alone (at.Finish finish.UnlinkInfo n) w = absurd w
@@ -684,13 +681,13 @@ module _ (d : Desk) where
 
 -- Of what is due of a child, which row of the return it is
 
-record IsGiveRow (row : ReturnRow) (r : Returning) (slot : ℕ) (bytes : List ℕ) : Type 0 where
-  pid : ℕ
-  is : row ≡ back.Give pid
-  first : slot ≡ 0
-  text : r.input ≡ bytes
+pub record IsGiveRow (row : ReturnRow) (r : Returning) (slot : ℕ) (bytes : List ℕ) : Type 0 where
+  pub pid : ℕ
+  pub is : row ≡ back.Give pid
+  pub first : slot ≡ 0
+  pub text : r.input ≡ bytes
 
-give_row : (row : ReturnRow) (r : Returning) (slot : ℕ) (bytes : List ℕ) → return_due_at row r ≡ needs.Give (port.Program slot) bytes → IsGiveRow row r slot bytes
+pub give_row : (row : ReturnRow) (r : Returning) (slot : ℕ) (bytes : List ℕ) → return_due_at row r ≡ needs.Give (port.Program slot) bytes → IsGiveRow row r slot bytes
 give_row (back.Give pid) r slot bytes e = record { pid = pid; is = refl; first = cc; text = cc }
 give_row back.Open r slot bytes e = absurd (cc)
 give_row (back.ReadNotes fd) r slot bytes e = absurd (cc)
@@ -706,7 +703,7 @@ give_row back.Discard r slot bytes e = absurd (cc)
 give_row back.Over r slot bytes e = absurd (cc)
 give_row back.Failed r slot bytes e = absurd (cc)
 
-start_row : (row : ReturnRow) (r : Returning) (asked : ChildData) → return_due_at row r ≡ needs.Start asked → (row ≡ back.Start) × (asked ≡ child.Bounce r.room)
+pub start_row : (row : ReturnRow) (r : Returning) (asked : ChildData) → return_due_at row r ≡ needs.Start asked → (row ≡ back.Start) × (asked ≡ child.Bounce r.room)
 start_row back.Start r asked e = (refl, cc)
 start_row (back.Give pid) r asked e = absurd (cc)
 start_row back.Open r asked e = absurd (cc)
@@ -721,91 +718,3 @@ start_row back.Unlink r asked e = absurd (cc)
 start_row back.Discard r asked e = absurd (cc)
 start_row back.Over r asked e = absurd (cc)
 start_row back.Failed r asked e = absurd (cc)
-
--- By its past
-
--- what is due of a child is what is due of the return at which a sender is
-record AtReturn (past : List Own) (now : ℕ) (ready : Ready) (due : NeedData) : Type 0 where
-  n : ℕ
-  row : (desk_after None past).row ≡ at.Finish finish.Return n
-  is : due_of_return (desk_after None past).bounce ≡ due
-
-at_return : (began : ℕ) (past : List Own) (now : ℕ) (ready : Ready) (due : NeedData) → next_of (Sender began) past now ready ≡ due → IsOfChild due → AtReturn past now ready due
-at_return began past now ready due e asks =
-    let d : Desk = desk_after None past in
-    let there = returns_alone d (row_now d now ready) (subst IsOfChild (sym e) asks) in
-    let row = returns_there d.row (arrived d.row d now ready there) in
-    record { n = row.0; row = row.1; is = sym (ap (λ (r : Row). due_at (arrive r d now ready) d) row.1) ∙ e }
-
-borne : (began : ℕ) (past : List Own) (n pid : ℕ) → IsRunBy (next_of (Sender began)) past → (desk_after None past).row ≡ at.Finish finish.Return n → (desk_after None past).bounce.row ≡ back.Give pid
-    → HasBorneLast past
-borne began [] n pid run row is = absurd (cc)
-borne began (own ∷ before) n pid run row is =
-    let d : Desk = desk_after None before in
-    let fares = led d own.read own.ready own.came (keeps before) (subst IsReturn (sym row) tt) in
-    subst (λ (due : NeedData). IsBirth due own.came) run.1.0 (subst (λ (r : ReturnRow). IsBorne r (due_at (row_now d own.read own.ready) d) own.came) is fares.1)
-
--- what a sender gives to a program: it has just started it, in its first slot, and gives it two texts
-pub record IsGiving (past : List Own) (slot : ℕ) (bytes : List ℕ) : Type 0 where
-  pub borne : HasBorneLast past
-  pub first : slot ≡ 0
-  pub texts : AreTexts bytes
-
-pub gives_texts : (began : ℕ) (past : List Own) (now : ℕ) (ready : Ready) (slot : ℕ) (bytes : List ℕ) → IsRunBy (next_of (Sender began)) past
-    → next_of (Sender began) past now ready ≡ needs.Give (port.Program slot) bytes → IsGiving past slot bytes
-gives_texts began past now ready slot bytes run e =
-    let d : Desk = desk_after None past in
-    let w = at_return began past now ready (needs.Give (port.Program slot) bytes) e tt in
-    let gives = give_row d.bounce.row d.bounce slot bytes w.is in
-    let texts : AreTexts d.bounce.input = subst (λ (r : ReturnRow). HasTexts r d.bounce.input) gives.is (keeps past (subst IsReturn (sym w.row) tt)) in
-    record { borne = borne began past w.n gives.pid run w.row gives.is; first = gives.first; texts = subst AreTexts gives.text texts }
-
--- what it asks for to be started is the injector of a bounce
-pub sender_asks : (began : ℕ) (past : List Own) (now : ℕ) (ready : Ready) (asked : ChildData) → next_of (Sender began) past now ready ≡ needs.Start asked → (room : ℕ) × (asked ≡ child.Bounce room)
-sender_asks began past now ready asked e =
-    let d : Desk = desk_after None past in
-    let w = at_return began past now ready (needs.Start asked) e tt in
-    (d.bounce.room, (start_row d.bounce.row d.bounce asked w.is).1)
-
--- Once it has started one
-
-pub birth_is : (due : NeedData) (got : GotData) → IsBirth due got → (asked : ChildData) × (pid : ℕ) × (due ≡ needs.Start asked) × (got ≡ came.Started pid)
-birth_is (needs.Start (child.Bounce room)) (came.Started pid) w = (child.Bounce room, pid, refl, refl)
-birth_is (needs.Start (child.Forward uid room)) (came.Started pid) w = (child.Forward uid room, pid, refl, refl)
-birth_is due got w = absurd w
-
--- the desk after the start
-record IsAtGive (d : Desk) (n : ℕ) (input : List ℕ) : Type 0 where
-  pid : ℕ
-  row : d.row ≡ at.Finish finish.Return n
-  bounce : d.bounce.row ≡ back.Give pid
-  text : d.bounce.input ≡ input
-
-started_desk : (row : ReturnRow) (n now pid : ℕ) (d : Desk) → row ≡ back.Start
-    → let it : Returning = return_moved d.book.controls (sender_of n d.book.messages.known) row d.bounce now (came.Started pid) in
-    IsAtGive (finish_at (returned_to it.row) n now (record d { bounce = it })) n d.bounce.input
-started_desk back.Start n now pid d is = record { pid = pid; row = refl; bounce = refl; text = refl }
-started_desk row n now pid d is = absurd (cc)
-
--- A sender that has just started one gives it its input next, at each moment and with whatever ready.
-pub birth_gives : (began : ℕ) (past : List Own) → IsRunBy (next_of (Sender began)) past → HasBorneLast past
-    → (bytes : List ℕ) × ((now : ℕ) (ready : Ready) → next_of (Sender began) past now ready ≡ needs.Give (port.Program 0) bytes)
-birth_gives began [] run last = absurd last
-birth_gives began (own ∷ before) run last =
-    let d : Desk = desk_after None before in
-    let b = birth_is own.due own.came last in
-    let w = at_return began before own.read own.ready (needs.Start b.0) (run.1.0 ∙ b.2) tt in
-    let row : row_now d own.read own.ready ≡ at.Finish finish.Return w.n = ap (λ (r : Row). arrive r d own.read own.ready) w.row in
-    let stands : IsAtGive (moved_by (at.Finish finish.Return w.n) own.read (came.Started b.1) d) w.n d.bounce.input =
-    of_ready (act (at.Finish finish.Return w.n) own.read (came.Started b.1) d) w.n d.bounce.input (started_desk d.bounce.row w.n own.read b.1 d (start_row d.bounce.row d.bounce b.0 w.is).0) in
-    let there : IsAtGive (desk_after None (own ∷ before)) w.n d.bounce.input =
-    subst (λ (r : Row). IsAtGive (moved_by r own.read own.came d) w.n d.bounce.input) (sym row)
-    (subst (λ (got : GotData). IsAtGive (moved_by (at.Finish finish.Return w.n) own.read got d) w.n d.bounce.input) (sym b.3) stands) in
-    (d.bounce.input, λ now ready. gives_now (desk_after None (own ∷ before)) w.n d.bounce.input now ready there)
-  where
-    of_ready : (e : Desk) (n : ℕ) (input : List ℕ) → IsAtGive e n input → IsAtGive (ready_on_both e) n input
-    of_ready e n input w = record { pid = w.pid; row = w.row; bounce = w.bounce; text = w.text }
-
-    gives_now : (e : Desk) (n : ℕ) (input : List ℕ) (now : ℕ) (ready : Ready) → IsAtGive e n input → due_at (row_now e now ready) e ≡ needs.Give (port.Program 0) input
-    gives_now e n input now ready w =
-        ap (λ (r : Row). due_at (arrive r e now ready) e) w.row ∙ ap (λ (r : ReturnRow). return_due_at r e.bounce) w.bounce ∙ ap (λ (t : List ℕ). needs.Give (port.Program 0) t) w.text

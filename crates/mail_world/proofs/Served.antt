@@ -22,11 +22,11 @@ use Rattle.mail_world.specs.declared.world.Did.{Did}
 use Rattle.mail_world.specs.Acting.{is_due_of_child}
 use Rattle.mail_world.specs.Children.{IsDueOfChild}
 use Rattle.mail_world.specs.Generations.{CanNot, Waits}
-use Rattle.mail_world.specs.History.{Actor, Life, State, IsStatusOf, TenantEnds, next_of, program_of}
+use Rattle.mail_world.specs.History.{Actor, Life, State, IsStatusOf, next_of, program_of}
 use Rattle.mail_world.specs.History.Life.{Alive, Over, Stopped}
 use Rattle.mail_world.specs.Known.{known}
 use Rattle.mail_world.specs.Readiness.{has_ended, is_gone, is_over, found_in}
-use Rattle.mail_world.specs.World.{Counts, Seen, IsPlannedOwn, IsPlannedEvent, GoesByPlan, ComesWhole, IsKeptStart, IsKeptTo, IsKeptGiving, IsKeptBy, IsStep, most_of, next_pid, counts_in, child_of}
+use Rattle.mail_world.specs.World.{Counts, Seen, IsPlannedOwn, IsPlannedEvent, GoesByPlan, ComesWhole, EndsInWorld, IsKeptStart, IsKeptTo, IsKeptGiving, IsKeptBy, IsStep, most_of, next_pid, counts_in, child_of}
 use Rattle.mail_world.proofs.Lasts.{same_last}
 use Rattle.mail_world.proofs.Steps.{none_ready}
 
@@ -37,7 +37,7 @@ status_over Alive came is = absurd is
 status_over (Over status) came is = refl
 status_over Stopped came is = refl
 
-tenant_ended : (s : State) (o : Option Tenant) (came : GotData) → TenantEnds s o came → has_ended s o ≡ true
+tenant_ended : (s : State) (o : Option Tenant) (came : GotData) → EndsInWorld s o came → has_ended s o ≡ true
 tenant_ended s None came ends = absurd ends
 tenant_ended s (Some (Runs a)) came ends = ap is_gone ends.1 ∙ status_over ends.0.life came ends.2
 tenant_ended s (Some (Remote true)) came ends = refl

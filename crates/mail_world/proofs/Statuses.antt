@@ -30,7 +30,7 @@ use Rattle.mail_world.specs.Generations.{CanNot, Waits, idled_by}
 use Rattle.mail_world.specs.declared.world.Did.{Did}
 use Rattle.mail_world.specs.History.{Actor, Life, State, IsStatusOf, TenantEnds, acted, next_of}
 use Rattle.mail_world.specs.History.Life.{Alive}
-use Rattle.mail_world.specs.World.{Counts}
+use Rattle.mail_world.specs.World.{Counts, EndsInWorld}
 use Rattle.mail_world.specs.Inside.{known, among_all, life_by, HasBorneLast, MayFeed, IsAwaited, IsMember, HasOpen, IsOpenTo, IsWorld, ArePiped}
 use Rattle.mail_world.specs.Pipework.{Pipework, Slot, Tenant, is_ready, put_program, pipework_after}
 use Rattle.mail_world.specs.Pipework.Tenant.{Runs}
@@ -41,7 +41,7 @@ use Rattle.mail_world.proofs.Borne.{feed_push}
 use Rattle.mail_world.proofs.Fed.{borne_feeds, fed_mail}
 use Rattle.mail_world.proofs.Piped.{borne_put, runs_put}
 use Rattle.mail_world.proofs.Crew.{apart_by, crew_acts}
-use Rattle.crew_pipes.proofs.Keeps.{StayIn, others_stay, slots_set, children_set, over_set, over_alike}
+use Rattle.world_pipes.proofs.Keeps.{StayIn, others_stay, slots_set, children_set, over_set, over_alike}
 use Rattle.mail_world.proofs.Histories.{LeadsOn, pass_told, led_still}
 use Rattle.mail_world.proofs.Known.{known_push}
 use Rattle.mail_world.proofs.Leaving.{in_slot}
@@ -192,8 +192,8 @@ module _ (told : Option Disk) (crew : ℕ) (places : List ℕ → Option ℕ) (a
   is_status : IsStatusOf h.member.actor.life came
   is_status = subst (λ (life : Life). IsStatusOf life came) (sym h.member.life) (status_is h.held.ended h.held.status came ended)
 
-  pub status_ends : TenantEnds (known events) ((known events).pipework.programs a slot) came
-  status_ends = subst (λ (o : Option Tenant). TenantEnds (known events) o came) (sym runs) (h.member.actor, there, is_status)
+  pub status_ends : EndsInWorld (known events) ((known events).pipework.programs a slot) came
+  status_ends = subst (λ (o : Option Tenant). EndsInWorld (known events) o came) (sym runs) (h.member.actor, there, is_status)
 
   pub status_leads : LeadsOn told told events later p p
   status_leads = pass_told told events p a parent own piped.whole (acting_parent crew mouths actors events p a i parent here is alive)

@@ -49,7 +49,7 @@ use Rattle.mail_world.proofs.Passes.{gives_to_none}
 use Rattle.mail_world.proofs.Feeders.{birth_feeds, feeder_next}
 use Rattle.mail_world.proofs.Serving.{finds_by, pipes_within}
 use Rattle.mail_world.proofs.Booked.{look_booked, newest_is, one_booked}
-use Rattle.crew_pipes.proofs.Keeps.{before_same}
+use Rattle.world_pipes.proofs.Keeps.{before_same}
 use Rattle.mail_world.proofs.Found.{ended_remote}
 use Rattle.mail_world.proofs.Histories.{LeadsOn}
 use Rattle.mail_world.proofs.Lasts.{same_last}

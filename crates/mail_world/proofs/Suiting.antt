@@ -11,7 +11,7 @@ use Rattle.local_deliver.specs.Table.{due_at, due_by_drop, place_after}
 use Rattle.local_deliver.specs.declared.place.Place.{Place}
 use Rattle.local_deliver.specs.declared.row.Row.{Row}
 use Rattle.local_deliver.specs.declared.row.Row.TheVariants as at
-use Rattle.local_steps.specs.declared.arguments.LocalArgs.{LocalArgs}
+use Rattle.local_parts.specs.declared.arguments.LocalArgs.{LocalArgs}
 use Rattle.maildir_drop.specs.Table.{due_at as drop_due}
 use Rattle.maildir_drop.specs.declared.names.DropNames.{DropNames}
 use Rattle.maildir_drop.specs.declared.row.Row.{Row as DropRow}

@@ -30,11 +30,11 @@ use Rattle.world_events.specs.declared.event.Event.{Event as Kept}
 use Rattle.world_events.specs.declared.event.Event.TheVariants as kept
 use Rattle.world_events.specs.declared.event.Program.{Program}
 use Rattle.world_events.specs.declared.event.Program.TheVariants.{Injector}
-use Rattle.mail_world.specs.History.{Actor, Life, State, IsDelivery, MayFind, TenantEnds, own_call, next_of, start_of, acted, called, finished, happens, held_by, shut_by}
+use Rattle.mail_world.specs.History.{Actor, Life, State, IsDelivery, MayFind, own_call, next_of, start_of, acted, called, finished, happens, held_by, shut_by}
 use Rattle.mail_world.specs.History.Event.{Start, Moment, Halt}
 use Rattle.mail_world.specs.History.Life.{Over, Stopped}
 use Rattle.call_fs.specs.declared.program.Ready.{Ready}
-use Rattle.mail_world.specs.World.{Counts, starts, IsKeptBy, IsKeptGiving, next_pid, counts_in, counted, starts_in, most_of, ComesWhole, IsStep, span_after, span_of, was_started, EndsAt}
+use Rattle.mail_world.specs.World.{Counts, starts, IsKeptBy, IsKeptGiving, next_pid, counts_in, counted, starts_in, most_of, ComesWhole, EndsInWorld, IsStep, span_after, span_of, was_started, EndsAt}
 use Rattle.mail_world.specs.World.Span.{OverAt}
 use Rattle.mail_world.specs.Pipework.{is_member}
 use Rattle.mail_world.specs.ByKind.{IsAlone, IsMail, Follows, CanFind, takes_of, awaits_of}
@@ -662,7 +662,7 @@ call_whole s pid a program (needs.Ended status) came call = absurd call
 pass_whole : (s : State) (pid : ℕ) (a : List ℕ) (has : ℕ → Bool) (program : Program) (due : NeedData) (came : GotData) → is_due_of_child has due ≡ false
     → Brings s.pipework pid (most_of program) a due came → ComesWhole s pid a program due came
 pass_whole s pid a has program (needs.File c) came own brings = absurd brings
-pass_whole s pid a has program (needs.Take (port.Status d)) came own brings = subst (λ (o : Option Tenant). TenantEnds s o came) (sym brings.0) brings.1
+pass_whole s pid a has program (needs.Take (port.Status d)) came own brings = subst (λ (o : Option Tenant). EndsInWorld s o came) (sym brings.0) brings.1
 pass_whole s pid a has program (needs.Take port.Input) came own brings = brings
 pass_whole s pid a has program (needs.Take port.Output) came own brings = brings
 pass_whole s pid a has program (needs.Take port.Clean) came own brings = brings

@@ -34,12 +34,12 @@ use Rattle.mail_world.specs.Wired.{HasWires, HaveSlots}
 use Rattle.mail_world.specs.Inside.{StandsFor}
 use Rattle.mail_world.specs.Generations.{idled_of}
 -- what of a child is due to an actor
-pub use Rattle.crew_pipes.specs.Seating.{is_due_of_child, has_actor}
+pub use Rattle.world_pipes.specs.Seating.{is_due_of_child, has_actor}
 -- what an actor has open
-pub use Rattle.open_files.specs.Opened.{without, open_after, opened_by, AreOpen, shut}
+pub use Rattle.world_events.specs.Opened.{without, open_after, opened_by, AreOpen, shut}
 -- the pipes and slots at one place are as they were, and what an actor does with them
 pub use Rattle.world_pipes.specs.Mouths.{IsSame}
-pub use Rattle.crew_pipes.specs.Exchanges.{IsNoAct, Brings, BringsNone, Keep, AreAsBefore, HasPiped, HasTaken, HasFreed, HasFreedBy, HasBegun, HasStarted, HasTakenBy, HasGivenTo, IsSameAt, HaveShut, GivesNoActor, SuitsPlace, Exchanges, IsStuck, HasExchanged, IsGoneToo, ShutsAfter}
+pub use Rattle.world_pipes.specs.Exchanges.{IsNoAct, Brings, BringsNone, Keep, AreAsBefore, HasPiped, HasTaken, HasFreed, HasFreedBy, HasBegun, HasStarted, HasTakenBy, HasGivenTo, IsSameAt, HaveShut, GivesNoActor, SuitsPlace, Exchanges, IsStuck, HasExchanged, IsGoneToo, ShutsAfter}
 
 -- the call that is due may be made
 abbrev pub MayMake : Disk → NeedData → Type 0

@@ -6,7 +6,7 @@ use Rattle.mail_world.specs.declared.actor.Actor.{Actor as Held}
 use Rattle.mail_world.specs.ByKind.{Follows}
 use Rattle.mail_world.specs.Wired.{seat}
 -- what an actor finds by its pipes
-pub use Rattle.crew_pipes.specs.Seating.{IsFresh, IsFreshOne, AreFresh, AreRenewed, HasPlaceAfter, input_of, FindsBy, IsFoundAt}
+pub use Rattle.world_pipes.specs.Seating.{IsFresh, IsFreshOne, AreFresh, AreRenewed, HasPlaceAfter, input_of, FindsBy, IsFoundAt}
 -- the report of a remote program
 pub use Rattle.world_pipes.specs.Mouths.{HasReport}
 

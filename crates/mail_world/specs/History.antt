@@ -1,6 +1,6 @@
 -- Histories: what happens, the state after it, and which histories are legal. A history is the list of its events,
 -- the newest first, so that what is left of it is a history too.
-use Rattle.std.specs.Prelude.{◌≡◌, ◌≢◌, ◌⊎◌, ℕ, ◌+◌, ◌≤◌, List, [], ◌∷◌, ◌++◌, length, Bool, true, false, Option, Some, None, option_map, if◌then◌else◌, bytes_eq, codes, Contains}
+use Rattle.std.specs.Prelude.{◌≡◌, ◌≢◌, ◌⊎◌, ℕ, ◌+◌, ◌^◌, ◌<◌, ◌≤◌, List, [], ◌∷◌, ◌++◌, length, Bool, true, false, Option, Some, None, option_map, if◌then◌else◌, bytes_eq, codes, Contains}
 use Rattle.call_fs.specs.declared.calls.CallData.{CallData}
 use Rattle.call_fs.specs.declared.calls.CallData.TheVariants.{Append}
 use Rattle.call_fs.specs.declared.calls.Answer.{Answer}
@@ -35,7 +35,7 @@ use Rattle.send_core.specs.Booked.{booked_at}
 use Rattle.send_core.specs.Table.{Next as SendsNext, desk_after, row_now}
 use Rattle.local_spawn.specs.Table.{Next as LspawnNext}
 use Rattle.local_deliver.specs.Table.{Next as DeliversNext}
-use Rattle.local_steps.specs.Arguments.{local_args}
+use Rattle.local_parts.specs.Arguments.{local_args}
 use Rattle.remote_spawn.specs.Table.{Next as SpawnsNext}
 use Rattle.world_events.specs.declared.event.Program.{Program}
 use Rattle.world_events.specs.declared.event.Program.TheVariants.{Injector, Cleaner, Sender, LocalSpawner, RemoteSpawner, Delivery}
@@ -43,7 +43,7 @@ use Rattle.actor_names.specs.MailNames.{members}
 use Rattle.mail_world.specs.Pipework.{Pipework, Tenant, Slot, is_ready, Yields, no_pipework, slot_of, pipework_after, with_child, without_writer, with_generation, with_report}
 use Rattle.mail_world.specs.Pipework.Tenant.{Runs, Remote}
 -- a text as a netstring, and the output of a remote program that its report stands for
-pub use Rattle.fed_injector.specs.Texts.{netstring}
+pub use Rattle.mail_bytes.specs.Netstring.{netstring}
 pub use Rattle.world_pipes.specs.Mouths.{report_text}
 -- whether an actor's event started a program
 pub use Rattle.world_events.specs.Starting.{starts_program}
@@ -52,14 +52,15 @@ pub use Rattle.queue_law.specs.Books.{own_call, last_read, Injection, Books, beg
 
 -- One event. `own` is an event of the actor's own past, and the start of a child is its parent's too. `wrote` is how many
 -- bytes a failed write had written, or a failed giving had given, which no program is told. A generation is its four
--- members, which start together. A report is what the remote program in a slot ended with. `contents` is what a machine
--- stop left of each file; `how` is what it was called, and limits nothing.
+-- members, which start together. A report is the end of the remote program in a slot, with all that it wrote; with which status
+-- it ended is told when that is taken. `contents` is what a machine stop left of each file; `how` is what it was called, and
+-- limits nothing.
 pub data Event : Type 0 where
   Start : (actor : List ℕ) (program : Program) → Event
   Act : (actor : List ℕ) (own : Own) (wrote : ℕ) → Event
   Child : (parent : List ℕ) (own : Own) (actor : List ℕ) (program : Program) → Event
   Generation : (sender clean lspawn rspawn : Program) → Event
-  Report : (slot letter : ℕ) (text : List ℕ) → Event
+  Report : (slot : ℕ) (output : List ℕ) → Event
   End : (actor : List ℕ) (read : ℕ) (ready : Ready) (status : ℕ) → Event
   Stop : (actor : List ℕ) → Event
   Moment : ℕ → Event
@@ -75,7 +76,7 @@ started_by (Start a program) = 1
 started_by (Act a own wrote) = if starts_program own.due own.came then 1 else 0
 started_by (Child parent own a program) = 1
 started_by (Generation sender clean lspawn rspawn) = 4
-started_by (Report slot letter text) = 0
+started_by (Report slot output) = 0
 started_by (End a read ready status) = 0
 started_by (Stop a) = 0
 started_by (Moment m) = 0
@@ -255,13 +256,13 @@ happens s (Generation sender clean lspawn rspawn) =
     let pipework = with_generation s.pipework in
     begins (begins (begins (begins s (codes "sender") sender pipework) (codes "clean") clean pipework) (codes "lspawn") lspawn pipework)
     (codes "rspawn") rspawn pipework
-happens s (Report slot letter text) = record {
+happens s (Report slot output) = record {
   disk = s.disk;
   holder = s.holder;
   now = s.now;
   actors = s.actors;
   books = s.books;
-  pipework = with_report s.pipework slot (report_text letter text);
+  pipework = with_report s.pipework slot output;
 }
 happens s (End a read ready status) = finished s a (Over status) (s.actors a)
 happens s (Stop a) = finished s a Stopped (s.actors a)
@@ -318,9 +319,9 @@ InputIsFound pipework a (Some slot) past ready =
 abbrev pub FindsInputAlone : Ready → Type 0
 FindsInputAlone ready = (ready.links ≡ has_input ready ∷ false ∷ false ∷ false ∷ []) × (ready.child ≡ None)
 
--- its links to the cleaner and to the spawners, and no program
+-- its links to the cleaner and to the spawners, and its only child, the injector of a bounce
 abbrev pub FindsItsLinks : Ready → Type 0
-FindsItsLinks ready = (clean lspawn rspawn : Bool) × (ready.links ≡ clean ∷ lspawn ∷ rspawn ∷ false ∷ []) × (ready.child ≡ None)
+FindsItsLinks ready = (clean lspawn rspawn : Bool) × (ready.links ≡ clean ∷ lspawn ∷ rspawn ∷ false ∷ []) × ((ready.child ≡ None) ⊎ (ready.child ≡ Some 0))
 
 -- its input, and a program in a slot
 abbrev pub FindsInputOrChild : Ready → Type 0
@@ -328,7 +329,7 @@ FindsInputOrChild ready = ready.links ≡ has_input ready ∷ false ∷ false �
 
 -- What an actor found ready is no more than what lies in its pipes, and may be less. A member of a generation and a delivery may find
 -- each of its pipes, and each program in a slot of its own, ready at any point: of a pipe in which nothing lies only a failure
--- may come (`Yields`), and so of a program that hasn't ended.
+-- may come (`Yields`), and so of a program that hasn't ended. A sender has one such slot.
 abbrev pub MayFind : State → List ℕ → Program → List Own → Ready → Type 0
 MayFind s a (Injector args) past ready = FindsInputAlone ready × InputIsFound s.pipework a (s.pipework.slots a) past ready
 MayFind s a (Cleaner start) past ready = FindsInputAlone ready
@@ -343,10 +344,16 @@ IsStatusOf Alive came = ⊥
 IsStatusOf (Over status) came = came ≡ Ended status
 IsStatusOf Stopped came = came ≡ Crashed
 
+-- how a process may end: with any status, or by a crash
+abbrev pub IsEnding : GotData → Type 0
+IsEnding (Ended status) = status < 2 ^ 8
+IsEnding Crashed = Unit {0}
+IsEnding came = ⊥
+
 -- what may come of taking the status of the program in a slot
 abbrev pub TenantEnds : State → Option Tenant → GotData → Type 0
 TenantEnds s (Some (Runs a)) came = (x : Actor) × (s.actors a ≡ Some x) × IsStatusOf x.life came
-TenantEnds s (Some (Remote true)) came = came ≡ Ended 0
+TenantEnds s (Some (Remote true)) came = IsEnding came
 TenantEnds s other came = ⊥
 
 -- these bytes are the whole input of a child: of an injector its message and its envelope, each as a netstring. A delivery takes what it
@@ -466,7 +473,7 @@ Allowed s (Start a program) = MayStart s a program
 Allowed s (Act a own wrote) = MayDo s a own wrote
 Allowed s (Child parent own a program) = MayBear s parent own a program
 Allowed s (Generation sender clean lspawn rspawn) = MayBegin s sender clean lspawn rspawn
-Allowed s (Report slot letter text) = MayReport s slot
+Allowed s (Report slot output) = MayReport s slot
 Allowed s (End a read ready status) = MayEnd s a read ready status
 Allowed s (Stop a) = IsLiving s a
 Allowed s (Moment m) = MayCome s m

@@ -32,7 +32,7 @@ use Rattle.actor_names.specs.ChildNames.{bounce_name, delivery_name, forward_of}
 use Rattle.mail_world.specs.World.{Leads, Span, Counts, span_of, was_started, next_pid, counts_in}
 use Rattle.mail_world.specs.World.Span.{Unborn, Lasting, OverAt}
 -- lists of open descriptors
-pub use Rattle.open_files.specs.Opened.{has, AreApart}
+pub use Rattle.world_events.specs.Opened.{has, AreApart}
 -- what kept events tell
 pub use Rattle.mail_world.specs.Known.{event_of, nowhere, known}
 

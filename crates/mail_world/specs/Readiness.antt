@@ -7,7 +7,7 @@ use Rattle.call_fs.specs.declared.program.Ready.{Ready}
 use Rattle.call_fs.specs.declared.program.TheConstants.{INPUT_READY}
 use Rattle.world_events.specs.declared.event.Program.{Program}
 use Rattle.world_events.specs.declared.event.Program.TheVariants.{Injector, Cleaner, Sender, LocalSpawner, RemoteSpawner, Delivery}
-pub use Rattle.crew_pipes.specs.Seating.{input_alone}
+pub use Rattle.world_pipes.specs.Seating.{input_alone, only_child}
 use Rattle.mail_world.specs.Pipework.{Tenant, is_ready}
 use Rattle.mail_world.specs.Pipework.Tenant.{Runs, Remote}
 use Rattle.mail_world.specs.History.{Actor, Life, State}
@@ -45,13 +45,14 @@ abbrev pub input_or_child : State → List ℕ → Ready
 input_or_child s a = record { links = lies_ready s a port.Input ∷ false ∷ false ∷ false ∷ []; child = lowest_ended s a }
 
 -- By the program that it runs: an injector, whose input stands in its start, finds it ready at any point, but a child only once it was
--- given or its parent is gone; any other finds all that lies in its pipes, and the spawners and a delivery also which of their programs has ended.
+-- given or its parent is gone; any other finds all that lies in its pipes, and the spawners and a delivery also which of their programs has
+-- ended, and a sender whether the injector of a bounce has.
 abbrev pub found_by : State → List ℕ → Program → Ready
 found_by s a (Injector args) = if is_awaiting s a then input_alone false else INPUT_READY
 found_by s a (Cleaner start) = input_alone (lies_ready s a port.Input)
 found_by s a (Sender start) = record {
   links = lies_ready s a port.Clean ∷ lies_ready s a port.Lspawn ∷ lies_ready s a port.Rspawn ∷ false ∷ [];
-  child = None;
+  child = only_child (has_ended s (s.pipework.programs a 0));
 }
 found_by s a (LocalSpawner start) = input_or_child s a
 found_by s a (RemoteSpawner start) = input_or_child s a

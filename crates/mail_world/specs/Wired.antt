@@ -7,7 +7,7 @@ use Rattle.call_fs.specs.declared.past.NeedData.TheVariants.{Give}
 use Rattle.world_events.specs.declared.event.Event.{Event as Kept}
 use Rattle.world_events.specs.declared.event.Event.TheVariants as kept
 -- the pipes of actors, against those of the model
-pub use Rattle.crew_pipes.specs.Wired.{seat, pipe_in, tenant_in, kept_at, slot_in, IsOwnPort, AreWired, HasOwnPlace, IsSlotOf, HasWires, MayRunIn, HaveChildren, AreOver, slots_at, HaveSlots}
+pub use Rattle.world_pipes.specs.Wired.{seat, pipe_in, tenant_in, kept_at, slot_in, IsOwnPort, AreWired, HasOwnPlace, IsSlotOf, HasWires, MayRunIn, HaveChildren, AreOver, slots_at, HaveSlots}
 
 -- What failed was no giving: how much of one was given is told by nothing.
 

@@ -20,9 +20,9 @@ use Rattle.world_events.specs.declared.event.Program.{Program}
 use Rattle.world_events.specs.declared.event.Program.TheVariants.{Injector, Cleaner, Sender, LocalSpawner, RemoteSpawner}
 use Rattle.world_pipes.specs.Pipes.{offered}
 use Rattle.mail_world.specs.Pipework.{Tenant, is_member}
-use Rattle.mail_world.specs.Pipework.Tenant.{Runs}
+use Rattle.mail_world.specs.Pipework.Tenant.{Remote, Runs}
 use Rattle.world_events.specs.Inputs.{with_texts}
-use Rattle.mail_world.specs.History.{Event, Actor, State, netstring, TenantEnds, next_of, program_of, after, EachAllowed, Legal}
+use Rattle.mail_world.specs.History.{Event, Actor, State, netstring, report_text, TenantEnds, next_of, program_of, after, EachAllowed, Legal}
 use Rattle.mail_world.specs.History.Event.{Start, Act, Child, Generation, Report, End, Stop, Moment, Halt}
 use Rattle.mail_world.specs.Known.{known}
 use Rattle.mail_world.specs.Readiness.{found_in}
@@ -32,7 +32,7 @@ pub use Rattle.world_events.specs.Mails.{mail}
 -- the children that actors start, and how many there are
 pub use Rattle.world_events.specs.Children.{Counts, counted, is_bounce, is_delivery, is_bounce_start, is_delivery_start, counts_in, child_of}
 -- with what the command of a user exits
-pub use Rattle.crew_pipes.specs.Commands.{command_exits}
+pub use Rattle.world_pipes.specs.Commands.{command_exits}
 -- the kept events with the input of each child in its start, where a history has it
 pub use Rattle.world_events.specs.Inputs.{with_inputs}
 
@@ -44,13 +44,13 @@ pub record AreMembers (start : ℕ) (sender clean lspawn rspawn : Program) : Typ
   pub rspawn_is : rspawn ≡ RemoteSpawner start
 
 -- A kept event tells an event: all of it but how much a failed write had written, which no program is told. A giving to a child is
--- told by the event that `with_inputs` makes of it.
+-- told by the event that `with_inputs` makes of it. A world keeps of a report its letter and its text, which stand for an output.
 abbrev pub Tells : Kept → Event → Type 0
 Tells event (Start a program) = event ≡ kept.Start a program
 Tells event (Act a own wrote) = event ≡ kept.Act a own
 Tells event (Child parent own a program) = event ≡ kept.Child parent own a program
 Tells event (Generation sender clean lspawn rspawn) = (start : ℕ) × (event ≡ kept.Generation start) × AreMembers start sender clean lspawn rspawn
-Tells event (Report slot letter text) = event ≡ kept.Report slot letter text
+Tells event (Report slot output) = (letter : ℕ) × (text : List ℕ) × (event ≡ kept.Report slot letter text) × (output ≡ report_text letter text)
 Tells event (End a read ready status) = event ≡ kept.End a read ready status
 Tells event (Stop a) = event ≡ kept.Stop a
 Tells event (Moment m) = event ≡ kept.Moment m
@@ -62,7 +62,7 @@ IsByName d (Start a program) = Unit {0}
 IsByName d (Act a own wrote) = Unit {0}
 IsByName d (Child parent own a program) = Unit {0}
 IsByName d (Generation sender clean lspawn rspawn) = Unit {0}
-IsByName d (Report slot letter text) = Unit {0}
+IsByName d (Report slot output) = Unit {0}
 IsByName d (End a read ready status) = Unit {0}
 IsByName d (Stop a) = Unit {0}
 IsByName d (Moment m) = Unit {0}
@@ -205,11 +205,17 @@ abbrev pub most_of : Program → ℕ
 most_of (Cleaner start) = PIECE
 most_of other = 18446744073709551615
 
+-- the status of the program in a slot: in a world a remote program ends with 0
+abbrev pub EndsInWorld : State → Option Tenant → GotData → Type 0
+EndsInWorld s (Some (Runs a)) came = TenantEnds s (Some (Runs a)) came
+EndsInWorld s (Some (Remote true)) came = came ≡ Ended 0
+EndsInWorld s other came = ⊥
+
 -- What comes of what is due to an actor in a world whose next process number is this: of a file call an answer; of a taking all
 -- that lies there; a giving goes well, a program starts, and a command exits as its text says.
 abbrev pub ComesWhole : State → ℕ → List ℕ → Program → NeedData → GotData → Type 0
 ComesWhole s pid a program (File call) came = (told : Told) × (came ≡ Answered told)
-ComesWhole s pid a program (Take (port.Status d)) came = TenantEnds s (s.pipework.programs a d) came
+ComesWhole s pid a program (Take (port.Status d)) came = EndsInWorld s (s.pipework.programs a d) came
 ComesWhole s pid a program (Take port) came = offered (most_of program) (s.pipework.pipes a port) ≡ Some came
 ComesWhole s pid a program (Give port bytes) came = came ≡ Gave
 ComesWhole s pid a program (StartOf asked) came = came ≡ Started pid

@@ -16,16 +16,15 @@ ghost use Rattle.world_events.specs.declared.event.Event.TheVariants as kept;
 ghost use Rattle.mail_world.specs.Kept.{events_of, HasRoom};
 
 use crate::any_machine::AnyMachine;
+use crate::children::own_at;
 use crate::{ActorName, Did, Event, History};
 use call_fs::{
     CallData, CallFs, Fd, GotData, Machine, Need, NeedData, Own, PIECE, Ready, Told, perform,
 };
-use crew_pipes::{exchange, is_of_child, shut_after};
 use mail_bytes::Memory;
-use open_files::{close_all, got_of, keep_open};
 use std::alloc::Global;
-use world_events::{kept_read, need_data, room_to_read};
-use world_pipes::Mouths;
+use world_events::{close_all, got_of, keep_open, kept_read, need_data, room_to_read};
+use world_pipes::{Mouths, exchange, is_of_child, shut_after};
 
 /// An actor of the world.
 #[derive(Drop)]
@@ -143,8 +142,8 @@ impl Actor {
         self.machine.look(at.now, at.ready);
         match self.machine.need() {
             Need::File(call) => {
+                let room = room_to_read(alloc, call)?;
                 let owned = CallData::of(alloc, call)?;
-                let room = room_to_read(alloc, &owned)?;
                 let mut buffer = [0; PIECE];
                 let answer = perform(alloc, disk, at.now, call, &mut buffer);
                 let bytes = kept_read(room, &answer, &buffer);
@@ -240,7 +239,11 @@ impl Actor {
                 shut_after(mouths, self.wire, self.slot, self.name.as_slice());
                 Ok(Some(Did::new(index, Some(status), false)))
             }
-            Came::Due(due) => self.pass(alloc, history, mouths, at, due),
+            Came::Due(mut due) => {
+                let did = self.pass(alloc, history, mouths, at, &mut due);
+                drop(due);
+                did
+            }
         }
     }
 
@@ -252,21 +255,21 @@ impl Actor {
         history: &mut History,
         mouths: &mut Vec<Mouths>,
         at: Setting,
-        due: NeedData,
+        due: &mut NeedData,
     ) -> Result<Option<Did>, Memory>
         requires paid { self.old.owed ≡ None }
         requires looked { IsTrue (looked_of self.old.machine) }
         requires read { present_of self.old.machine ≡ at.now }
         requires found { found_of self.old.machine ≡ at.ready }
-        requires due { need_of self.old.machine ≡ due }
-        requires pass { IsNoAct due }
+        requires due { need_of self.old.machine ≡ due.old }
+        requires pass { IsNoAct due.old }
         requires seat { IsSeated self.old.wire mouths.old.items }
-        requires waits { self.old.wire ≡ None → due ≡ Wait }
-        requires alone { (i : ℕ) → self.old.wire ≡ Some i → GivesNoActor mouths.old.items i due }
-        requires suits { (i : ℕ) → self.old.wire ≡ Some i → SuitsPlace i due }
+        requires waits { self.old.wire ≡ None → due.old ≡ Wait }
+        requires alone { (i : ℕ) → self.old.wire ≡ Some i → GivesNoActor mouths.old.items i due.old }
+        requires suits { (i : ℕ) → self.old.wire ≡ Some i → SuitsPlace i due.old }
         requires room { HasRoom history.old 1 }
         ensures passed { IfOk result (λ did. HasGiven did mouths.old.items mouths.new.items at.pid
-            self.old self.new (events_of history.old) (events_of history.new) at.now at.ready due) }
+            self.old self.new (events_of history.old) (events_of history.new) at.now at.ready due.old) }
         ensures at { IfOk result (λ did. IfSome did (λ did. (did.at ≡ length (events_of history.old)) × (did.ended ≡ None))) }
         ensures idle { IfOk result (λ did. IfSome did (λ did. HasIdled did.idle self.old (events_of history.old) (events_of history.new))) }
         ensures room { OnOk result ((more : ℕ) → HasRoom history.old (more + 1) → HasRoom history.new more) }
@@ -280,16 +283,11 @@ impl Actor {
         };
         let most = self.machine.taking_room();
         let name = self.name.as_slice();
-        let Some(came) = exchange(alloc, mouths, wire, self.slot, name, most, at.pid, &due)? else {
+        let Some(came) = exchange(alloc, mouths, wire, self.slot, name, most, at.pid, due)? else {
             return Ok(None);
         };
         let index = history.len() as u64;
-        let own = Own {
-            read: at.now,
-            ready: at.ready,
-            due,
-            came,
-        };
+        let own = own_at(at, due, came);
         let idle = self.take_in(alloc, &own, index);
         history.put(Event::Act {
             actor: self.name.copy(),

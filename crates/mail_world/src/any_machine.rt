@@ -1,5 +1,5 @@
 // The machine of an actor.
-ghost use Rattle.std.specs.Prelude.{◌≡◌, ◌∷◌, List, ℕ, false, IsTrue, IsOk, OnOk, OnErr};
+ghost use Rattle.std.specs.Prelude.{◌≡◌, List, false, IsTrue, IsOk, OnOk, OnErr};
 ghost use Rattle.call_fs.specs.declared.past.Own.{Own};
 ghost use Rattle.call_fs.specs.Program.{came_of, IsKind, IsWithin};
 ghost use Rattle.world_events.specs.declared.event.Program.{Program as Runs};

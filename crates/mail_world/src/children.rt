@@ -18,7 +18,7 @@ use crate::{ActorName, Books, Did, Event, History};
 use call_fs::{ChildData, GotData, Machine, NeedData, Own};
 use fed_injector::{FedInjector, texts_to_give};
 use local_deliver::Local as Deliverer;
-use local_steps::LocalArgs;
+use local_parts::LocalArgs;
 use mail_bytes::{ByteText, Memory};
 use received_line::Invoked;
 use std::alloc::Global;
@@ -184,14 +184,14 @@ pub fn child_event(actor: &ActorName, own: Own, born: Born) -> Event
     }
 }
 
-/// What was due in this setting, and came.
-pub fn own_at(at: Setting, due: NeedData, came: GotData) -> Own
-    ensures { result ≡ record { read = at.now; ready = at.ready; due = due; came = came } }
+/// What was due in this setting, and came. What was due is taken, and `Wait` is left in its place.
+pub fn own_at(at: Setting, due: &mut NeedData, came: GotData) -> Own
+    ensures { result ≡ record { read = at.now; ready = at.ready; due = due.old; came = came } }
 {
     Own {
         read: at.now,
         ready: at.ready,
-        due,
+        due: std::mem::replace(due, NeedData::Wait),
         came,
     }
 }

@@ -6,13 +6,13 @@ ghost use Rattle.mail_world.specs.Crew.{IsFirst, AreNew, lasts};
 use crate::ActorName;
 use crate::actor::Actor;
 use crate::any_machine::AnyMachine;
-use crew_pipes::{MEMBERS, SPAWNER};
 use local_spawn::LocalSpawn;
 use mail_bytes::Memory;
 use queue_clean::Cleaner;
 use remote_spawn::RemoteSpawn;
 use send_core::Sender;
 use std::alloc::Global;
+use world_pipes::{MEMBERS, SPAWNER};
 
 /// The first of these that lives.
 pub fn first_alive(crew: &[Actor]) -> Option<ActorName>

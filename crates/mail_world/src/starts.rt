@@ -1,5 +1,5 @@
 // The actors that live, in the order of starts.
-ghost use Rattle.std.specs.Prelude.{◌≡◌, ◌≤◌, ℕ, option_map};
+ghost use Rattle.std.specs.Prelude.{◌≡◌, ◌≤◌, option_map};
 ghost use Rattle.mail_world.specs.Starts.{IsNextStart, start_at};
 
 use crate::actor::Actor;

@@ -34,17 +34,16 @@ use crate::starts::next_living;
 use crate::{ActorName, Books, Event, History, Program, WorldError};
 use actor_names::is_mail_name;
 use call_fs::{CallFs, CrashFs, GotData, NeedData, Port, Survival, Taken};
-use crew_pipes::{
-    SPAWNER, add_pipes, due_slot, first_unreported, is_unreported, pipes_for, pipes_of, ready_at,
-    renew, seat,
-};
 use fed_injector::FedInjector;
 use mail_bytes::{ByteText, Memory};
 use received_line::Invoked;
 use std::alloc::Global;
 use std::marker::Model;
 use world_events::{MAIL_USER, Places, Starts, child_of, counts_with, mail_of, started_by};
-use world_pipes::{Mouths, put_report};
+use world_pipes::{
+    Mouths, SPAWNER, add_pipes, due_slot, first_unreported, is_unreported, pipes_for, pipes_of,
+    put_report, ready_at, renew, seat,
+};
 
 /// The process number of the first actor.
 const FIRST_PID: u32 = 77;
@@ -213,16 +212,16 @@ impl<D: CallFs> World<D> {
         ensures err { OnErr result (self.new ≡ self.old) }
     {
         let (pid, start) = (self.next_pid, self.present);
-        let invoked = Invoked::Uid(MAIL_USER);
-        let mut injector = FedInjector::new(alloc, MAIL_USER, pid, invoked, start)?;
-        let arguments = mail_of(alloc, pid, start, message, envelope)?;
-        let message = ByteText::from_slice(alloc, message)?;
-        injector.give(message, ByteText::from_slice(alloc, envelope)?);
         // for its start, and for the stop of each actor, of this one too
         self.history.reserve(self.actors.len() + 2)?;
         self.actors.reserve(1)?;
         self.books.make_room()?;
         self.starts.make_room(1)?;
+        let arguments = mail_of(alloc, pid, start, message, envelope)?;
+        let message = ByteText::from_slice(alloc, message)?;
+        let envelope = ByteText::from_slice(alloc, envelope)?;
+        let mut injector = FedInjector::new(alloc, MAIL_USER, pid, Invoked::Uid(MAIL_USER), start)?;
+        injector.give(message, envelope);
         self.places
             .add(alloc, name.as_slice(), self.actors.len() - self.crew)?;
         let entry = next_entry(&self.books);
@@ -319,8 +318,10 @@ impl<D: CallFs> World<D> {
             ready: ready_at(&self.mouths, acting.wire, acting.machine.awaits()),
             pid: self.next_pid,
         };
-        if let Some(due) = acting.asks(alloc, &self.mouths, at)? {
-            return self.serve(alloc, actor, due);
+        if let Some(mut due) = acting.asks(alloc, &self.mouths, at)? {
+            let did = self.serve(alloc, actor, &mut due);
+            drop(due);
+            return did;
         }
         let did = acting.act(
             alloc,
@@ -339,19 +340,24 @@ impl<D: CallFs> World<D> {
         Ok(did)
     }
 
-    /// What of a child of its is due to this actor. The condition: this is.
-    fn serve(&mut self, alloc: Global, actor: &ActorName, due: NeedData) -> Result<Did, WorldError>
-        requires { IsDueOfChild self.old actor.now due }
+    /// What of a child of its is due to this actor. It may be taken. The condition: this is.
+    fn serve(
+        &mut self,
+        alloc: Global,
+        actor: &ActorName,
+        due: &mut NeedData,
+    ) -> Result<Did, WorldError>
+        requires { IsDueOfChild self.old actor.now due.old }
         ensures served { IfOk result (λ did. Serves D.disk actor.now self.old self.new did) }
         ensures waits { (name : List ℕ) → result ≡ Err (WorldError.NotWaiting name)
             → (name ≡ actor.now) × Waits (known self.old.events) self.old.present actor.now }
         ensures others { IfErr result (λ why. (why ≡ WorldError.Memory) ⊎ (why ≡ WorldError.NotWaiting actor.now)) }
         ensures err { OnErr result (self.new ≡ self.old) }
     {
-        match due {
+        match &*due {
             NeedData::Start(_) => Ok(self.start_child(alloc, actor, due)?),
-            NeedData::Give(..) if actor.is(b"lspawn") => Ok(self.fill_child(alloc, actor, due)?),
-            NeedData::Give(..) => Ok(self.feed_child(alloc, actor, due)?),
+            NeedData::Give(..) if actor.is(b"lspawn") => Ok(self.fill(alloc, actor, due)?),
+            NeedData::Give(..) => Ok(self.feed(alloc, actor, due)?),
             _ => match self.take_status(alloc, actor, due)? {
                 Some(did) => Ok(did),
                 None => Err(WorldError::NotWaiting(actor.copy())),
@@ -380,24 +386,24 @@ impl<D: CallFs> World<D> {
         &mut self,
         alloc: Global,
         actor: &ActorName,
-        due: NeedData,
+        due: &mut NeedData,
     ) -> Result<Did, Memory>
-        requires due { IsDueOfChild self.old actor.now due }
-        requires start { IsStart due }
+        requires due { IsDueOfChild self.old actor.now due.old }
+        requires start { IsStart due.old }
         ensures served { IfOk result (λ did. Serves D.disk actor.now self.old self.new did) }
         ensures err { OnErr result (self.new ≡ self.old) }
     {
         let at = self.setting(actor);
         let parent_at = place_among(&self.places, self.crew, actor).unwrap();
         let place = self.actors.len() - self.crew;
-        let NeedData::Start(asked) = &due else {
+        let NeedData::Start(asked) = &*due else {
             unreachable!()
         };
         let counts = counts_with(self.bounces, self.deliveries, asked);
         let born = child_of(alloc, actor, asked, counts, at.pid, at.now)?;
         let machine = machine_of(alloc, asked, at)?;
         let own_pipes = pipes_of(alloc, asked)?;
-        let number = due_slot(&due);
+        let number = due_slot(due);
         room_for_one(
             &mut self.actors,
             &mut self.mouths,
@@ -427,9 +433,9 @@ impl<D: CallFs> World<D> {
 
     /// The local spawner gives a delivery its whole input, which lies in its pipe then; if that is over, nobody takes it. The conditions: it
     /// is the local spawner, this is due, and there is a child.
-    fn fill_child(&mut self, alloc: Global, actor: &ActorName, due: NeedData) -> Result<Did, Memory>
-        requires due { IsDueOfChild self.old actor.now due }
-        requires give { IsGive due }
+    fn fill(&mut self, alloc: Global, actor: &ActorName, due: &mut NeedData) -> Result<Did, Memory>
+        requires due { IsDueOfChild self.old actor.now due.old }
+        requires give { IsGive due.old }
         requires spawner { actor.now ≡ codes "lspawn" }
         ensures served { IfOk result (λ did. Serves D.disk actor.now self.old self.new did) }
         ensures err { OnErr result (self.new ≡ self.old) }
@@ -439,9 +445,9 @@ impl<D: CallFs> World<D> {
         // for this event, and for the stop of each actor
         let room = self.actors.len() + 1;
         let wire = self.actors[parent_at].wire;
-        let child = child_at(&self.mouths, wire, due_slot(&due), &self.places, self.crew).unwrap();
+        let child = child_at(&self.mouths, wire, due_slot(due), &self.places, self.crew).unwrap();
         let to = self.actors[child].wire.unwrap();
-        let NeedData::Give(_, bytes) = &due else {
+        let NeedData::Give(_, bytes) = &*due else {
             unreachable!()
         };
         self.mouths[to].make_room(Port::Input, bytes.as_slice().len())?;
@@ -459,9 +465,9 @@ impl<D: CallFs> World<D> {
 
     /// This actor gives its injector its whole input; if that was stopped, it goes nowhere. The conditions: it isn't the local spawner,
     /// this is due, and there is a child.
-    fn feed_child(&mut self, alloc: Global, actor: &ActorName, due: NeedData) -> Result<Did, Memory>
-        requires due { IsDueOfChild self.old actor.now due }
-        requires give { IsGive due }
+    fn feed(&mut self, alloc: Global, actor: &ActorName, due: &mut NeedData) -> Result<Did, Memory>
+        requires due { IsDueOfChild self.old actor.now due.old }
+        requires give { IsGive due.old }
         requires other { actor.now ≢ codes "lspawn" }
         ensures served { IfOk result (λ did. Serves D.disk actor.now self.old self.new did) }
         ensures err { OnErr result (self.new ≡ self.old) }
@@ -472,13 +478,13 @@ impl<D: CallFs> World<D> {
         let room = self.actors.len() + 1;
         let parent = &mut self.actors[parent_at];
         let wire = parent.wire;
-        let child = child_at(&self.mouths, wire, due_slot(&due), &self.places, self.crew).unwrap();
+        let child = child_at(&self.mouths, wire, due_slot(due), &self.places, self.crew).unwrap();
         let (message, envelope, kept_message, kept_envelope) = ready_to_feed(
             alloc,
             &mut self.history,
             parent,
             room,
-            &due,
+            due,
         )?;
         let own = own_at(at, due, GotData::Gave);
         let did = take_in(alloc, parent, &own, at, self.history.len());
@@ -502,15 +508,15 @@ impl<D: CallFs> World<D> {
         &mut self,
         alloc: Global,
         actor: &ActorName,
-        due: NeedData,
+        due: &mut NeedData,
     ) -> Result<Option<Did>, Memory>
-        requires due { IsDueOfChild self.old actor.now due }
-        requires take { IsTake due }
+        requires due { IsDueOfChild self.old actor.now due.old }
+        requires take { IsTake due.old }
         ensures served { IfOk result (λ did. IfSome did (λ did. Serves D.disk actor.now self.old self.new did)) }
         ensures waits { IfOk result (λ did. IsNone did → Waits (known self.old.events) self.old.present actor.now × (self.new ≡ self.old)) }
         ensures err { OnErr result (self.new ≡ self.old) }
     {
-        let slot = due_slot(&due);
+        let slot = due_slot(due);
         let at = self.setting(actor);
         let parent_at = place_among(&self.places, self.crew, actor).unwrap();
         let wire = self.actors[parent_at].wire.unwrap();

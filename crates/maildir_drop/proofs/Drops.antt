@@ -12,7 +12,7 @@ use Rattle.call_fs.specs.declared.past.GotData.{GotData}
 use Rattle.call_fs.specs.declared.past.Own.{Own}
 use Rattle.call_fs.specs.Apply.{Apply, changed, grown, synced, with_new, with_name, without_open, empty_file}
 use Rattle.call_fs.specs.Columns.{IsAnswerTo}
-use Rattle.call_fs.specs.Disk.{File, Open as OpenFile, Disk, IsSynced}
+use Rattle.call_fs.specs.Disk.{File, Open as OpenFile, Disk, IsSynced, IsWhole}
 use Rattle.call_fs.specs.Past.{LeadsTo, Makes}
 use Rattle.call_fs.specs.Program.{MayCome}
 use Rattle.call_fs.proofs.Maps.{put_same, put_at_same, put_at_other}
@@ -25,12 +25,12 @@ use Rattle.maildir_drop.specs.declared.row.Outcome.TheVariants.{Dropped, Failed}
 use Rattle.maildir_drop.specs.declared.row.Row.{Row}
 use Rattle.maildir_drop.specs.declared.row.Row.TheVariants as at
 use Rattle.maildir_drop.specs.declared.row.Why.TheVariants as why
-use Rattle.maildir_drop.specs.Laws.{HasDropped, IsWhole}
+use Rattle.maildir_drop.specs.Laws.{HasDropped}
 use Rattle.maildir_drop.specs.Names.{names_of, pair_at, is_name, file_name}
 use Rattle.maildir_drop.specs.Rests.{IsKept, IsKeptOpen, LeavesAlone, Rests, RestsOn, Writing, due_of}
 use Rattle.maildir_drop.specs.Run.{IsRun}
 use Rattle.maildir_drop.specs.Table.{Place, appended, begin_row, begun, create_row, due_at, failed, is_complete, link_row, moved, next_row, place_after, sync_row, taken_row}
-use Rattle.maildir_drop.proofs.Coming.{by_fit}
+use Rattle.call_fs.proofs.Coming.{by_fit}
 
 -- The names in `tmp` and `new` differ.
 

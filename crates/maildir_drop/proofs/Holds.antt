@@ -25,7 +25,7 @@ use Rattle.maildir_drop.specs.declared.row.Why.TheVariants as why
 use Rattle.maildir_drop.specs.Names.{names_of, pair_at, is_name}
 use Rattle.maildir_drop.specs.Run.{IsRun}
 use Rattle.maildir_drop.specs.Table.{Place, appended, begin_row, create_row, due_at, failed, is_complete, link_row, moved, next_row, place_after, sync_row, taken_row}
-use Rattle.maildir_drop.proofs.Coming.{by_fit}
+use Rattle.call_fs.proofs.Coming.{by_fit}
 
 -- what a row holds open
 abbrev pub HoldsRow : (ℕ → Option Mode) → Row → Type 0

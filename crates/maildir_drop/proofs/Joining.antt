@@ -2,7 +2,7 @@
 use Rattle.std.proofs.Common.{◌≡◌, ℕ, ◌+◌, ◌<◌, List, [], ◌∷◌, ◌++◌, length, take, get_or, sym, ap, ◌∙◌, append_assoc}
 use Rattle.std.specs.declared.vec.Vec.{Vec}
 use Rattle.std.proofs.lemmas.List.{append-nil, take_more}
-use Rattle.maildir_drop.specs.Pieces.{joined}
+use Rattle.mail_bytes.specs.Blocks.{joined}
 
 module _ {Z : Type 0} where
   joined_push : (blocks : List (Vec ℕ Z)) (block : Vec ℕ Z) → joined (blocks ++ block ∷ []) ≡ joined blocks ++ block.items

@@ -4,8 +4,6 @@ pub mod Forms
 pub mod Joining
 -- a message in pieces
 pub mod Cutting
--- what may come of a file call
-pub mod Coming
 -- what a drop holds open
 pub mod Holds
 -- why a drop ended as it did

@@ -32,7 +32,7 @@ use Rattle.maildir_drop.specs.Causes.IsDeferred.{CallFailed, IsMissing, HasNoFor
 use Rattle.maildir_drop.specs.Laws.{HasDropped}
 use Rattle.maildir_drop.specs.Names.{names_of, pair_at, is_name}
 use Rattle.maildir_drop.specs.Run.{IsRun}
-use Rattle.maildir_drop.proofs.Coming.{by_fit}
+use Rattle.call_fs.proofs.Coming.{by_fit}
 use Rattle.maildir_drop.specs.Table.{Place, answered, appended, begin_row, create_row, due_at, failed, is_complete, link_row, moved, next_row, place_after, sync_row}
 
 -- what a row rests on

@@ -1,7 +1,7 @@
 -- The laws of drops.
-use Rattle.std.specs.Prelude.{◌≡◌, ◌⊎◌, ℕ, List, Some}
+use Rattle.std.specs.Prelude.{◌≡◌, ◌⊎◌, List}
 use Rattle.call_fs.specs.declared.past.Own.{Own}
-use Rattle.call_fs.specs.Disk.{Disk, IsSynced}
+use Rattle.call_fs.specs.Disk.{Disk, IsWhole}
 use Rattle.call_fs.specs.Past.{HasCall, LeadsTo}
 use Rattle.maildir_drop.specs.declared.arguments.Arguments.{Arguments}
 use Rattle.maildir_drop.specs.declared.row.Attempt.{Attempt}
@@ -29,10 +29,6 @@ pub record DroppedIfLinked : Type 0 where
 abbrev pub FailuresHaveCauses : Type 0
 FailuresHaveCauses = (args : Arguments) (past : List Own) (attempt : Attempt) (why : Why) → IsRun args past
     → (place_after args past).row ≡ at.Ended attempt (Failed why) → IsCause (names_of args) past why
-
--- the file of this name holds just these bytes, and all of them are on the disk
-abbrev pub IsWhole : Disk → List ℕ → List ℕ → Type 0
-IsWhole d name bytes = (k : ℕ) × (d.names name ≡ Some k) × IsSynced (d.files k) bytes
 
 -- If its calls alone were made on a disk: the link is due only for a file that is complete and on the disk, and once it is
 -- made, that file stands in `new`.

@@ -1,7 +1,5 @@
 -- the names of a drop
 pub mod Names
--- a message in blocks
-pub mod Pieces
 -- what the fields of pieces keep
 pub mod PiecesInside
 -- what a drop does next, after its past

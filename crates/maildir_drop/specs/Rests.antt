@@ -11,13 +11,12 @@ use Rattle.std.specs.Prelude.{◌≡◌, ℕ, List, [], ◌++◌, Some}
 use Rattle.call_fs.specs.declared.calls.Fd.{Fd}
 use Rattle.call_fs.specs.declared.modes.Mode.TheVariants.{Created}
 use Rattle.call_fs.specs.declared.past.NeedData.{NeedData}
-use Rattle.call_fs.specs.Disk.{Disk, Open as OpenFile}
+use Rattle.call_fs.specs.Disk.{Disk, Open as OpenFile, IsWhole}
 use Rattle.maildir_drop.specs.declared.arguments.Arguments.{Arguments}
 use Rattle.maildir_drop.specs.declared.names.DropNames.{DropNames}
 use Rattle.maildir_drop.specs.declared.row.Outcome.TheVariants.{Dropped, Failed}
 use Rattle.maildir_drop.specs.declared.row.Row.{Row}
 use Rattle.maildir_drop.specs.declared.row.Row.TheVariants as at
-use Rattle.maildir_drop.specs.Laws.{IsWhole}
 use Rattle.maildir_drop.specs.Names.{names_of, pair_at}
 use Rattle.maildir_drop.specs.Table.{Place, due_at}
 

@@ -6,16 +6,10 @@ use crate::names::{DropNames, pair};
 use crate::pieces::Pieces;
 use crate::steps::{begin_row, create_row, link_row, next_row, sync_row, why_of};
 use crate::{Attempt, DEFER, End, Outcome, Row, Why};
-use call_fs::{Answer, Call, Fd, Got, Machine, Need, Ready};
+use call_fs::{Answer, Call, Fd, Got, Machine, Need, Ready, UNREADY};
 use mail_bytes::Memory;
 use queue_limits::{DONE, MEMORY};
 use std::alloc::Global;
-
-/// Nothing is ready.
-const UNREADY: Ready = Ready {
-    links: [false; 4],
-    child: None,
-};
 
 /// The delivery of one message into a maildir, as a machine (maildir(5)). It creates a file in `tmp` under a name that no
 /// other delivery uses, writes and syncs it, closes it, links it into `new` and unlinks it in `tmp`. What it does depends
@@ -36,7 +30,7 @@ impl MaildirDrop {
     ghost use Rattle.call_fs.specs.declared.past.Own.{Own};
     ghost use Rattle.call_fs.specs.Program.{due_of, came_of, IsKind};
     ghost use Rattle.maildir_drop.specs.declared.arguments.Arguments.{Arguments};
-    ghost use Rattle.maildir_drop.specs.Pieces.{joined};
+    ghost use Rattle.mail_bytes.specs.Blocks.{joined};
     ghost use Rattle.maildir_drop.specs.Ends.{end_data, end_is, end_with, is_linked};
     ghost use Rattle.maildir_drop.specs.Stands.{Stands, due_now, place_of};
     ghost use Rattle.maildir_drop.specs.Table.{Next, appended, answered, link_due, moved};

@@ -40,7 +40,7 @@ impl DropNames {
     }
 }
 
-/// The names of a try.
+/// The names of a try. The error: out of memory.
 pub fn pair(
     alloc: Global,
     dir: &[u8],

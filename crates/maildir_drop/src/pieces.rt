@@ -1,7 +1,7 @@
 // A message in the pieces in which it is written.
 ghost use Rattle.std.specs.Prelude.{◌≡◌, ◌≤◌, ◌++◌, ◌↔◌, [], IfOk, OnOk, IsTrue, All, take, drop, length};
 ghost use Rattle.call_fs.specs.declared.file_system.TheConstants.{PIECE};
-ghost use Rattle.maildir_drop.specs.Pieces.{joined};
+ghost use Rattle.mail_bytes.specs.Blocks.{joined};
 
 use call_fs::PIECE;
 use mail_bytes::{ByteText, Memory};
@@ -31,6 +31,7 @@ impl Model for Pieces {
 
 impl Pieces {
     /// The bytes of these blocks, one after the other. The condition: a block has at most 8192 bytes.
+    /// The error: out of memory.
     pub fn of(alloc: Global, blocks: &[Vec<u8>]) -> Result<Pieces, Memory>
         requires { All (λ block. length block.items ≤ PIECE) blocks.now }
         ensures { IfOk result (λ pieces. pieces ≡ joined blocks.now) }

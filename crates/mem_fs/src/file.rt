@@ -65,7 +65,7 @@ impl FileData {
         }
     }
 
-    /// A file of the opening contents.
+    /// A file of the opening contents. The error: out of memory.
     pub fn settled(alloc: Global, bytes: &[u8]) -> Result<Self, Memory>
         ensures { IfOk result (λ file. file ≡ settled_file bytes.now) }
     {
@@ -123,7 +123,7 @@ impl FileData {
         let _ = &self.bytes;
     }
 
-    /// A file with just these bytes, all of them on the disk, and its moment.
+    /// A file with just these bytes, all of them on the disk, and its moment. The error: out of memory.
     pub fn settled_as(&self, alloc: Global, bytes: Vec<u8>) -> Result<Self, Memory>
         ensures { IfOk result (λ file. file ≡ settled bytes.items self.now) }
     {
@@ -280,8 +280,11 @@ fn keep(kept: &mut Vec<u8>, bytes: &[u8])
 /// What a number has: how many names, how many open descriptors, and its file.
 #[derive(Drop)]
 pub struct Inode {
+    /// How many names lead to it.
     pub links: usize,
+    /// How many open descriptors it has.
     pub opens: usize,
+    /// The file itself.
     pub file: FileData,
 }
 

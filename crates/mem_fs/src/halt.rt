@@ -62,7 +62,7 @@ fn settled_entry(
     Ok((settled, next))
 }
 
-/// All entries then, one after another.
+/// All entries then, one after another. The error: out of memory.
 pub fn settled_entries(
     alloc: Global,
     how: Survival,

@@ -76,7 +76,7 @@ fn junk_bytes(
     Ok((bytes, next))
 }
 
-/// A file's bytes, of a length that is drawn first, and the x that follows.
+/// A file's bytes, of a length that is drawn first, and the x that follows. The error: out of memory.
 pub fn junked(alloc: Global, file: &FileData, x: u64) -> Result<(Vec<u8>, u64), Memory>
     requires { x < 2 ^ 32 }
     ensures value { IfOk result (λ made. (made.0.items, made.1) ≡ junked file.now x) }

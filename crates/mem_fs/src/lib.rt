@@ -1,4 +1,13 @@
 //! A disk in memory, over a tree of names and plain lists of files, which tells what it holds and fails by plan.
+//!
+//! # What is claimed
+//!
+//! - The disk in memory meets each clause of the trait; it takes the next pick if that is free, else the least free
+//!   number, and the least descriptor from 1. Exactly the planned calls fail: `impl CallFs for MemFs`: `went`, and
+//!   `counts` (the record `Counts`: what was planned, and by `takes` the number, the descriptor and the picks
+//!   left).
+//! - A disk with chosen contents, its names in order and their bytes; a machine stop by a choice, and a new file of
+//!   a chosen number: `MemFs::{new, dir, place, name_after, bytes_of, is_free, create_picked, halt}`.
 #![tactic(auto)]
 
 mod disk;

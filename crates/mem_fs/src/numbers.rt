@@ -5,7 +5,7 @@ ghost use Rattle.std.specs.Ordering.{nat_cmp};
 ghost use Rattle.call_fs.specs.Maps.{put};
 ghost use Rattle.mem_fs.specs.Tables.{at_number, AreNumbersInOrder, IsAt, IsPlace};
 
-/// Where the number is, or where it would go.
+/// Where the number is, or where it would go. `Ok` if it is there, `Err` if not.
 pub fn place_of<V>(entries: &[(u64, V)], number: u64) -> Result<usize, usize>
     requires { AreNumbersInOrder entries.now }
     ensures { IsPlace nat_cmp entries.now number result }

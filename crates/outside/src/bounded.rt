@@ -27,7 +27,7 @@ impl Model for BoundedBytes {
 }
 
 impl BoundedBytes {
-    /// No bytes yet, and room for so many.
+    /// No bytes yet, and room for so many. The error: out of memory.
     pub fn new(alloc: Global, room: usize) -> Result<Self, Memory>
         ensures { IfOk result (λ b. b ≡ record { bytes = []; room = room }) }
     {

@@ -5,6 +5,18 @@
 //! contract of this crate is what each trait tells of its calls. If one can fail it counts its failures, and
 //! answers a failure only if that count rose in the call, or stands at its last value. The calls are those of
 //! read(2), write(2), time(2), getpid(2), execvp(3) and wait(2).
+//!
+//! # What is claimed
+//!
+//! - The forms in memory of sources, sinks, clock, posts and spawner: what each tells, and which calls fail: those
+//!   that are planned to and, of a sink and a feeding, those for whose bytes there isn't room, and no others. What
+//!   a sink or a child has taken then; with which words each child was started, what each was fed, and how each
+//!   ended: traits `Source`, `Sink`, `Clock`, `Posts`, `Spawner` and their forms; `MemSink::taken`,
+//!   `MemSpawner::{words, fed, is_finished}`.
+//! - A count of failures rises only with a failure, of every source, sink, spawner and of all posts: those traits:
+//!   clause `cause`, by `CountsFailures`.
+//! - Taking bytes from a source until so many have come, or it ends or fails: they are the next ones, and why no
+//!   more were taken: `take_up_to`.
 #![tactic(auto)]
 
 mod bounded;

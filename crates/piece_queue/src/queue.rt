@@ -29,7 +29,7 @@ pub struct PieceQueue {
 
 impl PieceQueue {
     /// A queue with room for so many pieces, the pass that opens channels, and the pass that takes. The condition: there is
-    /// room for one.
+    /// room for one. The error: out of memory.
     pub fn new(alloc: Global, room: usize) -> Result<(PieceQueue, QueuePass, QueuePass), Memory>
         requires { 0 < room }
         ensures room { IfOk result (λ q. ruled_capacity q.0.line ≡ room) }

@@ -2,20 +2,20 @@
 use Rattle.std.proofs.Common.{◌≡◌, ◌≢◌, ◌⊎◌, ℕ, List, [], ◌++◌, length, Option, Some, None, Result, Err, inl, inr, refl, sym, ◌∙◌, ap, subst, ⊎_elim, arith, length-append, ◌<◌}
 use Rattle.std.proofs.lemmas.List.{append-nil}
 use Rattle.mail_bytes.specs.Told.{Rose, Meets, OnTold}
-use Rattle.play_lines.specs.Contents.{Content}
+use Rattle.script_lines.specs.Contents.{Content}
 use Rattle.qmail_top.specs.declared.play_command.Failure.{Failure}
 use Rattle.qmail_top.specs.declared.play_command.Failure.TheVariants.{Memory, Output, Input, Malformed}
-use Rattle.play_lines.specs.Lines.{IsScript, IsBadLine, IsRefused, most_bytes}
+use Rattle.script_lines.specs.Lines.{IsScript, IsBadLine, IsRefused, most_bytes}
 use Rattle.mem_fs.proofs.InTurn.{told_weaker}
 use Rattle.mail_world.specs.History.{Legal}
-use Rattle.sender_law.proofs.Exist.{controls_exist}
+use Rattle.program_law.proofs.Sender.Exist.{controls_exist}
 use Rattle.world_law.proofs.Alone.{stays_safe}
 use Rattle.world_law.proofs.Promise.{headline}
 use Rattle.qmail_top.specs.SafePlays.{IsSafePrefixAtMost, PrintsSafely}
 use Rattle.qmail_top.specs.Command.{Counted, HasReason, status_of, IsReading, IsChecked}
 use Rattle.scenario.specs.Deeds.{history_of}
 use Rattle.scenario.specs.Text.{BeginsAtMost, IsPrefixAtMost, Prints, script_line, IsTakenText, PrintsBadLine}
-use Rattle.play_lines.proofs.Scripts.{no_refusal}
+use Rattle.script_lines.proofs.Scripts.{no_refusal}
 use Rattle.scenario.proofs.WholePlays.{prefix_at_most}
 
 -- a script that was read is all that its source had

@@ -14,7 +14,7 @@ use Rattle.queue_command.specs.declared.input.Form.TheVariants.{Beside, Netstrin
 use Rattle.queue_command.specs.Inputs.{Stream}
 use Rattle.queue_command.specs.Runs.{Outside}
 use Rattle.queue_command.specs.Injected.{HasInjected}
-use Rattle.play_lines.specs.Lines.{IsRefused, most_bytes}
+use Rattle.script_lines.specs.Lines.{IsRefused, most_bytes}
 use Rattle.qmail_top.specs.declared.play_command.Failure.{Failure}
 use Rattle.qmail_top.specs.declared.play_command.Failure.TheVariants.{Memory, Output, Input, Malformed}
 use Rattle.queue_limits.specs.declared.statuses.TheConstants.{INPUT, MALFORMED, MEMORY, OUTPUT}

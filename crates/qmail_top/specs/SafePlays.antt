@@ -4,7 +4,7 @@ use Rattle.address_rules.specs.declared.controls.Controls.{Controls}
 use Rattle.mail_world.specs.Waiting.{HasNoGeneration}
 use Rattle.scenario.specs.Deeds.{history_of}
 use Rattle.scenario.specs.Text.{IsPrefix, Prints}
-use Rattle.sender_law.specs.Control.{AreControls}
+use Rattle.program_law.specs.Sender.Control.{AreControls}
 use Rattle.world_law.specs.Headline.{EachPromised, StaysSafe}
 
 -- The script with these bytes prints this. The control files of the disk that it begins with say these controls, and the promise holds by them

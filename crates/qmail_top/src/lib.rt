@@ -4,6 +4,26 @@
 //! what a script is and what it prints. `queue` puts a message into a queue (the crate `queue_command`), `audit` prints
 //! what a queue holds (`audit_command`), and `clean` runs the cleaner (`clean_command`). The exit statuses are those of
 //! qmail-queue(8) if it has one.
+//!
+//! # What is claimed
+//!
+//! - 100 only if the words are no command, and for those 100 or 51. At 100 the log took the line `usage`, or a
+//!   prefix of it if it failed. What each command leaves untouched: `qmail`: `usage`, `no_command`, `usage_line`,
+//!   and those of "untouched".
+//! - `queue`: a whole injection, for what the words say: `qmail`: `queue` (by `HasRunQueue`).
+//! - `audit`: its lines, its statuses and what it leaves: `qmail`: `audit` (by `HasAudited`), `audit_unwritten`.
+//! - `clean`: a whole run of the cleaner, with the commands of standard input; or there was no memory for its
+//!   words, and nothing was done: `qmail`: `clean` (by `WasCleaned`).
+//! - `play`: with status 0 the output took exactly what the script prints, and the script was read to its end. The
+//!   history that it played is its own, from a disk that has controls, legal, and as promised at each prefix by
+//!   them. If no generation was started in it, it is safe whatever controls are meant, with each accepted message
+//!   in todo. With 91 the number of the first bad line, or a prefix of that if the output failed; with any other
+//!   status nothing, or a prefix of what the script prints. And nothing before the source has answered that it has
+//!   ended, if it tells that, or the script was too long: `qmail`: `prints`, `ended`, `told_end`, `begins`,
+//!   `refuses`, `reached`, `unended`.
+//! - `play`: 91 only if the script isn't one, and then never 0 or 53; 53 and 54 only if that count rose, or stands
+//!   at its last value, and 51 only if neither did. A script that was read gives 0 or 51 if no count rose: `qmail`:
+//!   `malformed`, `checked`, `output`, `input`, `unfailed`, `complete`, `known`.
 #![tactic(auto)]
 
 mod play_command;

@@ -1,8 +1,8 @@
 // The command `play`: reads a script, checks it and plays it.
 ghost use Rattle.std.specs.Prelude.{◌≡◌, ◌≢◌, ◌⊎◌, ◌++◌, ◌∷◌, [], List, ℕ, true, IsOk, IfOk, IfErr, OnOk, Contains, Err, length, ◌<◌};
 ghost use Rattle.mail_bytes.specs.Told.{Rose, Meets, OnTold};
-ghost use Rattle.play_lines.specs.Contents.{Content};
-ghost use Rattle.play_lines.specs.Lines.{IsScript, IsRefused, most_bytes};
+ghost use Rattle.script_lines.specs.Contents.{Content};
+ghost use Rattle.script_lines.specs.Lines.{IsScript, IsRefused, most_bytes};
 ghost use Rattle.scenario.specs.Text.{Prints, BeginsAtMost, PrintsBadLine};
 ghost use Rattle.qmail_top.specs.SafePlays.{IsSafePrefixAtMost, PrintsSafely};
 ghost use Rattle.qmail_top.specs.Command.{IsReading, IsChecked, IsPrintedAtEnd, HasReason, NoneFailed, IsBeforeOutput, status_of};

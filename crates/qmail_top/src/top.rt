@@ -3,8 +3,8 @@ ghost use Rattle.std.specs.Prelude.{◌≡◌, ◌≢◌, ◌⊎◌, ◌++◌, �
 ghost use Rattle.mail_bytes.specs.Told.{Rose, Meets, OnTold};
 ghost use Rattle.command_words.specs.declared.command.QueueWords.{QueueWords as Wanted};
 ghost use Rattle.command_words.specs.Reads.{IsNoCommand};
-ghost use Rattle.play_lines.specs.Contents.{Content};
-ghost use Rattle.play_lines.specs.Lines.{IsScript, IsRefused, most_bytes};
+ghost use Rattle.script_lines.specs.Contents.{Content};
+ghost use Rattle.script_lines.specs.Lines.{IsScript, IsRefused, most_bytes};
 ghost use Rattle.scenario.specs.Text.{IsTakenText, PrintsBadLine};
 ghost use Rattle.audit_command.specs.Audited.{HasAudited};
 ghost use Rattle.qmail_top.specs.SafePlays.{IsSafePrefixAtMost, PrintsSafely};

@@ -6,7 +6,8 @@ use Rattle.std.proofs.lemmas.Bool.{eqb-false, ltb-false}
 use Rattle.std.proofs.lemmas.Bool.Decides.{eqb_tells}
 use Rattle.std.proofs.lemmas.List.{append-nil}
 use Rattle.std.proofs.lemmas.List.Elements.{All-from_recursion, recursion_from_All, All-nil, All-cons}
-use Rattle.queue_clean.specs.Commands.{commands, put_before, ended, IsPlain, IsCut}
+use Rattle.queue_clean.specs.Commands.{commands, put_before, ended, IsCut}
+use Rattle.mail_bytes.specs.Texts.{HasNoNul}
 use Rattle.queue_clean.specs.Machine.{is_nul}
 
 -- no byte is NUL, byte by byte
@@ -21,7 +22,7 @@ plain_is : (bytes : List ℕ) → Plain bytes → commands bytes ≡ []
 plain_is [] h = refl
 plain_is (b ∷ bs) h = pick_other b ([] ∷ commands bs) (put_before b (commands bs)) h.0 ∙ ap (put_before b) (plain_is bs h.1)
 
-pub commands_plain : (bytes : List ℕ) → IsPlain bytes → commands bytes ≡ []
+pub commands_plain : (bytes : List ℕ) → HasNoNul bytes → commands bytes ≡ []
 commands_plain bytes h = plain_is bytes (recursion_from_All (λ b. b ≢ 0) bytes h)
 
 -- a command and its NUL, and more
@@ -30,19 +31,19 @@ ended_is [] more h = refl
 ended_is (b ∷ c) more h =
     pick_other b ([] ∷ commands (c ++ 0 ∷ more)) (put_before b (commands (c ++ 0 ∷ more))) h.0 ∙ ap (put_before b) (ended_is c more h.1)
 
-pub commands_ended : (c more : List ℕ) → IsPlain c → commands (c ++ 0 ∷ more) ≡ c ∷ commands more
+pub commands_ended : (c more : List ℕ) → HasNoNul c → commands (c ++ 0 ∷ more) ≡ c ∷ commands more
 commands_ended c more h = ended_is c more (recursion_from_All (λ b. b ≢ 0) c h)
 
 -- commands, and more
-before_is : (cs : List (List ℕ)) (more : List ℕ) → AllByRecursion IsPlain cs → commands (flat_map ended cs ++ more) ≡ cs ++ commands more
+before_is : (cs : List (List ℕ)) (more : List ℕ) → AllByRecursion HasNoNul cs → commands (flat_map ended cs ++ more) ≡ cs ++ commands more
 before_is [] more h = refl
 before_is (c ∷ cs) more h =
     ap commands (append_assoc (ended c) (flat_map ended cs) more ∙ append_assoc c (0 ∷ []) (flat_map ended cs ++ more))
     ∙ commands_ended c (flat_map ended cs ++ more) h.0
     ∙ ap (λ (all : List (List ℕ)). c ∷ all) (before_is cs more h.1)
 
-pub commands_before : (cs : List (List ℕ)) (more : List ℕ) → All IsPlain cs → commands (flat_map ended cs ++ more) ≡ cs ++ commands more
-commands_before cs more h = before_is cs more (recursion_from_All IsPlain cs h)
+pub commands_before : (cs : List (List ℕ)) (more : List ℕ) → All HasNoNul cs → commands (flat_map ended cs ++ more) ≡ cs ++ commands more
+commands_before cs more h = before_is cs more (recursion_from_All HasNoNul cs h)
 
 pub get_past : (xs ys : List (List ℕ)) → slice_get (xs ++ ys) (length xs) ≡ slice_get ys 0
 get_past [] ys = refl
@@ -57,7 +58,7 @@ upto (b ∷ bs) (suc k) within none =
     (eqb-false b 0 (none 0 (omega arith)), upto bs k (omega arith) (λ j low. none (suc j) (omega arith)))
 
 -- before it stands no other
-pub plain_upto : (bytes : List ℕ) (k : ℕ) → k ≤ length bytes → ((j : ℕ) → j < k → is_nul (get_or bytes j 0) ≡ false) → IsPlain (take k bytes)
+pub plain_upto : (bytes : List ℕ) (k : ℕ) → k ≤ length bytes → ((j : ℕ) → j < k → is_nul (get_or bytes j 0) ≡ false) → HasNoNul (take k bytes)
 plain_upto bytes k within none = All-from_recursion (λ b. b ≢ 0) (take k bytes) (upto bytes k within none)
 
 passes : (bytes : List ℕ) → length bytes ≤ prefix_len (λ b. not (is_nul b)) bytes → Plain bytes
@@ -74,7 +75,7 @@ not_some true k e = absurd (cc)
 not_some false k e = refl
 
 -- if there is none, no byte is NUL
-pub plain_all : (bytes : List ℕ) → position is_nul bytes ≡ None → IsPlain bytes
+pub plain_all : (bytes : List ℕ) → position is_nul bytes ≡ None → HasNoNul bytes
 plain_all bytes e =
     let far = not_some (nat_lt (position_or_len is_nul bytes) (length bytes)) (position_or_len is_nul bytes) e in
     All-from_recursion (λ b. b ≢ 0) bytes (passes bytes (ltb-false (position_or_len is_nul bytes) (length bytes) far))
@@ -85,15 +86,15 @@ cut_before : (b : ℕ) (bs : List ℕ) (cs : List (List ℕ)) → b ≢ 0 → Is
 cut_before b bs [] other w = record {
   rest = b ∷ w.rest;
   text_is = ap (λ (t : List ℕ). b ∷ t) w.text_is;
-  each = All-nil IsPlain;
+  each = All-nil HasNoNul;
   open_rest = All-cons (λ b. b ≢ 0) b w.rest other w.open_rest;
 }
 cut_before b bs (c ∷ cs) other w =
-    let parts = recursion_from_All IsPlain (c ∷ cs) w.each in
+    let parts = recursion_from_All HasNoNul (c ∷ cs) w.each in
     record {
       rest = w.rest;
       text_is = ap (λ (t : List ℕ). b ∷ t) w.text_is;
-      each = All-from_recursion IsPlain ((b ∷ c) ∷ cs) (All-cons (λ b. b ≢ 0) b c other parts.0, parts.1);
+      each = All-from_recursion HasNoNul ((b ∷ c) ∷ cs) (All-cons (λ b. b ≢ 0) b c other parts.0, parts.1);
       open_rest = w.open_rest;
     }
 
@@ -101,12 +102,12 @@ cut_at_nul : (bs : List ℕ) (cs : List (List ℕ)) → IsCut bs cs → IsCut (0
 cut_at_nul bs cs w = record {
   rest = w.rest;
   text_is = ap (λ (t : List ℕ). 0 ∷ t) w.text_is;
-  each = All-from_recursion IsPlain ([] ∷ cs) (All-nil (λ b. b ≢ 0), recursion_from_All IsPlain cs w.each);
+  each = All-from_recursion HasNoNul ([] ∷ cs) (All-nil (λ b. b ≢ 0), recursion_from_All HasNoNul cs w.each);
   open_rest = w.open_rest;
 }
 
 cut_is : (text : List ℕ) → IsCut text (commands text)
-cut_is [] = record { rest = []; text_is = refl; each = All-nil IsPlain; open_rest = All-nil (λ b. b ≢ 0) }
+cut_is [] = record { rest = []; text_is = refl; each = All-nil HasNoNul; open_rest = All-nil (λ b. b ≢ 0) }
 cut_is (b ∷ bs) =
     let rest = cut_is bs in
     ⊎_elim

@@ -13,7 +13,8 @@ use Rattle.queue_paths.proofs.Paths.{joined_at}
 use Rattle.queue_clean.specs.declared.command.Command.{Command}
 use Rattle.queue_clean.specs.declared.row.Row.{Row}
 use Rattle.queue_clean.specs.declared.row.Row.TheVariants as at
-use Rattle.queue_clean.specs.Commands.{commands, command_of, ended, IsPlain}
+use Rattle.queue_clean.specs.Commands.{commands, command_of, ended}
+use Rattle.mail_bytes.specs.Texts.{HasNoNul}
 use Rattle.queue_clean.specs.Table.{Place, first_row, take_up, next_command, name_in, moment_in, is_gone, found, stated, took, gave, after_intd, after_second, is_old, leads_to, goes_on, place_after, due_at, Next}
 use Rattle.queue_clean.specs.Table.Step.{Goes, Answers}
 use Rattle.queue_clean.specs.Machine.{Intake, Machine, is_nul, kept, row_by, read_by, with_next, with_taken, due_now, step_on, gone_on}
@@ -44,7 +45,7 @@ none_stands : (m : Machine) (p : Place) → m.name ≡ p.name → Hears m.intake
 none_stands m p name h none =
     let i : Intake = m.intake in
     let read : List ℕ = h.read ++ i.pending in
-    let plain : IsPlain read = All-append (λ b. b ≡ 0 → ⊥) h.read i.pending h.plain (plain_all i.pending none) in
+    let plain : HasNoNul read = All-append (λ b. b ≡ 0 → ⊥) h.read i.pending h.plain (plain_all i.pending none) in
     let gives : slice_get (commands p.taken) p.begun ≡ None = upcoming i p.taken p.begun h ∙ ap (λ (cs : List (List ℕ)). slice_get cs 0) (commands_plain read plain) in
     let Goal : Option (List ℕ) → Type 0 = λ o. StandsAt (record m { row = at.TakeInput; intake = read_by None i }) (take_up o p) in
     subst Goal (sym gives) (record {
@@ -87,7 +88,7 @@ some_stands m p k name h some =
     let cut : i.pending ≡ take k i.pending ++ (0 ∷ rest) =
     joined_at 0 i.pending k inside (eqb-true _ 0 w.1) ∙ ap (λ j. take k i.pending ++ (0 ∷ drop j i.pending)) (sym (add-one k)) in
     let text : List ℕ = h.read ++ take k i.pending in
-    let plain : IsPlain text = All-append (λ b. b ≡ 0 → ⊥) h.read (take k i.pending) h.plain (plain_upto i.pending k (omega arith) w.2) in
+    let plain : HasNoNul text = All-append (λ b. b ≡ 0 → ⊥) h.read (take k i.pending) h.plain (plain_upto i.pending k (omega arith) w.2) in
     let all : h.read ++ i.pending ≡ text ++ (0 ∷ rest) = ap (λ (p : List ℕ). h.read ++ p) cut ∙ sym (append_assoc h.read (take k i.pending) (0 ∷ rest)) in
     let gives : slice_get (commands p.taken) p.begun ≡ Some text =
     upcoming i p.taken p.begun h ∙ ap (λ (t : List ℕ). slice_get (commands t) 0) all ∙ ap (λ (cs : List (List ℕ)). slice_get cs 0) (commands_ended text rest plain) in
@@ -101,7 +102,7 @@ some_stands m p k name h some =
         taken_is = h.taken_is ∙ pieces (flat_map ended h.before) h.read i.pending (take k i.pending) rest cut
             ∙ ap (λ (f : List ℕ). f ++ rest) (flat_map_more ended [] h.before text);
         count = length_push h.before text ∙ ap (λ n. n + 1) h.count;
-        each = All-push IsPlain h.before text h.each plain;
+        each = All-push HasNoNul h.before text h.each plain;
         plain = All-nil (λ b. b ≡ 0 → ⊥);
         word_is = refl;
         turn_is = next_turn i.turn p.begun h.turn_is;
@@ -210,7 +211,7 @@ begun_hears = record {
   read = [];
   taken_is = refl;
   count = refl;
-  each = All-nil IsPlain;
+  each = All-nil HasNoNul;
   plain = All-nil (λ b. b ≡ 0 → ⊥);
   word_is = refl;
   turn_is = refl;

@@ -1,6 +1,6 @@
 -- The commands that a cleaner takes (qmail-clean(8)). `foop/7` and a NUL ask it to remove intd/7 and mess/7/7; `todo/7`
 -- and a NUL, intd/7 and todo/7.
-use Rattle.std.specs.Prelude.{◌≡◌, ◌↔◌, ◌≢◌, ℕ, ◌+◌, ◌^◌, ◌<◌, ◌≤◌, List, [], ◌∷◌, ◌++◌, length, take, drop, All, Option, Some, None, Bool, ◌&&◌, if◌then◌else◌, ◌==◌, nat_le, bytes_eq, codes, flat_map}
+use Rattle.std.specs.Prelude.{◌≡◌, ◌↔◌, ℕ, ◌+◌, ◌^◌, ◌<◌, ◌≤◌, List, [], ◌∷◌, ◌++◌, length, take, drop, All, Option, Some, None, Bool, ◌&&◌, if◌then◌else◌, ◌==◌, nat_le, bytes_eq, codes, flat_map}
 use Rattle.mail_bytes.specs.Decimal.{digits, number_of}
 use Rattle.queue_paths.specs.Names.{Name}
 use Rattle.queue_paths.specs.Names.Name.{Of}
@@ -8,6 +8,7 @@ use Rattle.queue_paths.specs.Names.Part.{Mess, Intd, Todo as TodoPart}
 use Rattle.queue_clean.specs.declared.command.Command.{Command}
 use Rattle.queue_clean.specs.declared.command.Command.TheVariants.{Foop, Todo}
 use Rattle.queue_clean.specs.declared.command.TheConstants.{LEAST_COMMAND, MOST_COMMAND}
+use Rattle.mail_bytes.specs.Texts.{HasNoNul}
 
 -- One command
 
@@ -69,15 +70,12 @@ commands (b ∷ bs) = if b == 0 then [] ∷ commands bs else put_before b (comma
 abbrev pub ended : List ℕ → List ℕ
 ended command = command ++ 0 ∷ []
 
-abbrev pub IsPlain : List ℕ → Type 0
-IsPlain bytes = All (λ b. b ≢ 0) bytes
-
 -- the text is these commands, and then the start of one more
 pub record IsCut (text : List ℕ) (cut : List (List ℕ)) : Type 0 where
   pub rest : List ℕ
   pub text_is : text ≡ flat_map ended cut ++ rest
-  pub each : All IsPlain cut
-  pub open_rest : IsPlain rest
+  pub each : All HasNoNul cut
+  pub open_rest : HasNoNul rest
 
 -- what a text is, and what it is cut into, exactly
 pub record CommandsAreExact : Type 0 where

@@ -2,7 +2,8 @@
 use Rattle.std.specs.Prelude.{◌≡◌, ℕ, ◌%◌, List, [], ◌++◌, length, take, All, flat_map}
 use Rattle.call_fs.specs.declared.past.Own.{Own}
 use Rattle.queue_clean.specs.declared.row.Row.TheVariants as at
-use Rattle.queue_clean.specs.Commands.{ended, IsPlain}
+use Rattle.queue_clean.specs.Commands.{ended}
+use Rattle.mail_bytes.specs.Texts.{HasNoNul}
 use Rattle.queue_clean.specs.Table.{Place, place_after}
 use Rattle.queue_clean.specs.Machine.{Intake, Machine}
 use Rattle.queue_clean.specs.declared.command.TheConstants.{MOST_COMMAND}
@@ -15,8 +16,8 @@ pub record Hears (i : Intake) (taken : List ℕ) (begun : ℕ) : Type 0 where
   pub read : List ℕ
   pub taken_is : taken ≡ flat_map ended before ++ (read ++ i.pending)
   pub count : length before ≡ begun
-  pub each : All IsPlain before
-  pub plain : IsPlain read
+  pub each : All HasNoNul before
+  pub plain : HasNoNul read
   pub word_is : i.word ≡ take MOST_COMMAND read
   pub turn_is : i.turn ≡ begun % ROUND
 

@@ -16,3 +16,7 @@ pub mod Run
 pub mod Causes
 -- what an injector holds open
 pub mod Held
+-- the calls of a run as one written-out list
+pub mod Written
+-- what a run leaves in the queue
+pub mod Left

@@ -18,18 +18,12 @@ use crate::intake::Intake;
 use crate::named_row::NamedRow;
 use crate::steps::after;
 use crate::{Arguments, InputEnd, Part, Row};
-use call_fs::{Answer, Got, Machine, Need, PIECE, Ready};
+use call_fs::{Answer, Got, Machine, Need, PIECE, Ready, UNREADY};
 use mail_bytes::Memory;
 use queue_limits::{DAY, LATE};
 use received_line::{Invoked, received};
 use std::alloc::{AllocError, Global};
 use std::marker::Model;
-
-/// Nothing is ready.
-const UNREADY: Ready = Ready {
-    links: [false; 4],
-    child: None,
-};
 
 /// The injector: the program that puts one message into the queue, as a machine.
 ///

@@ -3,11 +3,11 @@ use Rattle.std.proofs.Common.{◌≡◌, ◌≢◌, ℕ, ◌≤◌, List, [], �
 use Rattle.std.specs.Option.{IfSome}
 use Rattle.std.proofs.lemmas.List.Elements.{All-weaker}
 use Rattle.address_rules.specs.declared.controls.Controls.{Controls}
-use Rattle.call_fs.specs.Disk.{IsSynced}
+use Rattle.call_fs.specs.Disk.{IsSynced, IsWhole}
 use Rattle.call_fs.specs.declared.calls.Fd.{Fd}
 use Rattle.envelope_records.specs.Envelope.{IsAddress, HasEnvelope, Reading, read_envelope, todo_head, todo_text}
 use Rattle.envelope_records.specs.Envelope.Reading.{Whole, Open as OpenReading, Broken}
-use Rattle.envelope_records.specs.Records.{HasNoNul}
+use Rattle.mail_bytes.specs.Texts.{HasNoNul}
 use Rattle.envelope_records.proofs.Envelopes.{sound_as}
 use Rattle.envelope_records.proofs.ChannelRecords.{same_todo}
 use Rattle.queue_inject.specs.declared.injection.Arguments.{Arguments}
@@ -24,7 +24,7 @@ use Rattle.todo_pass.specs.declared.part.Part.TheVariants as part
 use Rattle.todo_pass.specs.declared.row.Row.{Row}
 use Rattle.todo_pass.specs.declared.row.Row.TheVariants as at
 use Rattle.todo_pass.specs.declared.sorted.Sorted.{Sorted as Texts}
-use Rattle.todo_pass.specs.Disks.{SameAt, fd_in, HoldsTodo, LeaveAlone, IsThere as IsThereOn, IsMade as IsMadeOn}
+use Rattle.todo_pass.specs.Disks.{SameAt, fd_in, HoldsTodo, LeaveAlone, IsMade as IsMadeOn}
 use Rattle.todo_pass.specs.Laws.{IsMadeRow}
 use Rattle.todo_pass.specs.Sorting.{info_text, channel_text, locals_of, remotes_of}
 use Rattle.todo_pass.specs.Table.{passed}
@@ -93,7 +93,7 @@ says_so args it none is =
 
 -- What is there
 
-there_part : (q : Queue) (x : FilePart) (n : ℕ) (text : List ℕ) → IsThereOn q.disk (path (Of x n)) text → HasSynced (about q n) x text
+there_part : (q : Queue) (x : FilePart) (n : ℕ) (text : List ℕ) → IsWhole q.disk (path (Of x n)) text → HasSynced (about q n) x text
 there_part q x n text h = record { file = entry q.disk.files h.0; there = find_some q.disk.names q.disk.files (Of x n) h.0 h.1; synced = h.2 }
 
 made_part : (q : Queue) (x : FilePart) (n : ℕ) (text : List ℕ) → IsMadeOn q.disk (path (Of x n)) text → IsMade (about q n) x text

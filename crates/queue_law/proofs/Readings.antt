@@ -9,7 +9,8 @@ use Rattle.address_rules.specs.declared.controls.Controls.{Controls}
 use Rattle.address_rules.specs.declared.rewriting.Route.{Route}
 use Rattle.address_rules.specs.declared.rewriting.Route.TheVariants.{Local, Remote}
 use Rattle.address_rules.specs.Routes.{address_in, route_of}
-use Rattle.address_rules.specs.Nuls.{HasNoNul, HaveNoNul}
+use Rattle.address_rules.specs.Nuls.{HaveNoNul}
+use Rattle.mail_bytes.specs.Texts.{HasNoNul}
 use Rattle.address_rules.proofs.Nuls.{route_none}
 use Rattle.call_fs.specs.Disk.{Among}
 use Rattle.envelope_records.specs.declared.channel.Record.{Record}

@@ -6,10 +6,11 @@ use Rattle.queue_paths.specs.Names.Part.{Mess}
 use Rattle.queue_law.specs.Books.{Injection}
 use Rattle.queue_law.specs.Numbers.{Role, Queue, Entry, look, About, about}
 use Rattle.queue_law.specs.Numbers.Role.{AsMessage, AsPart, AsDrop, AsOld}
+use Rattle.queue_limits.specs.declared.times.TheConstants.{PID_NAME_AGE}
 
 -- the file is the message of an injector that makes no call any more
 abbrev pub IsOverdue : ℕ → Role → Type 0
-IsOverdue now (AsMessage actor args) = args.start + 129600 < now
+IsOverdue now (AsMessage actor args) = args.start + PID_NAME_AGE < now
 IsOverdue now (AsPart part n) = ⊥
 IsOverdue now (AsDrop actor) = ⊥
 IsOverdue now AsOld = ⊥

@@ -1,7 +1,7 @@
 // The figures, as laws.
 ghost use Rattle.std.specs.Prelude.{◌≡◌};
 ghost use Rattle.queue_limits.specs.declared.lengths.TheConstants.{MOST_BYTES};
-ghost use Rattle.queue_limits.specs.declared.statuses.TheConstants.{DONE, IN_INTD, IN_MESS, IN_PID, IN_TODO, INPUT, LATE, LONG_ADDRESS, MALFORMED, MEMORY, OUTPUT, TOO_LONG, USAGE};
+ghost use Rattle.queue_limits.specs.declared.statuses.TheConstants.{BAD_CONTROL, DONE, IN_INTD, IN_MESS, IN_PID, IN_TODO, INPUT, LATE, LONG_ADDRESS, MALFORMED, MEMORY, NO_CLEANER, NO_LOCAL, NO_REMOTE, NO_START, OUTPUT, TOO_LONG, USAGE};
 ghost use Rattle.queue_limits.specs.declared.times.TheConstants.{DAY, LONGEST_STALL, PID_NAME_AGE};
 
 /// A day and twelve hours, both together, and 1 GiB.
@@ -25,6 +25,11 @@ pub fn statuses_are_these()
     ensures in_mess { IN_MESS ≡ 64 }
     ensures in_intd { IN_INTD ≡ 65 }
     ensures in_todo { IN_TODO ≡ 66 }
+    ensures no_cleaner { NO_CLEANER ≡ 81 }
+    ensures no_local { NO_LOCAL ≡ 82 }
+    ensures no_remote { NO_REMOTE ≡ 83 }
+    ensures no_start { NO_START ≡ 84 }
+    ensures bad_control { BAD_CONTROL ≡ 85 }
     ensures malformed { MALFORMED ≡ 91 }
     ensures usage { USAGE ≡ 100 }
 {}

@@ -33,6 +33,21 @@ pub const IN_INTD: u8 = 65;
 /// The link to `todo` failed.
 pub const IN_TODO: u8 = 66;
 
+/// The sender's link to the cleaner has ended or failed.
+pub const NO_CLEANER: u8 = 81;
+
+/// Its link to the local spawner has ended or failed.
+pub const NO_LOCAL: u8 = 82;
+
+/// Its link to the remote spawner has ended or failed.
+pub const NO_REMOTE: u8 = 83;
+
+/// A call of the sender's start failed.
+pub const NO_START: u8 = 84;
+
+/// A control file is bad.
+pub const BAD_CONTROL: u8 = 85;
+
 /// An input is malformed.
 pub const MALFORMED: u8 = 91;
 

@@ -3,6 +3,14 @@
 //! The contract of this crate, `names_are_exact`: each name has one text, and each text is at most one name's. A text
 //! is read as a name exactly if the queue uses that name and writes it so. The names are those of qmail's INTERNALS,
 //! "Queue structure".
+//!
+//! # What is claimed
+//!
+//! - The number of splits, as a figure: the law `splits_are_23`.
+//! - Names of the queue's files, their texts, and reading them back: `split`, `path`, `parse`, and the law
+//!   `names_are_exact`.
+//! - The directories that hold them, one list for the model, the disk of a script and a real directory:
+//!   `queue_dirs`, `split_dir`.
 #![tactic(auto)]
 
 mod dirs;

@@ -92,6 +92,7 @@ impl Files {
 }
 
 /// Notes the file of this name of a directory, if it is one of a message number; other names are passed over.
+/// The error: out of memory.
 pub fn note_name(alloc: Global, found: &mut Found, dir: &[u8], name: &[u8]) -> Result<(), Memory>
     ensures { OnOk result (Notes (used_name (dir.now ++ 47 ∷ name.now)) found.old found.new) }
 {
@@ -149,7 +150,7 @@ fn put(found: &mut Found, number: u64, files: Files) -> Result<(), Memory>
     Ok(())
 }
 
-/// The numbers that have files, in ascending order, each with its state.
+/// The numbers that have files, in ascending order, each with its state. The error: out of memory.
 pub fn states_of(alloc: Global, found: &Found) -> Result<StateList, Memory>
     ensures states { IfOk result (λ states. states ≡ map entry_of found.now.entries) }
     ensures ordered { IsOrdered nat_cmp found.now }

@@ -12,7 +12,7 @@ use call_fs::{CallFs, FsError};
 use mail_bytes::{ByteText, NameBuf};
 use std::alloc::Global;
 
-/// How many names a directory has.
+/// How many names a directory has. The errors: what a search for a next name was refused with.
 pub fn count_names<D: CallFs>(alloc: Global, disk: &mut D, dir: &[u8]) -> Result<u64, AuditError>
     ensures searched { HasSearched (dir.now ∷ [])
         (record { disk = D.disk disk.old; calls = D.calls disk.old; faults = D.faults disk.old })
@@ -32,6 +32,7 @@ pub fn count_names<D: CallFs>(alloc: Global, disk: &mut D, dir: &[u8]) -> Result
 }
 
 /// Notes the files of message numbers in these directories.
+/// The errors: what a search for a next name was refused with, or out of memory.
 pub fn gather_all<D: CallFs>(
     alloc: Global,
     disk: &mut D,

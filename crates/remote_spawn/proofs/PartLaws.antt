@@ -4,7 +4,8 @@ use Rattle.std.specs.Prelude.{◌||◌, All, flat_map, if◌then◌else◌}
 use Rattle.std.specs.Option.{option_or}
 use Rattle.std.proofs.lemmas.Bool.{cases_Bool, false≢true, cond-true, cond-false, eqb-true, eqb-false}
 use Rattle.std.proofs.lemmas.List.Elements.{All-nil, All-cons, All-head, All-tail, recursion_from_All}
-use Rattle.remote_spawn.specs.Parts.{AreParts, HasNoNul, IsMessageOf, IsNoMessage, IsVerdict, Message, ended, first_message, is_verdict, message_in_part, parts, put_on_first}
+use Rattle.remote_spawn.specs.Parts.{AreParts, IsMessageOf, IsNoMessage, IsVerdict, Message, ended, first_message, is_verdict, message_in_part, parts, put_on_first}
+use Rattle.mail_bytes.specs.Texts.{HasNoNul}
 use Rattle.remote_spawn.proofs.PartLemmas.{no_part, one_part}
 
 -- The parts of an output are its parts.

@@ -6,8 +6,9 @@ use Rattle.std.proofs.lemmas.Bool.{cases_Bool, cond_both, cond-true, cond-false,
 use Rattle.std.proofs.lemmas.List.Elements.{All-head, All-tail, All-from_recursion, recursion_from_All}
 use Rattle.outside.specs.declared.spawner.Status.{Status}
 use Rattle.outside.specs.declared.spawner.Status.TheVariants.{Ended, Crashed, Failed}
-use Rattle.remote_spawn.specs.Parts.{HasNoNul, IsMessageOf, IsVerdict, Message, first_message, is_verdict, parts, recipient_in_part, recipient_text}
-use Rattle.remote_spawn.specs.Reports.{IsReport, IsReportOf, IsSuccess, IsTold, crashed, letter_by, letter_of_message, line, message_of, rank, report_of, silent, text_by, told, told_by, untold_by}
+use Rattle.remote_spawn.specs.Parts.{IsMessageOf, IsVerdict, Message, first_message, is_verdict, parts, recipient_in_part, recipient_text}
+use Rattle.remote_spawn.specs.Reports.{IsReport, IsReportOf, IsSuccess, IsTold, crashed, letter_by, letter_of_message, message_of, rank, report_of, silent, text_by, told, told_by, untold_by}
+use Rattle.mail_bytes.specs.Texts.{line, HasNoNul}
 use Rattle.remote_spawn.specs.Reports.IsReportOf.{CanNotRun, IsRefused, IsSilent, Tells}
 use Rattle.remote_spawn.proofs.PartLaws.{are_parts, parts_are, is_first_message, first_message_is}
 

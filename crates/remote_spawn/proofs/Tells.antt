@@ -5,11 +5,11 @@ use Rattle.call_fs.specs.declared.past.NeedData.TheVariants as needs
 use Rattle.call_fs.specs.declared.past.Own.{Own}
 use Rattle.call_fs.specs.declared.program.Port.TheVariants as port
 use Rattle.call_fs.specs.declared.program.Ready.{Ready}
-use Rattle.call_fs.specs.Past.{IsRunBy}
+use Rattle.call_fs.specs.Past.{IsRunBy, taken}
 use Rattle.spawn_protocol.specs.Request.{HasRead, Reader}
 use Rattle.spawn_protocol.specs.declared.request.Request.{Request}
 use Rattle.spawner_parts.specs.declared.place.Place.{Place}
-use Rattle.spawner_parts.specs.Causes.{IsEnded, IsFailed, IsOver, taken}
+use Rattle.spawner_parts.specs.Causes.{IsEnded, IsFailed, IsOver}
 use Rattle.spawner_parts.specs.Counts.{IsAtRest, IsSettled, asked, dealt_with}
 use Rattle.spawner_parts.specs.Known.{Carries, Tells, last_read}
 use Rattle.spawner_parts.specs.Table.{IsKind, due_at, row_now}

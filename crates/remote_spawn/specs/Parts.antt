@@ -1,8 +1,9 @@
 -- The parts of a remote program's output, each ended by NUL: the recipient report, if there is one, and the message report
 -- (qmail-remote(8)).
-use Rattle.std.specs.Prelude.{◌≡◌, ◌≢◌, ℕ, List, [], ◌∷◌, ◌++◌, All, Bool, ◌||◌, ◌⊎◌, Option, Some, None, if◌then◌else◌, ◌==◌, flat_map}
+use Rattle.std.specs.Prelude.{◌≡◌, ℕ, List, [], ◌∷◌, ◌++◌, All, Bool, ◌||◌, ◌⊎◌, Option, Some, None, if◌then◌else◌, ◌==◌, flat_map}
 use Rattle.std.specs.Option.{option_or}
 use Rattle.remote_spawn.specs.declared.parts.Message.{Message as Lent}
+use Rattle.mail_bytes.specs.Texts.{HasNoNul}
 
 -- with one byte more before the first part; what is not ended is no part
 abbrev pub put_on_first : ℕ → List (List ℕ) → List (List ℕ)
@@ -47,9 +48,6 @@ said None = None
 said (Some m) = Some (m.letter, m.text.now)
 
 -- The same as relations
-
-abbrev pub HasNoNul : List ℕ → Type 0
-HasNoNul text = All (λ b. b ≢ 0) text
 
 abbrev pub ended : List ℕ → List ℕ
 ended part = part ++ 0 ∷ []

@@ -4,9 +4,7 @@ use Rattle.std.specs.Prelude.{◌≡◌, ◌≢◌, ℕ, List, [], ◌∷◌, �
 use Rattle.outside.specs.declared.spawner.Status.{Status}
 use Rattle.outside.specs.declared.spawner.Status.TheVariants.{Ended, Crashed, Failed}
 use Rattle.remote_spawn.specs.Parts.{Message, parts, first_message, recipient_text, AreParts, IsMessageOf}
-
-abbrev pub line : List ℕ → List ℕ
-line text = text ++ 10 ∷ []
+use Rattle.mail_bytes.specs.Texts.{line}
 
 -- The letter: if the recipient report says `s`, temporary, it is Z; if it says `h`, permanent, D; else that of the message
 -- report, and D if there is none.

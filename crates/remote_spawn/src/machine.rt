@@ -9,7 +9,7 @@ ghost use Rattle.remote_spawn.specs.Stands.{Stands, due_now, gone_on};
 ghost use Rattle.remote_spawn.specs.Table.{Next, due_from, remote, start_of};
 
 use crate::reports::report_of;
-use call_fs::{Child, Got, Machine, Need, Ready};
+use call_fs::{Child, Got, Machine, Need, Ready, UNREADY};
 use mail_bytes::Memory;
 use spawn_protocol::Request;
 use spawner_parts::{
@@ -17,12 +17,6 @@ use spawner_parts::{
     row_now, status_of, took, unread,
 };
 use std::alloc::Global;
-
-/// Nothing is ready.
-const UNREADY: Ready = Ready {
-    links: [false; 4],
-    child: None,
-};
 
 /// What is told of a program that couldn't be started.
 const CRASHED: &[u8] = b"Zqmail-remote crashed.\n";

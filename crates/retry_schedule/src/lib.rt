@@ -1,8 +1,17 @@
 //! When a message that couldn't be delivered is tried again, and which message is due first.
 //!
 //! The contract of this crate: `next_retry` is the schedule of qmail-send(8), in which a message is tried again after
-//! ever longer gaps, each a square of seconds; `Due::first` is the least entry that is due, and no entry if none is.
+//! ever longer gaps, each a square of seconds. `Due::first` is the least entry that is due, and no entry if none is.
 //! `roots_are_exact` and `entries_are_exact` say that these words leave no choice.
+//!
+//! # What is claimed
+//!
+//! - `root` is the greatest number whose square is at most x, for every u64; `next_retry` is birth + (root(age) +
+//!   skip)^2, for all moments: `root`, `next_retry`, the law `roots_are_exact`.
+//! - The entries (due, n) in order, each number at most once: adding, changing and removing alter the entry of that
+//!   number alone. The least entry that is due, and none exactly if there is none; after out of memory nothing
+//!   changed: `Due::{new, add, first, due_of, is_due, change, put, reschedule, remove, copy}`, the law
+//!   `entries_are_exact`.
 #![tactic(auto)]
 
 mod due;

@@ -64,7 +64,7 @@ still_none s (Child parent own a program) b other none =
     let before = acted s parent own 0 (s.actors parent) in
     put_at_other before.actors a (Some (newborn program)) b other ∙ acted_not s parent own 0 (s.actors parent) b refl none
 still_none s (Generation sender clean lspawn rspawn) b other none = four_other s.actors sender clean lspawn rspawn b other ∙ none
-still_none s (Report slot letter text) b other none = none
+still_none s (Report slot output) b other none = none
 still_none s (End a read ready status) b other none = finished_not s a (Over status) (s.actors a) b refl none
 still_none s (Stop a) b other none = finished_not s a Stopped (s.actors a) b refl none
 still_none s (Moment m) b other none = none
@@ -110,7 +110,7 @@ one_apart p c (Child a own b program) beside = (beside.0, beside.1.0)
 one_apart p c (End a read ready status) beside = beside
 one_apart p c (Start a program) beside = tt
 one_apart p c (Generation sender clean lspawn rspawn) beside = tt
-one_apart p c (Report slot letter text) beside = tt
+one_apart p c (Report slot output) beside = tt
 one_apart p c (Stop a) beside = tt
 one_apart p c (Moment m) beside = tt
 one_apart p c (Halt how contents) beside = tt
@@ -331,13 +331,13 @@ not_put : (t : Bool) (o v : Option Tenant) → (t ≡ true → ⊥) → (if t th
 not_put true o v never = absurd (never refl)
 not_put false o v never = refl
 
-pub report_begun : (s : State) (h : List Event) (slot letter : ℕ) (text : List ℕ) → s.pipework.programs (codes "rspawn") slot ≡ Some (Remote false) → BegunIf s h
-    → BegunIf (happens s (Report slot letter text)) (Report slot letter text ∷ h)
-report_begun s h slot letter text runs begun p y here alive borne =
+pub report_begun : (s : State) (h : List Event) (slot : ℕ) (output : List ℕ) → s.pipework.programs (codes "rspawn") slot ≡ Some (Remote false) → BegunIf s h
+    → BegunIf (happens s (Report slot output)) (Report slot output ∷ h)
+report_begun s h slot output runs begun p y here alive borne =
     let b = begun p y here alive borne in
-    begun_more s (happens s (Report slot letter text)) h (Report slot letter text) p b tt
+    begun_more s (happens s (Report slot output)) h (Report slot output) p b tt
     (not_put (bytes_eq p (codes "rspawn") && (0 == slot)) (s.pipework.programs p 0) (Some (Remote true)) (λ e. clash b (and_parts (bytes_eq p (codes "rspawn")) (0 == slot) e)))
-    refl (report_awaits s slot letter text b.child)
+    refl (report_awaits s slot output b.child)
   where
     clash : (b : HasBegun s h p) → (bytes_eq p (codes "rspawn") ≡ true) × ((0 == slot) ≡ true) → ⊥
     clash b tests =
@@ -398,7 +398,7 @@ module _ (given message envelope p c : List ℕ) (own : Own) (program : Program)
   told_anew ((Start a started) ∷ later) before beside = further (Start a started) later before refl beside (told_anew later before beside.1)
   told_anew ((Act a other wrote) ∷ later) before beside = further (Act a other wrote) later before refl beside (told_anew later before beside.1)
   told_anew ((Generation sender clean lspawn rspawn) ∷ later) before beside = further (Generation sender clean lspawn rspawn) later before refl beside (told_anew later before beside.1)
-  told_anew ((Report slot letter text) ∷ later) before beside = further (Report slot letter text) later before refl beside (told_anew later before beside.1)
+  told_anew ((Report slot output) ∷ later) before beside = further (Report slot output) later before refl beside (told_anew later before beside.1)
   told_anew ((End a read ready status) ∷ later) before beside = further (End a read ready status) later before refl beside (told_anew later before beside.1)
   told_anew ((Stop a) ∷ later) before beside = further (Stop a) later before refl beside (told_anew later before beside.1)
   told_anew ((Moment m) ∷ later) before beside = further (Moment m) later before refl beside (told_anew later before beside.1)

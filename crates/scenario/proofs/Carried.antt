@@ -32,7 +32,7 @@ use Rattle.world_events.specs.declared.event.Program.TheVariants.{Injector, Clea
 use Rattle.world_pipes.specs.Pipes.{offered, end_of}
 use Rattle.mail_world.specs.Generations.{lives_in, is_unreported}
 use Rattle.mail_world.specs.World.{command_exits, most_of}
-use Rattle.mail_world.specs.History.{Actor, Life, State, MayRun, IsDelivery, IsInputOf, IsLiving, IsLocalSpawner, IsSender, IsStatusOf, ComesOf, TenantEnds, IsFed, next_of, latest, newborn, start_of, stopped, acted, begins, disk_after, holder_after, happens, called, finished, report_text, unless_by, shut_by}
+use Rattle.mail_world.specs.History.{Actor, Life, State, MayRun, IsDelivery, IsInputOf, IsLiving, IsLocalSpawner, IsSender, IsStatusOf, ComesOf, IsEnding, TenantEnds, IsFed, next_of, latest, newborn, start_of, stopped, acted, begins, disk_after, holder_after, happens, called, finished, unless_by, shut_by}
 use Rattle.mail_world.specs.History.Event.{Report, Moment, Halt}
 use Rattle.mail_world.specs.History.Life.{Alive, Over, Stopped}
 use Rattle.mail_world.specs.Inside.{Owns, RunsAt}
@@ -427,7 +427,7 @@ status_actor s slot b (Some x) came is e = let o = status_life slot x.life came 
 status_comes : (s : State) (slot : ℕ) (o : Option Tenant) (came : GotData) → status_in s o ≡ Some came → TenantEnds s o came × IsTaken (port.Status slot) came
 status_comes s slot None came e = absurd (cc)
 status_comes s slot (Some (Runs b)) came e = status_actor s slot b (s.actors b) came refl e
-status_comes s slot (Some (Remote true)) came e = let same : Ended 0 ≡ came = cc in (sym same, subst (IsTaken (port.Status slot)) same tt)
+status_comes s slot (Some (Remote true)) came e = let same : Ended 0 ≡ came = cc in (subst IsEnding same (omega arith), subst (IsTaken (port.Status slot)) same tt)
 status_comes s slot (Some (Remote false)) came e = absurd (cc)
 
 -- what is given to a slot is the input of who runs there
@@ -607,8 +607,8 @@ generation_carries s carries =
     (begins_carries s (codes "sender") (Sender s.now) pipework (omega arith) tt (λ no. absurd no) children new carries)))
 
 -- the report of a remote program
-pub report_carries : (s : State) (slot letter : ℕ) (text : List ℕ) → Carries s → Carries (happens s (Report slot letter text))
-report_carries s slot letter text carries = record {
+pub report_carries : (s : State) (slot : ℕ) (output : List ℕ) → Carries s → Carries (happens s (Report slot output))
+report_carries s slot output carries = record {
   finite = carries.finite;
   lasting = carries.lasting;
   owns = carries.owns;
@@ -620,7 +620,7 @@ report_carries s slot letter text carries = record {
   new = λ b none named.
       let old = carries.new b none named in (
         old.0,
-        ap (λ (t : Bool). if t then closed (given (report_text letter text) (s.pipework.pipes b port.Input)) else s.pipework.pipes b port.Input) (and-false (bytes_eq b (codes "rspawn"))) ∙ old.1,
+        ap (λ (t : Bool). if t then closed (given output (s.pipework.pipes b port.Input)) else s.pipework.pipes b port.Input) (and-false (bytes_eq b (codes "rspawn"))) ∙ old.1,
       );
 }
 

@@ -20,7 +20,7 @@ use Rattle.world_events.specs.Children.{Counts, child_of}
 use Rattle.world_events.specs.declared.event.Program.{Program}
 use Rattle.world_events.specs.declared.event.Program.TheVariants.{Injector, Cleaner, Sender, LocalSpawner, RemoteSpawner, Delivery}
 use Rattle.mail_world.specs.Generations.{lives_in, is_unreported, lowest_unreported}
-use Rattle.mail_world.specs.History.{Actor, Life, State, IsDelivery, IsLocalSpawner, IsSender, next_of, program_of}
+use Rattle.mail_world.specs.History.{Actor, Life, State, IsDelivery, IsLocalSpawner, IsSender, next_of, program_of, report_text}
 use Rattle.mail_world.specs.History.Life.{Alive, Over, Stopped}
 use Rattle.mail_world.specs.Pipework.{Tenant}
 use Rattle.mail_world.specs.Pipework.Tenant.{Runs, Remote}
@@ -427,7 +427,7 @@ reports_kept : (d : Disk) (h : List Deed) (letter : Letter) (slots : List ℕ) �
 reports_kept d h letter [] so are = so
 reports_kept d h letter (slot ∷ before) so are =
     let g = reports_of letter before ++ h in
-    goes_report d g slot (letter_byte letter) (codes "settled") (reports_kept d h letter before so are.0) (lowest (slot_after before) (after d g) slot are.1).awaits
+    goes_report d g slot (report_text (letter_byte letter) (codes "settled")) (reports_kept d h letter before so are.0) (lowest (slot_after before) (after d g) slot are.1).awaits
 
 module _ (d : Disk) (h : List Deed) (letter : Letter) where
   abbrev ReportsEnd : List ℕ → Type 0
@@ -450,7 +450,7 @@ module _ (d : Disk) (h : List Deed) (letter : Letter) where
       inr (record {
         newest = slot;
         follows = is;
-        keeps = goes_report d g slot (letter_byte letter) (codes "settled") so found.awaits;
+        keeps = goes_report d g slot (report_text (letter_byte letter) (codes "settled")) so found.awaits;
         less = omega arith;
       })
 

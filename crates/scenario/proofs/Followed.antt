@@ -153,7 +153,7 @@ named_event s k (Child parent own a program) told mail may named =
 named_event s k (Generation sender clean lspawn rspawn) told mail may named =
     let are = told.2 in
     rw (are.sender_is, are.clean_is, are.lspawn_is, are.rspawn_is) (named_generation s told.0 named)
-named_event s k (Report slot letter text) told mail may named = named_same s (happens s (Report slot letter text)) refl named
+named_event s k (Report slot output) told mail may named = named_same s (happens s (Report slot output)) refl named
 named_event s k (End a read ready status) told mail may named = named_finished s a (Over status) (s.actors a) refl named
 named_event s k (Stop a) told mail may named = named_finished s a Stopped (s.actors a) refl named
 named_event s k (Moment m) told mail may named = named_same s (happens s (Moment m)) refl named
@@ -176,7 +176,7 @@ moment_event s k (Start a program) told may is = is
 moment_event s k (Act a own wrote) told may is = subst IsMoment (sym (now_acted s a own wrote (s.actors a))) is
 moment_event s k (Child parent own a program) told may is = subst IsMoment (sym (now_acted s parent own 0 (s.actors parent))) is
 moment_event s k (Generation sender clean lspawn rspawn) told may is = is
-moment_event s k (Report slot letter text) told may is = is
+moment_event s k (Report slot output) told may is = is
 moment_event s k (End a read ready status) told may is = subst IsMoment (sym (now_finished s a (Over status) (s.actors a))) is
 moment_event s k (Stop a) told may is = subst IsMoment (sym (now_finished s a Stopped (s.actors a))) is
 moment_event s k (Moment m) told may is = may.moment
@@ -248,7 +248,7 @@ follows_other f s k (Start a program) other told mail h = follows_begins f s a p
 follows_other f s k (Act a own wrote) other told mail h = absurd (subst IsOther told other)
 follows_other f s k (Child parent own a program) other told mail h = absurd (subst IsOther told other)
 follows_other f s k (Generation sender clean lspawn rspawn) other told mail h = absurd (subst IsOther told.1 other)
-follows_other f s k (Report slot letter text) other told mail h = record { fates = h.fates; heard = h.heard }
+follows_other f s k (Report slot output) other told mail h = record { fates = h.fates; heard = h.heard }
 follows_other f s k (End a read ready status) other told mail h = follows_finished f s a (Over status) (s.actors a) refl h
 follows_other f s k (Stop a) other told mail h = follows_finished f s a Stopped (s.actors a) refl h
 follows_other f s k (Moment m) other told mail h = record { fates = h.fates; heard = h.heard }
@@ -286,7 +286,7 @@ follows_generation old new s (Generation sender clean lspawn rspawn) start m tol
           let o = (happens s (Generation (Sender p) (Cleaner p) (LocalSpawner p) (RemoteSpawner p))).actors (codes "sender") in
           subst (λ (m : Option Machine). IsHeard m o) (sym is) (subst (IsHeard (Some m)) (sym (new_sender s p)) ((p, refl), stands, tt));
     })
-follows_generation old new s (Report slot letter text) start m told fates is stands h = absurd (cc)
+follows_generation old new s (Report slot output) start m told fates is stands h = let kept_is = told.2 in absurd (cc)
 follows_generation old new s (End a read ready status) start m told fates is stands h = absurd (cc)
 follows_generation old new s (Stop a) start m told fates is stands h = absurd (cc)
 follows_generation old new s (Moment at) start m told fates is stands h = absurd (cc)

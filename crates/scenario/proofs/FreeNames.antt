@@ -18,7 +18,7 @@ use Rattle.actor_names.specs.ChildNames.{bounce_name, delivery_name, forward_of}
 use Rattle.actor_names.proofs.Children.{same_letter, same_number}
 use Rattle.local_deliver.proofs.Forwards.{single}
 use Rattle.local_deliver.specs.Deeds.{starts, starts_by}
-use Rattle.local_steps.specs.Arguments.{local_args}
+use Rattle.local_parts.specs.Arguments.{local_args}
 use Rattle.world_events.specs.Children.{Counts, child_of}
 use Rattle.world_events.specs.Inputs.{bounce, forward}
 use Rattle.world_events.specs.declared.event.Program.{Program}

@@ -11,14 +11,14 @@ use Rattle.actor_names.specs.MailNames.{members}
 use Rattle.world_events.specs.declared.event.Event.{Event as Kept}
 use Rattle.world_events.specs.declared.event.Event.TheVariants as kept
 use Rattle.mail_world.specs.Generations.{generation_world, reported_world, IsFirstAlive, is_lasting, lives_in, is_unreported}
-use Rattle.mail_world.specs.History.{Event, Actor, State, MayReport}
+use Rattle.mail_world.specs.History.{Event, Actor, State, MayReport, report_text}
 use Rattle.mail_world.specs.History.Event.{Report}
 use Rattle.mail_world.specs.History.Life.{Alive}
 use Rattle.mail_world.specs.Known.{known}
 use Rattle.mail_world.specs.World.{Seen, Tells, IsHistory, GoesOn, Span, span_of}
 use Rattle.mail_world.specs.World.Span.{Unborn, Lasting, OverAt}
-use Rattle.play_lines.specs.declared.line.Line.TheVariants as line
-use Rattle.play_lines.specs.declared.keyword.Alone.TheVariants as alone
+use Rattle.script_lines.specs.declared.line.Line.TheVariants as line
+use Rattle.script_lines.specs.declared.keyword.Alone.TheVariants as alone
 use Rattle.script_words.specs.declared.letter.Letter.{Letter}
 use Rattle.script_words.specs.Words.{letter_byte}
 use Rattle.scenario.specs.Deeds.{Deed, history_of, after}
@@ -132,19 +132,19 @@ may_report s slot is =
 
 -- one report more in a world
 pub reported : (d : Disk) (old new : Seen Crash) (plan : Plan) (slot letter : ℕ) (text : List ℕ) (h : List Deed) → IsPlaying d old plan h → new ≡ reported_world old slot letter text → GoesOn tells old new
-    → IsPlaying d new plan (Came (Report slot letter text) ∷ h)
+    → IsPlaying d new plan (Came (Report slot (report_text letter text)) ∷ h)
 reported d old new plan slot letter text h playing did goes =
     let k : Kept = kept.Report slot letter text in
     let events : new.events ≡ old.events ++ k ∷ [] = ap (λ (w : Seen Crash). w.events) did in
     let disk : new.disk ≡ old.disk = ap (λ (w : Seen Crash). w.disk) did in
-    let e : Event = Report slot letter text in
+    let e : Event = Report slot (report_text letter text) in
     let next = plain_on d old new plan k h playing goes tt events in
     let now : IsHistory d (crash_disk new.disk) new.events new.present (e ∷ history_of h) =
     subst (λ (e : Event). IsHistory d (crash_disk new.disk) new.events new.present (e ∷ history_of h)) (report_told slot letter text next.0 next.2) next.1 in
-    playing_push d old new plan plan k (Came e) h playing events now refl (ap crash_plan disk ∙ playing.planned) tt tt tt
+    playing_push d old new plan plan k (Came e) h playing events now (letter, text, refl, refl) (ap crash_plan disk ∙ playing.planned) tt tt tt
 
-pub report_comes_to : (s : State) (slot : ℕ) (letter : Letter) (text : List ℕ) → MayReport s slot → report_comes s slot letter text ≡ Happens (Came (Report slot (letter_byte letter) text))
-report_comes_to s slot letter text may = ap (λ t. if t then Happens (Came (Report slot (letter_byte letter) text)) else Is Refusal.NotWaiting) (awaits s slot may)
+pub report_comes_to : (s : State) (slot : ℕ) (letter : Letter) (text : List ℕ) → MayReport s slot → report_comes s slot letter text ≡ Happens (Came (Report slot (report_text (letter_byte letter) text)))
+report_comes_to s slot letter text may = ap (λ t. if t then Happens (Came (Report slot (report_text (letter_byte letter) text))) else Is Refusal.NotWaiting) (awaits s slot may)
 
 abbrev pub report_played : (d : Disk) (old new : Seen Crash) (plan : Plan) (slot : ℕ) (letter : Letter) (word text : List ℕ) (h : List Deed) → IsPlaying d old plan h
     → new ≡ reported_world old slot (letter_byte letter) word → GoesOn tells old new → HasPlayed d new (line.Report slot letter word) text text plan h
@@ -153,7 +153,7 @@ report_played d old new plan slot letter word text h playing did goes =
     let now = reported d old new plan slot (letter_byte letter) word h playing did goes in
     let comes = report_comes_to s slot letter word now.is.legal.1 in
     record {
-      events = Came (Report slot (letter_byte letter) word) ∷ [];
+      events = Came (Report slot (report_text (letter_byte letter) word)) ∷ [];
       own = [];
       plays = (ap outcome_events (sym comes), ap (printed (codes "rspawn")) (sym comes));
       playing = now;
@@ -169,7 +169,7 @@ abbrev pub report_refused : (d : Disk) (w : Seen Crash) (plan : Plan) (slot : �
 report_refused d w plan slot letter word text h playing none =
     let s = after d h in
     let comes : report_comes s slot letter word ≡ Is Refusal.NotWaiting =
-    ap (λ t. if t then Happens (Came (Report slot (letter_byte letter) word)) else Is Refusal.NotWaiting) (not_true (awaits_report s slot) (λ is. none (may_report_same (known w.events) s (sym (actors_told d w.events (history_of h) playing.is.told)) (sym (pipework_told d w.events (history_of h) playing.is.told playing.whole)) slot (may_report s slot is)))) in
+    ap (λ t. if t then Happens (Came (Report slot (report_text (letter_byte letter) word))) else Is Refusal.NotWaiting) (not_true (awaits_report s slot) (λ is. none (may_report_same (known w.events) s (sym (actors_told d w.events (history_of h) playing.is.told)) (sym (pipework_told d w.events (history_of h) playing.is.told playing.whole)) slot (may_report s slot is)))) in
     record {
       events = [];
       own = refusal_line Refusal.NotWaiting (codes "rspawn");

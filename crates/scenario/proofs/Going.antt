@@ -6,7 +6,6 @@ use Rattle.std.proofs.lemmas.Bool.{and_parts, eqb-true, false≢true}
 use Rattle.std.proofs.lemmas.List.Elements.{All-contains}
 use Rattle.call_fs.specs.declared.crash_file_system.Survival.{Survival}
 use Rattle.call_fs.specs.declared.past.ChildData.{ChildData}
-use Rattle.call_fs.specs.declared.past.ChildData.TheVariants as child
 use Rattle.call_fs.specs.declared.past.GotData.{GotData}
 use Rattle.call_fs.specs.declared.past.GotData.TheVariants.{Answered, Gave, Started}
 use Rattle.call_fs.specs.declared.past.NeedData.{NeedData}
@@ -520,8 +519,8 @@ goes_generation d h so none =
     }
 
 -- and a report
-pub goes_report : (d : Disk) (h : List Deed) (slot letter : ℕ) (text : List ℕ) → Goes d h → awaits_report (after d h) slot ≡ true → Goes d (Came (Report slot letter text) ∷ h)
-goes_report d h slot letter text so awaits =
+pub goes_report : (d : Disk) (h : List Deed) (slot : ℕ) (output : List ℕ) → Goes d h → awaits_report (after d h) slot ≡ true → Goes d (Came (Report slot output) ∷ h)
+goes_report d h slot output so awaits =
     let s = after d h in
     let tests = and_parts (lives_in (s.actors (codes "rspawn"))) (is_unreported (s.pipework.programs (codes "rspawn") slot)) awaits in
     record {
@@ -532,7 +531,7 @@ goes_report d h slot letter text so awaits =
           runs = unreported_is (s.pipework.programs (codes "rspawn") slot) tests.1;
         },
       );
-      carries = report_carries s slot letter text so.carries;
-      unborn = still_unborn d h (Report slot letter text) so (starts_none (Report slot letter text) (λ b. tt)) (λ k x here none. (x, here, none));
-      begun = report_begun s (history_of h) slot letter text (unreported_is (s.pipework.programs (codes "rspawn") slot) tests.1) so.begun;
+      carries = report_carries s slot output so.carries;
+      unborn = still_unborn d h (Report slot output) so (starts_none (Report slot output) (λ b. tt)) (λ k x here none. (x, here, none));
+      begun = report_begun s (history_of h) slot output (unreported_is (s.pipework.programs (codes "rspawn") slot) tests.1) so.begun;
     }

@@ -1,10 +1,10 @@
 -- Which event a kept one tells.
-use Rattle.std.proofs.Common.{◌≡◌, ℕ, List}
+use Rattle.std.proofs.Common.{◌≡◌, ◌∙◌, ℕ, List, ap}
 use Rattle.call_fs.specs.declared.past.Own.{Own}
 use Rattle.call_fs.specs.declared.program.Ready.{Ready}
 use Rattle.world_events.specs.declared.event.Event.TheVariants as kept
 use Rattle.world_events.specs.declared.event.Program.{Program}
-use Rattle.mail_world.specs.History.{Event}
+use Rattle.mail_world.specs.History.{Event, report_text}
 use Rattle.mail_world.specs.History.Event.{Start, Act, Child, Generation, Report, End, Stop, Moment, Halt}
 use Rattle.mail_world.specs.World.{Tells}
 use Rattle.scenario.specs.Turns.{generation_at}
@@ -14,7 +14,7 @@ act_told a own (Start b program) told = absurd (cc)
 act_told a own (Act b other w) told = (w, cc)
 act_told a own (Child parent other b program) told = absurd (cc)
 act_told a own (Generation sender clean lspawn rspawn) told = (let kept_is = told.1 in absurd (cc))
-act_told a own (Report slot letter text) told = absurd (cc)
+act_told a own (Report slot output) told = (let kept_is = told.2 in absurd (cc))
 act_told a own (End b q r status) told = absurd (cc)
 act_told a own (Stop b) told = absurd (cc)
 act_told a own (Moment m) told = absurd (cc)
@@ -25,7 +25,7 @@ child_told a own c program (Start b other) told = absurd (cc)
 child_told a own c program (Act b other w) told = absurd (cc)
 child_told a own c program (Child b other d starts) told = cc
 child_told a own c program (Generation sender clean lspawn rspawn) told = (let kept_is = told.1 in absurd (cc))
-child_told a own c program (Report slot letter text) told = absurd (cc)
+child_told a own c program (Report slot output) told = (let kept_is = told.2 in absurd (cc))
 child_told a own c program (End b q r status) told = absurd (cc)
 child_told a own c program (Stop b) told = absurd (cc)
 child_told a own c program (Moment m) told = absurd (cc)
@@ -36,7 +36,7 @@ end_told a p ready status (Start b program) told = absurd (cc)
 end_told a p ready status (Act b own w) told = absurd (cc)
 end_told a p ready status (Child parent own b other) told = absurd (cc)
 end_told a p ready status (Generation sender clean lspawn rspawn) told = (let kept_is = told.1 in absurd (cc))
-end_told a p ready status (Report slot letter text) told = absurd (cc)
+end_told a p ready status (Report slot output) told = (let kept_is = told.2 in absurd (cc))
 end_told a p ready status (End b q r other) told = cc
 end_told a p ready status (Stop b) told = absurd (cc)
 end_told a p ready status (Moment m) told = absurd (cc)
@@ -47,7 +47,7 @@ start_told a program (Start b other) told = cc
 start_told a program (Act b own w) told = absurd (cc)
 start_told a program (Child parent own b other) told = absurd (cc)
 start_told a program (Generation sender clean lspawn rspawn) told = (let kept_is = told.1 in absurd (cc))
-start_told a program (Report slot letter text) told = absurd (cc)
+start_told a program (Report slot output) told = (let kept_is = told.2 in absurd (cc))
 start_told a program (End b q r status) told = absurd (cc)
 start_told a program (Stop b) told = absurd (cc)
 start_told a program (Moment m) told = absurd (cc)
@@ -58,7 +58,7 @@ stop_told a (Start b program) told = absurd (cc)
 stop_told a (Act b own w) told = absurd (cc)
 stop_told a (Child parent own b other) told = absurd (cc)
 stop_told a (Generation sender clean lspawn rspawn) told = (let kept_is = told.1 in absurd (cc))
-stop_told a (Report slot letter text) told = absurd (cc)
+stop_told a (Report slot output) told = (let kept_is = told.2 in absurd (cc))
 stop_told a (End b q r status) told = absurd (cc)
 stop_told a (Stop b) told = cc
 stop_told a (Moment m) told = absurd (cc)
@@ -69,7 +69,7 @@ moment_told m (Start b program) told = absurd (cc)
 moment_told m (Act b own w) told = absurd (cc)
 moment_told m (Child parent own b other) told = absurd (cc)
 moment_told m (Generation sender clean lspawn rspawn) told = (let kept_is = told.1 in absurd (cc))
-moment_told m (Report slot letter text) told = absurd (cc)
+moment_told m (Report slot output) told = (let kept_is = told.2 in absurd (cc))
 moment_told m (End b q r status) told = absurd (cc)
 moment_told m (Stop b) told = absurd (cc)
 moment_told m (Moment n) told = cc
@@ -87,18 +87,23 @@ generation_told now (Generation sender clean lspawn rspawn) told =
     let three = told.2.lspawn_is in
     let four = told.2.rspawn_is in
     cc
-generation_told now (Report slot letter text) told = absurd (cc)
+generation_told now (Report slot output) told = (let kept_is = told.2 in absurd (cc))
 generation_told now (End b q r status) told = absurd (cc)
 generation_told now (Stop b) told = absurd (cc)
 generation_told now (Moment m) told = absurd (cc)
 generation_told now (Halt how contents) told = absurd (cc)
 
-pub report_told : (slot letter : ℕ) (text : List ℕ) (e : Event) → Tells (kept.Report slot letter text) e → e ≡ Report slot letter text
+pub report_told : (slot letter : ℕ) (text : List ℕ) (e : Event) → Tells (kept.Report slot letter text) e → e ≡ Report slot (report_text letter text)
 report_told slot letter text (Start b program) told = absurd (cc)
 report_told slot letter text (Act b own w) told = absurd (cc)
 report_told slot letter text (Child parent own b program) told = absurd (cc)
 report_told slot letter text (Generation sender clean lspawn rspawn) told = (let kept_is = told.1 in absurd (cc))
-report_told slot letter text (Report other k words) told = cc
+report_told slot letter text (Report other output) told =
+    let kept_is = told.2 in
+    let same : other ≡ slot = cc in
+    let letters : told.0 ≡ letter = cc in
+    let texts : told.1 ≡ text = cc in
+    ap (λ (n : ℕ). Report n output) same ∙ ap (λ (bytes : List ℕ). Report slot bytes) (told.3 ∙ (ap (λ (n : ℕ). report_text n told.1) letters ∙ ap (λ (words : List ℕ). report_text letter words) texts))
 report_told slot letter text (End b q r status) told = absurd (cc)
 report_told slot letter text (Stop b) told = absurd (cc)
 report_told slot letter text (Moment m) told = absurd (cc)

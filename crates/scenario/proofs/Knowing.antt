@@ -18,13 +18,13 @@ use Rattle.world_events.specs.declared.event.Program.{Program}
 use Rattle.world_events.specs.declared.event.Program.TheVariants.{Injector, Cleaner, Sender, LocalSpawner, RemoteSpawner, Delivery}
 use Rattle.world_pipes.specs.Pipes.{offered}
 use Rattle.mail_world.specs.Generations.{CanNot, Waits, idled_by, is_unreported, lives_in, lowest_unreported}
-use Rattle.mail_world.specs.History.{Event, Actor, State, MayReport, TenantEnds, after, next_of, program_of}
+use Rattle.mail_world.specs.History.{Event, Actor, State, MayReport, after, next_of, program_of}
 use Rattle.mail_world.specs.Known.{known}
 use Rattle.mail_world.specs.Pipework.{Pipework, Tenant, is_ready}
 use Rattle.mail_world.specs.Pipework.Tenant.{Runs, Remote}
-use Rattle.mail_world.specs.Readiness.{found_at, found_by, found_in, has_ended, input_alone, input_or_child, is_awaiting, is_gone, lies_ready, lowest_ended}
+use Rattle.mail_world.specs.Readiness.{found_at, found_by, found_in, has_ended, input_alone, only_child, input_or_child, is_awaiting, is_gone, lies_ready, lowest_ended}
 use Rattle.mail_world.specs.Wired.{AreWholeGivings}
-use Rattle.mail_world.specs.World.{ComesWhole, Counts, IsKeptBy, IsKeptGiving, IsKeptTo, Tells, most_of, with_inputs}
+use Rattle.mail_world.specs.World.{ComesWhole, Counts, EndsInWorld, IsKeptBy, IsKeptGiving, IsKeptTo, Tells, most_of, with_inputs}
 use Rattle.mail_world.proofs.Known.{after_known, known_pipework}
 
 module _ (s t : State) (actors : s.actors ≡ t.actors) (pipework : s.pipework ≡ t.pipework) where
@@ -56,8 +56,9 @@ module _ (s t : State) (actors : s.actors ≡ t.actors) (pipework : s.pipework �
   by_program a (Injector args) = ap (λ (t : Bool). if t then input_alone false else INPUT_READY) (awaiting_same a)
   by_program a (Cleaner start) = ap (λ (b : Bool). input_alone b) (ready_same a port.Input)
   by_program a (Sender start) =
-      let f : Pipework → Ready = λ w. record { links = is_ready (w.pipes a port.Clean) ∷ is_ready (w.pipes a port.Lspawn) ∷ is_ready (w.pipes a port.Rspawn) ∷ false ∷ []; child = None } in
-      ap f pipework
+      let f : Pipework → Bool → Ready = λ w b.
+      record { links = is_ready (w.pipes a port.Clean) ∷ is_ready (w.pipes a port.Lspawn) ∷ is_ready (w.pipes a port.Rspawn) ∷ false ∷ []; child = only_child b } in
+      ap (λ (w : Pipework). f w (has_ended s (s.pipework.programs a 0))) pipework ∙ ap (f t.pipework) (slot_same a 0)
   by_program a (LocalSpawner start) = or_child_same a
   by_program a (RemoteSpawner start) = or_child_same a
   by_program a (Delivery start args) = or_child_same a
@@ -70,7 +71,7 @@ module _ (s t : State) (actors : s.actors ≡ t.actors) (pipework : s.pipework �
   pub found_same : (a : List ℕ) → found_in s a ≡ found_in t a
   found_same a = by_actor a (s.actors a) ∙ ap (λ (m : List ℕ → Option Actor). found_at t a (m a)) actors
 
-  ends_same : (o : Option Tenant) (came : GotData) → TenantEnds t o came → TenantEnds s o came
+  ends_same : (o : Option Tenant) (came : GotData) → EndsInWorld t o came → EndsInWorld s o came
   ends_same None came h = h
   ends_same (Some (Runs b)) came h = (h.0, ap (λ (m : List ℕ → Option Actor). m b) actors ∙ h.1, h.2)
   ends_same (Some (Remote true)) came h = h
@@ -83,7 +84,7 @@ module _ (s t : State) (actors : s.actors ≡ t.actors) (pipework : s.pipework �
   pub comes_same : (pid : ℕ) (a : List ℕ) (program : Program) (due : NeedData) (came : GotData) → ComesWhole t pid a program due came → ComesWhole s pid a program due came
   comes_same pid a program (needs.File call) came h = h
   comes_same pid a program (needs.Take (port.Status d)) came h =
-      ends_same (s.pipework.programs a d) came (subst (λ (w : Pipework). TenantEnds t (w.programs a d) came) (sym pipework) h)
+      ends_same (s.pipework.programs a d) came (subst (λ (w : Pipework). EndsInWorld t (w.programs a d) came) (sym pipework) h)
   comes_same pid a program (needs.Take port.Input) came h = offers_same a program port.Input came h
   comes_same pid a program (needs.Take port.Output) came h = offers_same a program port.Output came h
   comes_same pid a program (needs.Take port.Clean) came h = offers_same a program port.Clean came h

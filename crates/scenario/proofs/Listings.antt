@@ -14,7 +14,7 @@ use Rattle.crash_fs.specs.Answers.{IsFinite}
 use Rattle.crash_fs.proofs.Decided.{Decided, both, is_true}
 use Rattle.crash_fs.proofs.InOrder.{contains_among, among_contains, passing, ordered, rises_pairs, equal_is, pairs_increase}
 use Rattle.crash_fs.proofs.NextNames.{some_of, names_after}
-use Rattle.disk_numbers.proofs.NumbersInUse.{some_part, far_or_not}
+use Rattle.script_disks.proofs.NumbersInUse.{some_part, far_or_not}
 
 pub names_in : (d : Disk) → IsFinite d → (dir : List ℕ) → (names : List (List ℕ)) × AreNamesIn d dir names
 names_in d f dir = let found = names_after d f dir [] in (found.names, record { each = found.each; rising = found.rising })

@@ -2,9 +2,8 @@
 use Rattle.std.proofs.Common.{◌≡◌, ℕ, List, [], ◌∷◌, ◌++◌, length, refl, sym, ap, ◌∙◌, arith, append_assoc}
 use Rattle.std.specs.List.{AllByRecursion}
 use Rattle.mail_bytes.specs.Decimal.{digits, IsDigit}
-use Rattle.mail_bytes.specs.Netstring.{head}
+use Rattle.mail_bytes.specs.Netstring.{head, netstring}
 use Rattle.mail_bytes.proofs.Digits.{digits_injective, digits_only}
-use Rattle.fed_injector.specs.Texts.{netstring}
 
 heads : (a b : ℕ) (x y : List ℕ) → ◌≡◌ {A = List ℕ} (a ∷ x) (b ∷ y) → a ≡ b
 heads a b x y e = cc

@@ -10,16 +10,16 @@ use Rattle.mail_world.specs.History.Event.{Halt}
 use Rattle.mail_world.specs.History.Life.{Alive, Over, Stopped}
 use Rattle.mail_world.specs.World.{mail}
 use Rattle.script_words.specs.declared.entry.Entry.{Entry}
-use Rattle.play_lines.specs.declared.line.Line.{Line}
-use Rattle.play_lines.specs.declared.line.Line.TheVariants as line
-use Rattle.play_lines.specs.declared.keyword.Alone.TheVariants as alone
-use Rattle.play_lines.specs.declared.keyword.OfActor.TheVariants as of_actor
-use Rattle.play_lines.specs.declared.keyword.OfCount.TheVariants as of_count
-use Rattle.play_lines.specs.declared.keyword.OfLetter.TheVariants as of_letter
-use Rattle.play_lines.specs.declared.keyword.OfMoment.TheVariants as of_moment
-use Rattle.play_lines.specs.declared.keyword.OfSurvival.TheVariants as of_survival
-use Rattle.play_lines.specs.declared.keyword.OfWord.TheVariants as of_word
-use Rattle.play_lines.specs.Contents.{Content}
+use Rattle.script_lines.specs.declared.line.Line.{Line}
+use Rattle.script_lines.specs.declared.line.Line.TheVariants as line
+use Rattle.script_lines.specs.declared.keyword.Alone.TheVariants as alone
+use Rattle.script_lines.specs.declared.keyword.OfActor.TheVariants as of_actor
+use Rattle.script_lines.specs.declared.keyword.OfCount.TheVariants as of_count
+use Rattle.script_lines.specs.declared.keyword.OfLetter.TheVariants as of_letter
+use Rattle.script_lines.specs.declared.keyword.OfMoment.TheVariants as of_moment
+use Rattle.script_lines.specs.declared.keyword.OfSurvival.TheVariants as of_survival
+use Rattle.script_lines.specs.declared.keyword.OfWord.TheVariants as of_word
+use Rattle.script_lines.specs.Contents.{Content}
 use Rattle.scenario.specs.Deeds.{Deed, after, history_of}
 use Rattle.scenario.specs.Deeds.Deed.{Came}
 use Rattle.scenario.specs.FirstDisk.{IsFirstDisk}
@@ -32,7 +32,7 @@ use Rattle.scenario.proofs.OneTurn.{one_turn, one_settled}
 use Rattle.scenario.proofs.OneShown.{one_shown}
 use Rattle.scenario.proofs.OneOrder.{one_order}
 use Rattle.scenario.proofs.OneFirstDisk.{one_disk}
-use Rattle.play_lines.proofs.SaidContents.{one_script}
+use Rattle.script_lines.proofs.SaidContents.{one_script}
 
 -- the named numbers are one list
 one_named : (d : Disk) (xs ys : List ℕ) → AreNamed d xs → AreNamed d ys → xs ≡ ys

@@ -9,8 +9,8 @@ use Rattle.world_events.specs.declared.books.Entry.{Entry}
 use Rattle.mail_world.specs.Books.{books_in}
 use Rattle.mail_world.specs.World.{Seen}
 use Rattle.scenario.specs.Deeds.{Deed, TellsDeed, history_of}
-use Rattle.play_lines.specs.declared.line.Line.TheVariants as line
-use Rattle.play_lines.specs.declared.keyword.OfLetter.TheVariants as of_letter
+use Rattle.script_lines.specs.declared.line.Line.TheVariants as line
+use Rattle.script_lines.specs.declared.keyword.OfLetter.TheVariants as of_letter
 use Rattle.script_words.specs.declared.letter.Letter.{Letter}
 use Rattle.scenario.specs.Steps.{plan_through, refusal_line}
 use Rattle.scenario.specs.Steps.Refusal.{Rounds}

@@ -18,13 +18,13 @@ use Rattle.actor_names.specs.MailNames.{IsMailName}
 use Rattle.mail_world.specs.World.{Seen, IsHistory, GoesOn, was_started, started_world, mail, next_pid as kept_pid}
 use Rattle.mail_world.proofs.Lives.{started_is}
 use Rattle.script_words.specs.declared.entry.Entry.{Entry}
-use Rattle.play_lines.specs.declared.line.Line.{Line}
-use Rattle.play_lines.specs.declared.line.Line.TheVariants as line
-use Rattle.play_lines.specs.declared.keyword.Alone.TheVariants as alone
-use Rattle.play_lines.specs.declared.keyword.OfActor.TheVariants as of_actor
-use Rattle.play_lines.specs.declared.keyword.OfWord.{OfWord}
-use Rattle.play_lines.specs.declared.keyword.OfWord.TheVariants as of_word
-use Rattle.play_lines.specs.Contents.{HaveEntryPaths}
+use Rattle.script_lines.specs.declared.line.Line.{Line}
+use Rattle.script_lines.specs.declared.line.Line.TheVariants as line
+use Rattle.script_lines.specs.declared.keyword.Alone.TheVariants as alone
+use Rattle.script_lines.specs.declared.keyword.OfActor.TheVariants as of_actor
+use Rattle.script_lines.specs.declared.keyword.OfWord.{OfWord}
+use Rattle.script_lines.specs.declared.keyword.OfWord.TheVariants as of_word
+use Rattle.script_lines.specs.Contents.{HaveEntryPaths}
 use Rattle.scenario.specs.Deeds.{Deed, history_of, after}
 use Rattle.scenario.specs.Deeds.Deed.{Came}
 use Rattle.scenario.specs.FirstDisk.{IsFirstDisk}

@@ -9,8 +9,8 @@ use Rattle.mail_world.specs.declared.error.WorldError.{WorldError}
 use Rattle.mail_world.specs.declared.error.WorldError.TheVariants as error
 use Rattle.mail_world.specs.History.{IsLiving}
 use Rattle.mail_world.specs.World.{Seen}
-use Rattle.play_lines.specs.declared.line.Line.TheVariants as line
-use Rattle.play_lines.specs.declared.keyword.OfActor.TheVariants as of_actor
+use Rattle.script_lines.specs.declared.line.Line.TheVariants as line
+use Rattle.script_lines.specs.declared.keyword.OfActor.TheVariants as of_actor
 use Rattle.scenario.specs.declared.stepping.Stepped.TheVariants as how
 use Rattle.scenario.specs.Deeds.{Deed, after}
 use Rattle.scenario.specs.Steps.{Refusal, IsRefusalOf, StepsTo, AreSteps, plan_through, has_idled, most_steps, stop_text, refusal_line}

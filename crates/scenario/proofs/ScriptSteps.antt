@@ -25,7 +25,7 @@ use Rattle.call_fs.specs.Plan.{Plan, Takes, CallKeepsPlan}
 use Rattle.call_fs.specs.Apply.{effect}
 use Rattle.crash_fs.specs.Crash.{Crash, crash_disk, crash_plan}
 use Rattle.call_fs.proofs.Maps.{put_at_same, put_at_other}
-use Rattle.local_steps.specs.Arguments.{local_args}
+use Rattle.local_parts.specs.Arguments.{local_args}
 use Rattle.queue_inject.specs.declared.injection.Arguments.{Arguments}
 use Rattle.world_events.specs.Children.{Counts, child_of, counts_in as kept_counts}
 use Rattle.world_events.specs.Inputs.{bounce, forward, with_inputs}

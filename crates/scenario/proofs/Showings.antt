@@ -15,7 +15,7 @@ use Rattle.call_fs.specs.declared.past.NeedData.TheVariants.{File}
 use Rattle.call_fs.specs.declared.past.Own.{Own}
 use Rattle.call_fs.specs.Disk.{Disk}
 use Rattle.crash_fs.specs.Crash.{crash_disk}
-use Rattle.disk_numbers.specs.Controls.{controls_on}
+use Rattle.script_disks.specs.Controls.{controls_on}
 use Rattle.queue_inject.specs.declared.injection.Arguments.{Arguments}
 use Rattle.queue_paths.specs.Names.{Name, is_number, is_used, parse, used}
 use Rattle.queue_paths.specs.Names.Name.{Of, Pid}

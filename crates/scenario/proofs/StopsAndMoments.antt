@@ -19,11 +19,11 @@ use Rattle.mail_world.specs.World.{Seen, IsHistory, GoesOn, GoesOnWith, IsStop, 
 use Rattle.mail_world.specs.Wired.{AreWholeGivings, IsWholeGiving}
 use Rattle.mail_world.proofs.Lives.{ended_is}
 use Rattle.mail_world.proofs.Known.{IsPlain}
-use Rattle.play_lines.specs.declared.line.Line.TheVariants as line
-use Rattle.play_lines.specs.declared.keyword.OfActor.TheVariants as of_actor
-use Rattle.play_lines.specs.declared.keyword.OfCount.TheVariants as of_count
-use Rattle.play_lines.specs.declared.keyword.OfMoment.TheVariants as of_moment
-use Rattle.play_lines.specs.declared.keyword.OfSurvival.TheVariants as of_survival
+use Rattle.script_lines.specs.declared.line.Line.TheVariants as line
+use Rattle.script_lines.specs.declared.keyword.OfActor.TheVariants as of_actor
+use Rattle.script_lines.specs.declared.keyword.OfCount.TheVariants as of_count
+use Rattle.script_lines.specs.declared.keyword.OfMoment.TheVariants as of_moment
+use Rattle.script_lines.specs.declared.keyword.OfSurvival.TheVariants as of_survival
 use Rattle.scenario.specs.Deeds.{Deed, TellsDeed, history_of, after}
 use Rattle.scenario.specs.Deeds.Deed.{Came}
 use Rattle.scenario.specs.Played.{Refusal, IsRefusalOf, StopsAlive, StopComesTo, refusal_line}

@@ -38,24 +38,24 @@ use Rattle.send_jobs.specs.Failures.{failure_in, is_final}
 use Rattle.send_jobs.specs.Lanes.{job_over, left_unmarked, reported}
 use Rattle.send_jobs.specs.Sending.{at_lane, lane, none_out}
 use Rattle.send_jobs.specs.Slots.{attempt_in}
-use Rattle.send_steps.specs.declared.link.Link.{Link}
-use Rattle.send_steps.specs.declared.reading.Reading.{Reading}
-use Rattle.send_steps.specs.declared.reading.Reading.TheVariants.{Opening, Going, Closing, Shutting}
-use Rattle.send_steps.specs.declared.reply.Way.{Way}
-use Rattle.send_steps.specs.declared.reply.Way.TheVariants as way
-use Rattle.send_steps.specs.declared.rows.FinishRow.{FinishRow}
-use Rattle.send_steps.specs.declared.rows.FinishRow.TheVariants as finish
-use Rattle.send_steps.specs.declared.rows.StartRow.{StartRow}
-use Rattle.send_steps.specs.declared.rows.StartRow.TheVariants as start
-use Rattle.send_steps.specs.declared.rows.SweepRow.{SweepRow}
-use Rattle.send_steps.specs.declared.rows.SweepRow.TheVariants as sweep
-use Rattle.send_steps.specs.declared.step.Step.{Step}
-use Rattle.send_steps.specs.declared.step.Step.TheVariants as step
-use Rattle.send_steps.specs.Readings.{reading_step}
-use Rattle.send_steps.specs.Replies.{Said, said}
-use Rattle.send_steps.specs.Rows.{sweep_step}
-use Rattle.send_steps.specs.Start.{remote_limit}
-use Rattle.send_steps.specs.Steps.{due_by}
+use Rattle.send_parts.specs.declared.link.Link.{Link}
+use Rattle.send_parts.specs.declared.reading.Reading.{Reading}
+use Rattle.send_parts.specs.declared.reading.Reading.TheVariants.{Opening, Going, Closing, Shutting}
+use Rattle.send_parts.specs.declared.reply.Way.{Way}
+use Rattle.send_parts.specs.declared.reply.Way.TheVariants as way
+use Rattle.send_parts.specs.declared.rows.FinishRow.{FinishRow}
+use Rattle.send_parts.specs.declared.rows.FinishRow.TheVariants as finish
+use Rattle.send_parts.specs.declared.rows.StartRow.{StartRow}
+use Rattle.send_parts.specs.declared.rows.StartRow.TheVariants as start
+use Rattle.send_parts.specs.declared.rows.SweepRow.{SweepRow}
+use Rattle.send_parts.specs.declared.rows.SweepRow.TheVariants as sweep
+use Rattle.send_parts.specs.declared.step.Step.{Step}
+use Rattle.send_parts.specs.declared.step.Step.TheVariants as step
+use Rattle.send_parts.specs.Readings.{reading_step}
+use Rattle.send_parts.specs.Replies.{Said, said}
+use Rattle.send_parts.specs.Rows.{sweep_step}
+use Rattle.send_parts.specs.Start.{remote_limit}
+use Rattle.send_parts.specs.Steps.{due_by}
 use Rattle.spawn_protocol.specs.declared.report.Report.{Report}
 use Rattle.spawn_protocol.specs.Report.{Reader, counted, read_on}
 use Rattle.todo_pass.specs.declared.row.Row.{Row as PassRow}
@@ -126,8 +126,8 @@ deferred_lane Remote n d =
 
 waits_lane : (c : Channel) (a : Attempt) (note : Option Failure) (d : Desk)
     → ((lane c (waits c a note d).slots).marks ≡ (lane c d.slots).marks ++ (let m : Mark = record { attempt = a; note = note } in m) ∷ []) × ((lane c (waits c a note d).slots).slots ≡ (lane c d.slots).slots)
-waits_lane Local a note d = (refl, refl)
-waits_lane Remote a note d = (refl, refl)
+waits_lane Local a noted d = (refl, refl)
+waits_lane Remote a noted d = (refl, refl)
 
 -- a mark has a note unless its recipient was delivered to
 note_told : (k : Bool) (f : Failure) → is_none (if k then None else Some f) ≡ k

@@ -11,12 +11,12 @@ use Rattle.world_events.specs.declared.event.Event.{Event as Kept}
 use Rattle.mail_world.specs.History.{Event}
 use Rattle.mail_world.specs.History.Event.{Start, Act, Child, Generation, Report, End, Stop, Moment, Halt}
 use Rattle.mail_world.specs.World.{Seen, Tells}
-use Rattle.play_lines.specs.declared.line.Line.{Line}
-use Rattle.trace_lines.specs.Events.{kept_line}
+use Rattle.script_lines.specs.declared.line.Line.{Line}
+use Rattle.script_traces.specs.Events.{kept_line, report_line}
 use Rattle.scenario.specs.Playing.{IsPlaying, HasPlayed, HasPrinted}
 use Rattle.scenario.specs.Deeds.{Deed, TellsDeed}
 use Rattle.scenario.specs.Deeds.Deed.{Came, Fed}
-use Rattle.scenario.specs.Traced.{event_line, deed_line}
+use Rattle.scenario.specs.Traced.{event_line, deed_line, letter_in}
 use Rattle.scenario.proofs.Deeds.{told_long}
 
 zip_append : {A B : Type 0} (R : A → B → Type 0) (xs us : List A) (ys vs : List B) → AllZip R xs ys → AllZip R us vs → AllZip R (xs ++ us) (ys ++ vs)
@@ -56,7 +56,7 @@ line_told k (Start a program) told = ap kept_line told
 line_told k (Act a own w) told = ap kept_line told
 line_told k (Child parent own a program) told = ap kept_line told
 line_told k (Generation sender clean lspawn rspawn) told = ap kept_line told.1
-line_told k (Report slot letter text) told = ap kept_line told
+line_told k (Report slot output) told = ap kept_line told.2 ∙ ap (λ (bytes : List ℕ). report_line slot (letter_in bytes)) (sym told.3)
 line_told k (End a read ready status) told = ap kept_line told
 line_told k (Stop a) told = ap kept_line told
 line_told k (Moment m) told = ap kept_line told

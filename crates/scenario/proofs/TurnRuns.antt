@@ -8,9 +8,9 @@ use Rattle.call_fs.specs.Plan.{Plan}
 use Rattle.crash_fs.specs.Crash.{Crash}
 use Rattle.mail_world.specs.Generations.{lowest_unreported}
 use Rattle.mail_world.specs.World.{Seen}
-use Rattle.play_lines.specs.declared.line.Line.TheVariants as line
-use Rattle.play_lines.specs.declared.keyword.Alone.TheVariants as alone
-use Rattle.play_lines.specs.declared.keyword.OfLetter.TheVariants as of_letter
+use Rattle.script_lines.specs.declared.line.Line.TheVariants as line
+use Rattle.script_lines.specs.declared.keyword.Alone.TheVariants as alone
+use Rattle.script_lines.specs.declared.keyword.OfLetter.TheVariants as of_letter
 use Rattle.script_words.specs.declared.letter.Letter.{Letter}
 use Rattle.scenario.specs.Chains.{EachFollows}
 use Rattle.scenario.specs.Deeds.{Deed, event_in, after}

@@ -16,13 +16,13 @@ use Rattle.world_events.specs.declared.event.Program.{Program}
 use Rattle.world_events.specs.declared.event.Program.TheVariants.{Injector, Cleaner, Sender, LocalSpawner, RemoteSpawner, Delivery}
 use Rattle.world_pipes.specs.Pipes.{offered, end_of}
 use Rattle.mail_world.specs.Generations.{CanNot}
-use Rattle.mail_world.specs.History.{Event, Actor, Life, State, TenantEnds, IsStatusOf, netstring, next_of, program_of}
+use Rattle.mail_world.specs.History.{Event, Actor, Life, State, IsStatusOf, netstring, next_of, program_of}
 use Rattle.mail_world.specs.History.Event.{Act, Child}
 use Rattle.mail_world.specs.History.Life.{Alive, Over, Stopped}
 use Rattle.mail_world.specs.Pipework.{Pipe, Tenant, is_ready}
 use Rattle.mail_world.specs.Pipework.Tenant.{Runs, Remote}
 use Rattle.mail_world.specs.Readiness.{has_ended, found_in, is_over}
-use Rattle.mail_world.specs.World.{ComesWhole, IsKeptBy, IsKeptGiving, IsKeptStart, IsKeptTo, most_of}
+use Rattle.mail_world.specs.World.{ComesWhole, EndsInWorld, IsKeptBy, IsKeptGiving, IsKeptStart, IsKeptTo, most_of}
 use Rattle.scenario.specs.Deeds.{Deed, after, counts_in}
 use Rattle.scenario.specs.Deeds.Deed.{Came, Fed}
 use Rattle.scenario.specs.Steps.{DoesNext, StepsTo, Gives, GivesTo, next_pid, comes, does, event_by, own_by, start_event, status_in, status_of, status_told}
@@ -103,7 +103,7 @@ status_some Alive came is = absurd is
 status_some (Over status) came is = ap (λ (g : GotData). Some g) (sym is)
 status_some Stopped came is = ap (λ (g : GotData). Some g) (sym is)
 
-tenant_some : (s : State) (o : Option Tenant) (came : GotData) → TenantEnds s o came → status_in s o ≡ Some came
+tenant_some : (s : State) (o : Option Tenant) (came : GotData) → EndsInWorld s o came → status_in s o ≡ Some came
 tenant_some s None came ends = absurd ends
 tenant_some s (Some (Runs a)) came ends = ap status_of ends.1 ∙ status_some ends.0.life came ends.2
 tenant_some s (Some (Remote true)) came ends = ap (λ (g : GotData). Some g) (sym ends)

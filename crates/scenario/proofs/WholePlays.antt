@@ -8,23 +8,23 @@ use Rattle.mail_bytes.specs.Moments.{IsMoment}
 use Rattle.mem_fs.specs.MemDisk.{bytes_at}
 use Rattle.queue_inject.specs.declared.injection.Arguments.{Arguments}
 use Rattle.world_events.specs.declared.event.Program.TheVariants.{Injector}
-use Rattle.mail_world.specs.History.{Actor, Life, State}
+use Rattle.mail_world.specs.History.{Actor, Life, State, report_text}
 use Rattle.mail_world.specs.History.Event.{Start, Report, Stop, Moment, Halt}
 use Rattle.mail_world.specs.History.Life.{Alive, Over, Stopped}
 use Rattle.actor_names.specs.MailNames.{IsMailName, IsLetter, IsLetterOrDigit, members}
 use Rattle.mail_world.specs.World.{mail}
 use Rattle.script_words.specs.declared.entry.Entry.{Entry}
-use Rattle.play_lines.specs.declared.line.Line.{Line}
-use Rattle.play_lines.specs.declared.line.Line.TheVariants as line
-use Rattle.play_lines.specs.declared.keyword.Alone.TheVariants as alone
-use Rattle.play_lines.specs.declared.keyword.OfActor.TheVariants as of_actor
-use Rattle.play_lines.specs.declared.keyword.OfCount.TheVariants as of_count
-use Rattle.play_lines.specs.declared.keyword.OfLetter.TheVariants as of_letter
-use Rattle.play_lines.specs.declared.keyword.OfMoment.TheVariants as of_moment
-use Rattle.play_lines.specs.declared.keyword.OfSurvival.TheVariants as of_survival
-use Rattle.play_lines.specs.declared.keyword.OfWord.TheVariants as of_word
-use Rattle.play_lines.specs.Contents.{Content, HaveEntryPaths}
-use Rattle.play_lines.specs.Lines.{IsScript, IsLine}
+use Rattle.script_lines.specs.declared.line.Line.{Line}
+use Rattle.script_lines.specs.declared.line.Line.TheVariants as line
+use Rattle.script_lines.specs.declared.keyword.Alone.TheVariants as alone
+use Rattle.script_lines.specs.declared.keyword.OfActor.TheVariants as of_actor
+use Rattle.script_lines.specs.declared.keyword.OfCount.TheVariants as of_count
+use Rattle.script_lines.specs.declared.keyword.OfLetter.TheVariants as of_letter
+use Rattle.script_lines.specs.declared.keyword.OfMoment.TheVariants as of_moment
+use Rattle.script_lines.specs.declared.keyword.OfSurvival.TheVariants as of_survival
+use Rattle.script_lines.specs.declared.keyword.OfWord.TheVariants as of_word
+use Rattle.script_lines.specs.Contents.{Content, HaveEntryPaths}
+use Rattle.script_lines.specs.Lines.{IsScript, IsLine}
 use Rattle.scenario.specs.Deeds.{Deed, history_of, after, next_pid}
 use Rattle.scenario.specs.Deeds.Deed.{Came}
 use Rattle.scenario.specs.FirstDisk.{IsFirstDisk}
@@ -48,7 +48,7 @@ use Rattle.call_fs.specs.Choices.{contents_by}
 use Rattle.call_fs.specs.Plan.{Plan, no_plan}
 use Rattle.crash_fs.proofs.LeastFree.{is_unused}
 use Rattle.scenario.proofs.Openings.{first_opens, is_ready}
-use Rattle.play_lines.proofs.SaidContents.{said_paths, said_few}
+use Rattle.script_lines.proofs.SaidContents.{said_paths, said_few}
 
 -- Starts
 
@@ -171,8 +171,8 @@ generation_kept d h None none so = goes_generation d h so none
 generation_kept d h (Some a) is so = so
 
 report_kept : (d : Disk) (h : List Deed) (slot : ℕ) (letter : Letter) (word : List ℕ) (awaits : Bool) → awaits_report (after d h) slot ≡ awaits → Goes d h
-    → Goes d (outcome_events (if awaits then Happens (Came (Report slot (letter_byte letter) word)) else Is NotWaiting) ++ h)
-report_kept d h slot letter word true is so = goes_report d h slot (letter_byte letter) word so is
+    → Goes d (outcome_events (if awaits then Happens (Came (Report slot (report_text (letter_byte letter) word))) else Is NotWaiting) ++ h)
+report_kept d h slot letter word true is so = goes_report d h slot (report_text (letter_byte letter) word) so is
 report_kept d h slot letter word false is so = so
 
 start_kept : (d : Disk) (h : List Deed) (name message envelope : List ℕ) (outcome : Outcome) → Goes d h

@@ -13,15 +13,15 @@ use Rattle.mail_world.specs.History.Event.{Start, Stop, Moment, Halt}
 use Rattle.mail_world.specs.History.Life.{Alive, Over, Stopped}
 use Rattle.actor_names.specs.MailNames.{IsMailName, members}
 use Rattle.mail_world.specs.World.{mail}
-use Rattle.play_lines.specs.declared.line.Line.{Line}
-use Rattle.play_lines.specs.declared.line.Line.TheVariants as line
-use Rattle.play_lines.specs.declared.keyword.Alone.TheVariants as alone
-use Rattle.play_lines.specs.declared.keyword.OfActor.TheVariants as of_actor
-use Rattle.play_lines.specs.declared.keyword.OfCount.TheVariants as of_count
-use Rattle.play_lines.specs.declared.keyword.OfLetter.TheVariants as of_letter
-use Rattle.play_lines.specs.declared.keyword.OfMoment.TheVariants as of_moment
-use Rattle.play_lines.specs.declared.keyword.OfSurvival.TheVariants as of_survival
-use Rattle.play_lines.specs.declared.keyword.OfWord.TheVariants as of_word
+use Rattle.script_lines.specs.declared.line.Line.{Line}
+use Rattle.script_lines.specs.declared.line.Line.TheVariants as line
+use Rattle.script_lines.specs.declared.keyword.Alone.TheVariants as alone
+use Rattle.script_lines.specs.declared.keyword.OfActor.TheVariants as of_actor
+use Rattle.script_lines.specs.declared.keyword.OfCount.TheVariants as of_count
+use Rattle.script_lines.specs.declared.keyword.OfLetter.TheVariants as of_letter
+use Rattle.script_lines.specs.declared.keyword.OfMoment.TheVariants as of_moment
+use Rattle.script_lines.specs.declared.keyword.OfSurvival.TheVariants as of_survival
+use Rattle.script_lines.specs.declared.keyword.OfWord.TheVariants as of_word
 use Rattle.scenario.specs.Shown.{line_of, IsShown}
 use Rattle.scenario.specs.Deeds.{Deed, history_of, after}
 use Rattle.scenario.specs.Deeds.Deed.{Came}

@@ -16,7 +16,7 @@ use Rattle.world_events.specs.declared.event.Event.TheVariants as kept
 use Rattle.mail_world.specs.History.{IsLiving}
 use Rattle.mail_world.specs.Wired.{AreWholeGivings}
 use Rattle.mail_world.specs.World.{Seen, IsHistory}
-use Rattle.play_lines.specs.declared.line.Line.{Line}
+use Rattle.script_lines.specs.declared.line.Line.{Line}
 use Rattle.script_words.specs.declared.letter.Letter.{Letter}
 use Rattle.scenario.specs.declared.stepping.Stepped.{Stepped}
 use Rattle.scenario.specs.declared.stepping.Stepped.TheVariants as how

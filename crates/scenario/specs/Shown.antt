@@ -12,16 +12,16 @@ use Rattle.queue_states.specs.States.{state_of, is_there}
 pub use Rattle.queue_states.specs.Listing.{AreNamesIn}
 use Rattle.send_jobs.specs.declared.channels.Channel.{Channel}
 use Rattle.send_jobs.specs.declared.channels.Channel.TheVariants.{Local, Remote}
-use Rattle.disk_numbers.specs.declared.routes.Routed.{Routed}
-use Rattle.disk_numbers.specs.Controls.{controls_on}
-use Rattle.disk_numbers.specs.Routes.{recipients_in, routes_in}
-pub use Rattle.disk_numbers.specs.Numbers.{AreNumbersIn}
-pub use Rattle.disk_numbers.specs.Records.{is_noted, is_unmarked}
+use Rattle.script_disks.specs.declared.routes.Routed.{Routed}
+use Rattle.script_disks.specs.Controls.{controls_on}
+use Rattle.script_disks.specs.Routes.{recipients_in, routes_in}
+pub use Rattle.script_disks.specs.Numbers.{AreNumbersIn}
+pub use Rattle.script_disks.specs.Records.{is_noted, is_unmarked}
 pub use Rattle.queue_states.specs.Lines.{line_of, count_line, state_line}
 use Rattle.mail_world.specs.History.{Event, after}
 use Rattle.mail_world.specs.Books.{entry_in, mails_of}
 use Rattle.world_events.specs.declared.books.Entry.{Entry}
-pub use Rattle.trace_lines.specs.Mails.{alike_lines, life_word, recipient_lines}
+pub use Rattle.script_traces.specs.Mails.{alike_lines, life_word, recipient_lines}
 
 -- `pid COUNT`
 abbrev pub pid_line : List (List ℕ) → List ℕ

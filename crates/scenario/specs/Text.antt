@@ -5,11 +5,11 @@ use Rattle.call_fs.specs.Disk.{Disk}
 use Rattle.call_fs.specs.Plan.{Plan, no_plan}
 use Rattle.mail_world.specs.History.{Legal}
 use Rattle.script_words.specs.declared.entry.Entry.{Entry}
-use Rattle.play_lines.specs.declared.line.Line.{Line}
-use Rattle.play_lines.specs.Contents.{Content}
+use Rattle.script_lines.specs.declared.line.Line.{Line}
+use Rattle.script_lines.specs.Contents.{Content}
 use Rattle.scenario.specs.Deeds.{Deed, history_of}
 use Rattle.scenario.specs.FirstDisk.{IsFirstDisk}
-use Rattle.play_lines.specs.Lines.{IsScript, IsBadLine}
+use Rattle.script_lines.specs.Lines.{IsScript, IsBadLine}
 use Rattle.scenario.specs.Played.{PlaysAll}
 use Rattle.scenario.specs.Shown.{line_of}
 

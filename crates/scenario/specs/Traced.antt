@@ -1,14 +1,19 @@
 -- The lines of events, as a script prints them if it traces.
-use Rattle.std.specs.Prelude.{ℕ, List, [], reverse, Bool, true, false, flat_map}
+use Rattle.std.specs.Prelude.{ℕ, List, [], ◌∷◌, reverse, Bool, true, false, flat_map}
 use Rattle.actor_names.specs.MailNames.{members}
 use Rattle.mail_world.specs.History.{Event}
 use Rattle.mail_world.specs.History.Event.{Start, Act, Child, Generation, Report, End, Stop, Moment, Halt}
-use Rattle.play_lines.specs.declared.line.Line.{Line}
-use Rattle.play_lines.specs.declared.line.Line.TheVariants as line
-use Rattle.play_lines.specs.declared.keyword.Alone.TheVariants as alone
-use Rattle.trace_lines.specs.Acts.{act_line}
-use Rattle.trace_lines.specs.Events.{start_line, report_line, end_line, stop_line, moment_line, halt_line}
+use Rattle.script_lines.specs.declared.line.Line.{Line}
+use Rattle.script_lines.specs.declared.line.Line.TheVariants as line
+use Rattle.script_lines.specs.declared.keyword.Alone.TheVariants as alone
+use Rattle.script_traces.specs.Acts.{act_line}
+use Rattle.script_traces.specs.Events.{start_line, report_line, end_line, stop_line, moment_line, halt_line}
 use Rattle.scenario.specs.Deeds.{Deed, event_in}
+
+-- the letter of a report, by the output that stands for it
+abbrev pub letter_in : List ℕ → ℕ
+letter_in (r ∷ nul ∷ letter ∷ rest) = letter
+letter_in output = 0
 
 -- The line of an event: `ACTOR start`, that of what an actor did, `rspawn report SLOT LETTER`, `ACTOR end STATUS`,
 -- `ACTOR stop`, `world moment N` or `world halt WORD`. A generation has a line for each of its members.
@@ -17,7 +22,7 @@ event_line (Start a program) = start_line a
 event_line (Act a own wrote) = act_line a own.due own.came
 event_line (Child parent own a program) = start_line a
 event_line (Generation sender clean lspawn rspawn) = flat_map start_line members
-event_line (Report slot letter text) = report_line slot letter
+event_line (Report slot output) = report_line slot (letter_in output)
 event_line (End a read ready status) = end_line a status
 event_line (Stop a) = stop_line a
 event_line (Moment m) = moment_line m

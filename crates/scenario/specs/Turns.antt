@@ -11,7 +11,7 @@ use Rattle.world_events.specs.declared.books.Entry.{Entry}
 use Rattle.world_events.specs.declared.event.Program.TheVariants.{Cleaner, Sender, LocalSpawner, RemoteSpawner}
 use Rattle.mail_world.specs.Books.{books_in}
 use Rattle.mail_world.specs.Generations.{lives_in, is_unreported, lowest_unreported}
-use Rattle.mail_world.specs.History.{Event, State}
+use Rattle.mail_world.specs.History.{Event, State, report_text}
 use Rattle.mail_world.specs.History.Event.{Start, Act, Child, Generation, Report, End, Stop, Moment, Halt}
 use Rattle.script_words.specs.declared.letter.Letter.{Letter}
 use Rattle.script_words.specs.Words.{letter_byte}
@@ -48,7 +48,7 @@ awaits_report s slot = lives_in (s.actors (codes "rspawn")) && is_unreported (s.
 
 -- what a report comes to
 abbrev pub report_comes : State → ℕ → Letter → List ℕ → Outcome
-report_comes s slot letter text = if awaits_report s slot then Happens (Came (Report slot (letter_byte letter) text)) else Is NotWaiting
+report_comes s slot letter text = if awaits_report s slot then Happens (Came (Report slot (report_text (letter_byte letter) text))) else Is NotWaiting
 
 -- Turns
 
@@ -58,7 +58,7 @@ started_in (Start a program) = a ∷ []
 started_in (Act a own wrote) = []
 started_in (Child parent own a program) = a ∷ []
 started_in (Generation sender clean lspawn rspawn) = members
-started_in (Report slot letter text) = []
+started_in (Report slot output) = []
 started_in (End a read ready status) = []
 started_in (Stop a) = []
 started_in (Moment m) = []
@@ -135,7 +135,7 @@ pub record Round : Type 0 where
   pub slots : List ℕ
 
 abbrev pub settled_by : Letter → ℕ → Deed
-settled_by letter slot = Came (Report slot (letter_byte letter) (codes "settled"))
+settled_by letter slot = Came (Report slot (report_text (letter_byte letter) (codes "settled")))
 
 abbrev pub reports_of : Letter → List ℕ → List Deed
 reports_of letter slots = map (settled_by letter) slots

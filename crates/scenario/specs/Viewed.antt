@@ -2,7 +2,7 @@
 use Rattle.std.specs.Prelude.{◌≡◌, ℕ, List}
 use Rattle.call_fs.specs.Disk.{Disk}
 use Rattle.crash_fs.specs.Crash.{crash_disk}
-use Rattle.disk_numbers.specs.Controls.{controls_on}
+use Rattle.script_disks.specs.Controls.{controls_on}
 use Rattle.mail_world.specs.History.{Event, after}
 use Rattle.queue_law.specs.Books.{Books}
 use Rattle.world_events.specs.declared.books.Entry.{Entry}

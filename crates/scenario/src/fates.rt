@@ -20,12 +20,12 @@ use actor_names::{ActorName, is_member};
 use call_fs::{NeedData, Own, Port};
 use mail_bytes::Memory;
 use mail_world::Event;
-use open_files::got_of;
 use send_core::Sender;
 use send_jobs::{Channel, Mark, Marks};
 use std::alloc::Global;
 use std::collections::BTreeMap;
-use world_events::number_by;
+use std::mem::replace;
+use world_events::{got_of, number_by};
 
 /// The last moment that a clock tells.
 const LAST_MOMENT: u64 = 250_000_000_000;
@@ -204,7 +204,13 @@ impl Following {
             sender: None,
         };
         for event in events {
-            following.note(alloc, event)?;
+            match following.note(alloc, event) {
+                Ok(()) => {}
+                Err(why) => {
+                    drop(following);
+                    return Err(why);
+                }
+            }
         }
         Ok(following)
     }
@@ -219,7 +225,8 @@ impl Following {
             | Event::Child { actor, own, .. }
             | Event::Feed { actor, own, .. } => self.act(alloc, actor, own),
             Event::Generation { .. } => {
-                self.sender = Some(Sender::new(alloc, None)?);
+                let sender = Sender::new(alloc, None)?;
+                drop(replace(&mut self.sender, Some(sender)));
                 Ok(())
             }
             _ => Ok(()),

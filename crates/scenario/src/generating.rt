@@ -3,8 +3,8 @@ ghost use Rattle.std.specs.Prelude.{List, OnOk};
 ghost use Rattle.call_fs.specs.Disk.{Disk};
 ghost use Rattle.call_fs.specs.Plan.{Plan};
 ghost use Rattle.scenario.specs.Deeds.{Deed};
-ghost use Rattle.play_lines.specs.declared.line.Line.TheVariants as LineOf;
-ghost use Rattle.play_lines.specs.declared.keyword.Alone.TheVariants as AloneOf;
+ghost use Rattle.script_lines.specs.declared.line.Line.TheVariants as LineOf;
+ghost use Rattle.script_lines.specs.declared.keyword.Alone.TheVariants as AloneOf;
 ghost use Rattle.scenario.specs.Playing.{IsPlaying, HasPlayed};
 
 use crate::refusing::put_refusal;

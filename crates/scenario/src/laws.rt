@@ -2,9 +2,9 @@
 ghost use Rattle.std.specs.Prelude.{◌≡◌, ◌<◌, ◌^◌, List, ℕ, Some, length};
 ghost use Rattle.call_fs.specs.Disk.{Disk};
 ghost use Rattle.script_words.specs.declared.entry.Entry.{Entry};
-ghost use Rattle.play_lines.specs.declared.line.Line.{Line};
-ghost use Rattle.play_lines.specs.Contents.{Content};
-ghost use Rattle.play_lines.specs.Lines.{IsScript};
+ghost use Rattle.script_lines.specs.declared.line.Line.{Line};
+ghost use Rattle.script_lines.specs.Contents.{Content};
+ghost use Rattle.script_lines.specs.Lines.{IsScript};
 ghost use Rattle.scenario.specs.FirstDisk.{IsFirstDisk};
 ghost use Rattle.scenario.specs.Text.{IsPlayed, Prints, BeginsToPrint, IsPrefix};
 

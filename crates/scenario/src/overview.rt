@@ -2,7 +2,7 @@
 ghost use Rattle.std.specs.Prelude.{◌≡◌, ◌++◌, List, ℕ, OnOk, map, option_map, unwrap_or};
 ghost use Rattle.crash_fs.specs.Crash.{crash_disk};
 ghost use Rattle.queue_law.specs.Books.{Books};
-ghost use Rattle.disk_numbers.specs.Records.{AreNoted};
+ghost use Rattle.script_disks.specs.Records.{AreNoted};
 ghost use Rattle.scenario.specs.Fates.{AreFates, IsUsed, spot_of};
 ghost use Rattle.scenario.specs.Shown.{ending_of, entry_lines, is_delivered, is_queued, lasting, lines_of, recipient_lines, sorted_lines, word_of, word_of_failed};
 ghost use Rattle.scenario.specs.Viewed.{view_at};
@@ -10,12 +10,12 @@ ghost use Rattle.scenario.specs.Viewed.{view_at};
 use crate::fates::{Fates, Spot};
 use address_rules::Controls;
 use crash_fs::CrashDisk;
-use disk_numbers::{Routed, is_among, is_there, is_unmarked, noted_on, routes_of};
 use mail_bytes::{ByteText, Memory};
 use mail_world::Entry;
 use queue_paths::Name;
+use script_disks::{Routed, is_among, is_there, is_unmarked, noted_on, routes_of};
+use script_traces::{put_alike, put_life, put_recipient};
 use std::alloc::Global;
-use trace_lines::{put_alike, put_life, put_recipient};
 
 /// What is read of a world to tell what became of each mail.
 #[derive(Clone, Copy)]

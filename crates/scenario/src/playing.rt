@@ -5,11 +5,11 @@ ghost use Rattle.call_fs.specs.Disk.{Disk};
 ghost use Rattle.call_fs.specs.Plan.{Plan};
 ghost use Rattle.mail_bytes.specs.Told.{Rose, Meets};
 ghost use Rattle.scenario.specs.Deeds.{Deed};
-ghost use Rattle.play_lines.specs.declared.line.Line.TheVariants as LineOf;
-ghost use Rattle.play_lines.specs.declared.keyword.OfActor.TheVariants as OfActorOf;
-ghost use Rattle.play_lines.specs.declared.keyword.OfCount.TheVariants as OfCountOf;
-ghost use Rattle.play_lines.specs.declared.keyword.OfMoment.TheVariants as OfMomentOf;
-ghost use Rattle.play_lines.specs.declared.keyword.OfSurvival.TheVariants as OfSurvivalOf;
+ghost use Rattle.script_lines.specs.declared.line.Line.TheVariants as LineOf;
+ghost use Rattle.script_lines.specs.declared.keyword.OfActor.TheVariants as OfActorOf;
+ghost use Rattle.script_lines.specs.declared.keyword.OfCount.TheVariants as OfCountOf;
+ghost use Rattle.script_lines.specs.declared.keyword.OfMoment.TheVariants as OfMomentOf;
+ghost use Rattle.script_lines.specs.declared.keyword.OfSurvival.TheVariants as OfSurvivalOf;
 ghost use Rattle.scenario.specs.Played.{Refusal, refusal_line};
 ghost use Rattle.scenario.specs.Playing.{IsPlaying, HasPlayed, HasPrinted};
 ghost use Rattle.scenario.specs.Text.{IsPlayed, IsBegun};
@@ -27,10 +27,10 @@ use crash_fs::CrashDisk;
 use mail_bytes::{ByteText, Memory};
 use mail_world::{ActorName, World, WorldError};
 use outside::{Gave, Sink};
-use play_lines::{Alone, Line, OfActor, OfCount, OfLetter, OfMoment, OfSurvival, OfWord};
+use script_lines::{Alone, Line, OfActor, OfCount, OfLetter, OfMoment, OfSurvival, OfWord};
+use script_traces::put_number;
 use script_words::{Count, Moment};
 use std::alloc::{AllocError, Global};
-use trace_lines::put_number;
 
 /// Plays a script over a new disk in memory that holds its entries, and gives the sink what its lines print, one line
 /// after the other; a line that prints nothing gives it nothing. `Failed` only if the sink's count of failures rose; it

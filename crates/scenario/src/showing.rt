@@ -17,12 +17,12 @@ ghost use Rattle.scenario.specs.Played.{cat_line};
 use crate::fates::Fates;
 use crate::overview::Overview;
 use crash_fs::CrashDisk;
-use disk_numbers::{controls_on, names_of, numbers_of, state_on};
 use mail_bytes::Memory;
 use mail_world::{ActorName, Entry, Event, Program, World};
 use queue_states::{put_count_line, put_state_line};
+use script_disks::{controls_on, names_of, numbers_of, state_on};
+use script_traces::put_escaped;
 use std::alloc::Global;
-use trace_lines::put_escaped;
 
 /// Puts at the end of a text how many names `pid/` has, the state of each number that isn't in S1, and how each mail
 /// fares. A recipient of an accepted mail is pending while todo holds the mail or its own record reads `T`, in the life of that mail;

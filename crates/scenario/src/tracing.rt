@@ -1,13 +1,13 @@
 // The lines of events.
 ghost use Rattle.std.specs.Prelude.{◌≡◌, ◌++◌, OnOk, drop, flat_map};
-ghost use Rattle.trace_lines.specs.Events.{kept_line};
+ghost use Rattle.script_traces.specs.Events.{kept_line};
 ghost use Rattle.scenario.specs.Traced.{traced_after};
 
 use mail_bytes::Memory;
 use mail_world::Event;
-use play_lines::{Alone, Line};
+use script_lines::{Alone, Line};
+use script_traces::put_event;
 use std::alloc::Global;
-use trace_lines::put_event;
 
 /// Whether events are traced after a line, if before it they are, or aren't.
 pub fn traced_after(traced: bool, line: &Line) -> bool

@@ -5,9 +5,9 @@ ghost use Rattle.call_fs.specs.Disk.{Disk};
 ghost use Rattle.call_fs.specs.Plan.{Plan};
 ghost use Rattle.mail_world.specs.Generations.{next_living};
 ghost use Rattle.scenario.specs.Deeds.{Deed};
-ghost use Rattle.play_lines.specs.declared.line.Line.TheVariants as LineOf;
-ghost use Rattle.play_lines.specs.declared.keyword.Alone.TheVariants as AloneOf;
-ghost use Rattle.play_lines.specs.declared.keyword.OfLetter.TheVariants as OfLetterOf;
+ghost use Rattle.script_lines.specs.declared.line.Line.TheVariants as LineOf;
+ghost use Rattle.script_lines.specs.declared.keyword.Alone.TheVariants as AloneOf;
+ghost use Rattle.script_lines.specs.declared.keyword.OfLetter.TheVariants as OfLetterOf;
 ghost use Rattle.scenario.specs.Playing.{IsPlaying, HasPlayed, HasTurned, HasParted, HasRounded, HasReported, is_search_kept};
 ghost use Rattle.scenario.specs.Turns.{counted, is_search_call, NoneBefore};
 

@@ -44,7 +44,7 @@ impl Count {
     }
 }
 
-/// Reads a number from 1.
+/// Reads a number from 1. `Malformed` exactly if the word is none.
 pub fn read_counted(word: &[u8]) -> Result<Count, WordError>
     ensures ok { IfOk result (λ count. (word.now ≡ digits count) × IsCounted count) }
     ensures err { OnErr result ((n : ℕ) → IsCounted n → word.now ≢ digits n) }

@@ -12,6 +12,7 @@ use mail_bytes::{ByteText, Memory};
 use std::alloc::{AllocError, Global};
 
 /// Reads a line that says what a script's disk holds at its beginning; `None` exactly if it is no such line.
+/// The error: out of memory.
 pub fn read_entry(alloc: Global, text: &[u8]) -> Result<Option<Entry>, Memory>
     ensures some { IfOk result (λ read. IfSome read (λ entry. IsEntryLine text.now entry × IsEntryPath (path_of entry))) }
     ensures none { IfOk result (λ read. IfNone read ((entry : EntryOf) → ¬ (IsEntryLine text.now entry))) }

@@ -17,6 +17,7 @@ pub enum Form {
 }
 
 /// Reads what the envelope is made of, and `:`. Gives the envelope, and the body as it is written.
+/// `Malformed` only if the words are no such envelope; else out of memory.
 pub fn read_envelope_as(
     alloc: Global,
     form: Form,

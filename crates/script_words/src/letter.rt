@@ -29,7 +29,7 @@ impl Letter {
     }
 }
 
-/// Reads the letter of a report.
+/// Reads the letter of a report. `Malformed` exactly if the word is none.
 pub fn read_letter(word: &[u8]) -> Result<Letter, WordError>
     ensures ok { IfOk result (λ letter. word.now ≡ letter_text letter) }
     ensures err { OnErr result ((letter : LetterOf) → word.now ≢ letter_text letter) }

@@ -3,6 +3,14 @@
 //! Words are parted by one space, and `%` with two hexadecimal digits stands for a byte. What words stand for is written
 //! in `specs/Words.antt`, and which lines say what a script's disk holds at its beginning in `specs/Entries.antt`; each
 //! reader here is exact, both ways.
+//!
+//! # What is claimed
+//!
+//! - The words of a script: the texts, envelopes, moments, numbers and seeds that they stand for, exact both ways:
+//!   `read_last_word`, `read_envelope_as`, `read_moment`, `read_counted`, `is_count`, `read_survival`, `bytes_of`,
+//!   `cut`, `first_word`, `Moment::new`, `Count::new`.
+//! - Which lines say what the disk holds at first, and which of them may stand on one disk: no name is a file of
+//!   one and a directory of another: `read_entry` (by `IsEntryLine`), `may_follow` (by `Agree`).
 #![tactic(auto)]
 
 mod count;

@@ -44,7 +44,7 @@ impl Moment {
     }
 }
 
-/// Reads a moment.
+/// Reads a moment. `Malformed` exactly if the word is none.
 pub fn read_moment(word: &[u8]) -> Result<Moment, WordError>
     ensures ok { IfOk result (λ moment. (word.now ≡ digits moment) × IsMoment moment) }
     ensures err { OnErr result ((m : ℕ) → IsMoment m → word.now ≢ digits m) }

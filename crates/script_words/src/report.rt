@@ -14,7 +14,7 @@ use std::alloc::Global;
 /// The greatest slot of a delivery.
 const MAX_SLOT: u64 = 255;
 
-/// Reads a slot, a letter and one word for a text.
+/// Reads a slot, a letter and one word for a text. `Malformed` only if the words are none; else out of memory.
 pub fn read_report(alloc: Global, words: &[u8]) -> Result<(u8, Letter, ByteText), WordError>
     ensures ok { IfOk result (λ read. IsReport words.now read.0 read.1 read.2) }
     ensures err { IfErr result (λ why. why ≡ WordError.Malformed

@@ -20,7 +20,7 @@ pub fn cut(text: &[u8], byte: u8) -> (&[u8], Option<&[u8]>)
     }
 }
 
-/// The first word of several, and what stands after its space.
+/// The first word of several, and what stands after its space. `Malformed` exactly if there is no space.
 pub fn first_word(text: &[u8]) -> Result<(&[u8], &[u8]), WordError>
     ensures ok { IfOk result (λ parts. IsCut text.now 32 parts.0.now (Some parts.1.now)) }
     ensures err { OnErr result (¬ (Contains text.now 32)) }
@@ -32,6 +32,7 @@ pub fn first_word(text: &[u8]) -> Result<(&[u8], &[u8]), WordError>
 }
 
 /// Reads the text that one word stands for, which is the last of its line.
+/// `Malformed` only if it is no such word; else out of memory.
 pub fn read_last_word(alloc: Global, text: &[u8]) -> Result<ByteText, WordError>
     ensures ok { IfOk result (StandsFor text.now) }
     ensures err { IfErr result (λ why. why ≡ WordError.Malformed → (read : List ℕ) → ¬ (StandsFor text.now read)) }
@@ -100,7 +101,7 @@ pub(crate) fn put_word(alloc: Global, word: &[u8], envelope: &mut Vec<u8>) -> Re
     Ok(())
 }
 
-/// The bytes that an escaped text stands for.
+/// The bytes that an escaped text stands for. `Malformed` only if it is no escaped text; else out of memory.
 pub fn bytes_of(alloc: Global, text: &[u8]) -> Result<Vec<u8>, WordError>
     ensures ok { IfOk result (λ bytes. unescaped text.now ≡ Ok bytes.items) }
     ensures err { IfErr result (λ why. why ≡ WordError.Malformed → (bytes : List ℕ) → ¬ (unescaped text.now ≡ Ok bytes)) }

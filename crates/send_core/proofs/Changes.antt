@@ -21,9 +21,9 @@ use Rattle.send_jobs.specs.Sending.{at_lane, lane, next_delivery, sent_as, sent_
 use Rattle.send_jobs.specs.Slots.{IsLeastFree, attempt_in, lowest}
 use Rattle.send_jobs.proofs.SlotLemmas.{lowest_is_least}
 use Rattle.send_known.specs.Known.{sender_of}
-use Rattle.send_steps.specs.declared.link.Link.{Link}
-use Rattle.send_steps.specs.Files.{records_of}
-use Rattle.send_steps.specs.Requests.{addressed}
+use Rattle.send_parts.specs.declared.link.Link.{Link}
+use Rattle.send_parts.specs.Files.{records_of}
+use Rattle.send_parts.specs.Requests.{addressed}
 use Rattle.spawn_protocol.specs.declared.report.Report.{Report}
 use Rattle.spawn_protocol.specs.Report.{Reader, counted, read_on}
 use Rattle.spawn_protocol.specs.Report.Reader.{AtBegin}

@@ -12,7 +12,7 @@ use Rattle.call_fs.specs.Columns.{IsAnswerTo}
 use Rattle.call_fs.specs.Program.{MayCome}
 use Rattle.queue_paths.specs.Names.{Name, parse, path}
 use Rattle.queue_paths.proofs.Paths.{parse-path}
-use Rattle.todo_pass.proofs.Coming.{by_fit}
+use Rattle.call_fs.proofs.Coming.{by_fit}
 use Rattle.send_core.specs.Past.{opened_as, source_of}
 
 abbrev pub IsAnswered : NeedData → Answer → Type 0

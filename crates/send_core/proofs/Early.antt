@@ -32,21 +32,21 @@ use Rattle.send_jobs.specs.declared.lane.Lane.{Lane}
 use Rattle.send_jobs.specs.declared.slots.Slots.{Slots}
 use Rattle.send_jobs.specs.Lanes.{empty}
 use Rattle.send_jobs.specs.Sending.{lane}
-use Rattle.send_steps.specs.declared.book.Book.{Book}
-use Rattle.send_steps.specs.declared.link.Link.{Link}
-use Rattle.send_steps.specs.declared.reading.Progress.{Progress}
-use Rattle.send_steps.specs.declared.reading.Progress.TheVariants.{Failed, Goes, Missing, Whole}
-use Rattle.send_steps.specs.declared.reading.Reading.{Reading}
-use Rattle.send_steps.specs.declared.reading.Reading.TheVariants.{Closing, Going, Opening, Shutting}
-use Rattle.send_steps.specs.declared.reply.Way.{Way}
-use Rattle.send_steps.specs.declared.reply.Way.TheVariants as way
-use Rattle.send_steps.specs.declared.rows.StartRow.{StartRow}
-use Rattle.send_steps.specs.declared.rows.StartRow.TheVariants as start
-use Rattle.send_steps.specs.Files.{is_info, message_number}
-use Rattle.send_steps.specs.Readings.{opened, read_more}
-use Rattle.send_steps.specs.Replies.{Said, answered, said}
-use Rattle.send_steps.specs.Start.{act_start, by_way, control_read, file_after, filed, info_read, info_row, judged_by, next_file, remote_limit, remote_stated, scan_row, scanned, start_failed}
-use Rattle.send_steps.specs.Steps.{control_text}
+use Rattle.send_parts.specs.declared.book.Book.{Book}
+use Rattle.send_parts.specs.declared.link.Link.{Link}
+use Rattle.send_parts.specs.declared.reading.Progress.{Progress}
+use Rattle.send_parts.specs.declared.reading.Progress.TheVariants.{Failed, Goes, Missing, Whole}
+use Rattle.send_parts.specs.declared.reading.Reading.{Reading}
+use Rattle.send_parts.specs.declared.reading.Reading.TheVariants.{Closing, Going, Opening, Shutting}
+use Rattle.send_parts.specs.declared.reply.Way.{Way}
+use Rattle.send_parts.specs.declared.reply.Way.TheVariants as way
+use Rattle.send_parts.specs.declared.rows.StartRow.{StartRow}
+use Rattle.send_parts.specs.declared.rows.StartRow.TheVariants as start
+use Rattle.send_parts.specs.Files.{is_info, message_number}
+use Rattle.send_parts.specs.Readings.{opened, read_more}
+use Rattle.send_parts.specs.Replies.{Said, answered, said}
+use Rattle.send_parts.specs.Start.{act_start, by_way, control_read, file_after, filed, info_read, info_row, judged_by, next_file, remote_limit, remote_stated, scan_row, scanned, start_failed}
+use Rattle.send_parts.specs.Steps.{control_text}
 use Rattle.spawn_protocol.specs.Report.{read_on as read_reports}
 use Rattle.spawn_protocol.specs.Report.Reader.{AtBegin}
 use Rattle.send_core.specs.Past.{Account, Owed, Work, account_by, took as took_in, happening, opened_as, source_of, work_by}

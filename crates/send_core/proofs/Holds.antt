@@ -44,27 +44,27 @@ use Rattle.send_jobs.specs.Sending.{lane, at_lane, sent_on}
 use Rattle.send_jobs.specs.Slots.{lowest}
 use Rattle.send_known.specs.Known.{sender_of}
 use Rattle.send_known.specs.Messages.{learned}
-use Rattle.send_steps.specs.declared.dir.Dir.TheVariants as dir
-use Rattle.send_steps.specs.declared.reading.Progress.{Progress}
-use Rattle.send_steps.specs.declared.reading.Progress.TheVariants.{Goes, Whole, Missing, Failed}
-use Rattle.send_steps.specs.declared.reading.Reading.{Reading}
-use Rattle.send_steps.specs.declared.reading.Reading.TheVariants.{Opening, Going, Closing, Shutting}
-use Rattle.send_steps.specs.declared.reply.Way.{Way}
-use Rattle.send_steps.specs.declared.reply.Way.TheVariants as way
-use Rattle.send_steps.specs.declared.step.Step.{Step}
-use Rattle.send_steps.specs.declared.step.Step.TheVariants as step_at
-use Rattle.send_steps.specs.Files.{message_number, records_of}
-use Rattle.send_steps.specs.Readings.{opened, read_more, reading_step}
-use Rattle.send_steps.specs.Replies.{Said, said, answered}
-use Rattle.send_steps.specs.Steps.{control_text, dir_text, due_by}
+use Rattle.send_parts.specs.declared.dir.Dir.TheVariants as dir
+use Rattle.send_parts.specs.declared.reading.Progress.{Progress}
+use Rattle.send_parts.specs.declared.reading.Progress.TheVariants.{Goes, Whole, Missing, Failed}
+use Rattle.send_parts.specs.declared.reading.Reading.{Reading}
+use Rattle.send_parts.specs.declared.reading.Reading.TheVariants.{Opening, Going, Closing, Shutting}
+use Rattle.send_parts.specs.declared.reply.Way.{Way}
+use Rattle.send_parts.specs.declared.reply.Way.TheVariants as way
+use Rattle.send_parts.specs.declared.step.Step.{Step}
+use Rattle.send_parts.specs.declared.step.Step.TheVariants as step_at
+use Rattle.send_parts.specs.Files.{message_number, records_of}
+use Rattle.send_parts.specs.Readings.{opened, read_more, reading_step}
+use Rattle.send_parts.specs.Replies.{Said, said, answered}
+use Rattle.send_parts.specs.Steps.{control_text, dir_text, due_by}
 use Rattle.todo_pass.specs.declared.row.Row.{Row as PassRow}
 use Rattle.todo_pass.specs.declared.row.Row.TheVariants as todo
 use Rattle.todo_pass.specs.Table.{Pass, answer_row, due_of_pass, moved as pass_moved}
-use Rattle.todo_pass.proofs.Coming.{by_fit}
+use Rattle.call_fs.proofs.Coming.{by_fit}
 use Rattle.todo_pass.proofs.Holds.{HoldsRow, some_held, step as pass_step, uses_row}
 use Rattle.send_core.specs.declared.desk.Desk.{Desk}
-use Rattle.send_steps.specs.declared.rows.FinishRow.{FinishRow}
-use Rattle.send_steps.specs.declared.rows.FinishRow.TheVariants as finish
+use Rattle.send_parts.specs.declared.rows.FinishRow.{FinishRow}
+use Rattle.send_parts.specs.declared.rows.FinishRow.TheVariants as finish
 use Rattle.send_core.specs.declared.row.MarkRow.{MarkRow}
 use Rattle.send_core.specs.declared.row.MarkRow.TheVariants as mark
 use Rattle.send_core.specs.declared.row.Marked.{Marked}
@@ -72,17 +72,17 @@ use Rattle.send_core.specs.declared.row.Point.{Point}
 use Rattle.send_core.specs.declared.row.Point.TheVariants as point
 use Rattle.send_core.specs.declared.row.Row.{Row}
 use Rattle.send_core.specs.declared.row.Row.TheVariants as at
-use Rattle.send_steps.specs.declared.rows.Search.{Search}
-use Rattle.send_steps.specs.declared.rows.Search.TheVariants as searches
-use Rattle.send_steps.specs.declared.rows.StartRow.{StartRow}
-use Rattle.send_steps.specs.declared.rows.StartRow.TheVariants as start
-use Rattle.send_steps.specs.declared.rows.SweepRow.{SweepRow}
-use Rattle.send_steps.specs.declared.rows.SweepRow.TheVariants as sweep
+use Rattle.send_parts.specs.declared.rows.Search.{Search}
+use Rattle.send_parts.specs.declared.rows.Search.TheVariants as searches
+use Rattle.send_parts.specs.declared.rows.StartRow.{StartRow}
+use Rattle.send_parts.specs.declared.rows.StartRow.TheVariants as start
+use Rattle.send_parts.specs.declared.rows.SweepRow.{SweepRow}
+use Rattle.send_parts.specs.declared.rows.SweepRow.TheVariants as sweep
 use Rattle.send_core.specs.Desk.{goes, stands_at, link, with_requests, due_on, later, closed, closed_by, has_begun, request_sent, retried, is_free_for, next_idle, past_finish, past_todo, sweep_due, turn_counted, turn_over}
-use Rattle.send_steps.specs.Finish.{finish_to}
-use Rattle.send_steps.specs.Rows.{is_again}
-use Rattle.send_steps.specs.Sweep.{sweep_to}
-use Rattle.send_steps.specs.Start.{act_start}
+use Rattle.send_parts.specs.Finish.{finish_to}
+use Rattle.send_parts.specs.Rows.{is_again}
+use Rattle.send_parts.specs.Sweep.{sweep_to}
+use Rattle.send_parts.specs.Start.{act_start}
 use Rattle.send_core.specs.Turn.{begin_note, is_done, known_of, lost, note_of, noted_at, put_later, is_fine, file_read, mark_opened, mark_over, told_report, pass_opened, requested, todo_found, todo_named, todo_none, todo_on, todo_over, todo_went, took, unlinked}
 use Rattle.send_core.specs.Finish.{bounce_on, finish_at, forgot, returned_to, looked_up, put_off_to, sweep_at, sweep_begun}
 use Rattle.send_core.specs.Table.{Next, act, arrive, busy, file_of, search_words, begin_by, beginning, desk_after, due_at, finishing_by, from_point, from_local, from_remote, from_reports, from_take, from_begin, from_sweep, going_on, holds, link_of, marking_by, or_else, passing, row_now, sweeping, taking, marking, finishing}

@@ -9,27 +9,27 @@ use Rattle.bounce_record.proofs.HoldsNote.{HoldsNote}
 use Rattle.bounce_record.proofs.HoldsReturn.{HoldsReturn}
 use Rattle.call_fs.specs.declared.calls.How.TheVariants as how
 use Rattle.call_fs.specs.declared.modes.Mode.{Mode}
-use Rattle.send_steps.specs.declared.reading.Progress.{Progress}
-use Rattle.send_steps.specs.declared.reading.Progress.TheVariants.{Goes, Whole, Missing, Failed}
-use Rattle.send_steps.specs.declared.reading.Reading.{Reading}
-use Rattle.send_steps.specs.declared.reading.Reading.TheVariants.{Opening, Going, Closing, Shutting}
-use Rattle.send_steps.specs.declared.reply.Way.{Way}
-use Rattle.send_steps.specs.declared.reply.Way.TheVariants as way
-use Rattle.send_steps.specs.Files.{is_info, message_number}
-use Rattle.send_steps.specs.Replies.{Said}
+use Rattle.send_parts.specs.declared.reading.Progress.{Progress}
+use Rattle.send_parts.specs.declared.reading.Progress.TheVariants.{Goes, Whole, Missing, Failed}
+use Rattle.send_parts.specs.declared.reading.Reading.{Reading}
+use Rattle.send_parts.specs.declared.reading.Reading.TheVariants.{Opening, Going, Closing, Shutting}
+use Rattle.send_parts.specs.declared.reply.Way.{Way}
+use Rattle.send_parts.specs.declared.reply.Way.TheVariants as way
+use Rattle.send_parts.specs.Files.{is_info, message_number}
+use Rattle.send_parts.specs.Replies.{Said}
 use Rattle.todo_pass.specs.declared.row.Row.{Row as PassRow}
 use Rattle.todo_pass.proofs.Holds.{HoldsRow}
 use Rattle.send_core.specs.declared.desk.Desk.{Desk}
-use Rattle.send_steps.specs.declared.book.Book.{Book}
-use Rattle.send_steps.specs.declared.rows.FinishRow.{FinishRow}
-use Rattle.send_steps.specs.declared.rows.FinishRow.TheVariants as finish
+use Rattle.send_parts.specs.declared.book.Book.{Book}
+use Rattle.send_parts.specs.declared.rows.FinishRow.{FinishRow}
+use Rattle.send_parts.specs.declared.rows.FinishRow.TheVariants as finish
 use Rattle.send_core.specs.declared.row.MarkRow.{MarkRow}
 use Rattle.send_core.specs.declared.row.MarkRow.TheVariants as mark
 use Rattle.send_core.specs.declared.row.Row.{Row}
 use Rattle.send_core.specs.declared.row.Row.TheVariants as at
-use Rattle.send_steps.specs.declared.rows.StartRow.{StartRow}
-use Rattle.send_steps.specs.declared.rows.StartRow.TheVariants as start
-use Rattle.send_steps.specs.Start.{by_way, control_read, file_after, filed, info_row, scan_row, greeted_local, greeted_remote, info_read, judged_by, next_file, remote_stated, scanned, start_failed}
+use Rattle.send_parts.specs.declared.rows.StartRow.{StartRow}
+use Rattle.send_parts.specs.declared.rows.StartRow.TheVariants as start
+use Rattle.send_parts.specs.Start.{by_way, control_read, file_after, filed, info_row, scan_row, greeted_local, greeted_remote, info_read, judged_by, next_file, remote_stated, scanned, start_failed}
 use Rattle.send_core.specs.Start.{start_at}
 
 -- what the reading of a file holds open

@@ -40,6 +40,8 @@ pub mod StartSays
 pub mod PassSays
 -- which events tell no birth
 pub mod Still
+-- what else is known at a row
+pub mod RowFits
 -- each step keeps what was said of senders
 pub mod Says
 -- what follows for each run

@@ -50,16 +50,16 @@ use Rattle.send_jobs.specs.Slots.{IsLeastFree, attempt_in, lowest}
 use Rattle.send_jobs.proofs.SlotLemmas.{lowest_is_least}
 use Rattle.send_known.specs.Known.{birth_of, is_known}
 use Rattle.send_known.specs.Messages.{none_known}
-use Rattle.send_steps.specs.declared.link.Link.{Link}
-use Rattle.send_steps.specs.declared.reading.Reading.{Reading}
-use Rattle.send_steps.specs.declared.reading.Reading.TheVariants.{Closing, Going, Opening, Shutting}
-use Rattle.send_steps.specs.declared.rows.FinishRow.{FinishRow}
-use Rattle.send_steps.specs.declared.rows.FinishRow.TheVariants as finish
-use Rattle.send_steps.specs.declared.rows.StartRow.{StartRow}
-use Rattle.send_steps.specs.declared.rows.StartRow.TheVariants as start
-use Rattle.send_steps.specs.declared.rows.SweepRow.{SweepRow}
-use Rattle.send_steps.specs.declared.rows.SweepRow.TheVariants as sweep
-use Rattle.send_steps.specs.Requests.{addressed, first_text, quiet, request_of, to_slot}
+use Rattle.send_parts.specs.declared.link.Link.{Link}
+use Rattle.send_parts.specs.declared.reading.Reading.{Reading}
+use Rattle.send_parts.specs.declared.reading.Reading.TheVariants.{Closing, Going, Opening, Shutting}
+use Rattle.send_parts.specs.declared.rows.FinishRow.{FinishRow}
+use Rattle.send_parts.specs.declared.rows.FinishRow.TheVariants as finish
+use Rattle.send_parts.specs.declared.rows.StartRow.{StartRow}
+use Rattle.send_parts.specs.declared.rows.StartRow.TheVariants as start
+use Rattle.send_parts.specs.declared.rows.SweepRow.{SweepRow}
+use Rattle.send_parts.specs.declared.rows.SweepRow.TheVariants as sweep
+use Rattle.send_parts.specs.Requests.{addressed, first_text, quiet, request_of, to_slot}
 use Rattle.todo_pass.specs.declared.row.Row.{Row as PassRow}
 use Rattle.todo_pass.specs.declared.row.Row.TheVariants as todo
 use Rattle.todo_pass.specs.Table.{Pass}
@@ -78,7 +78,8 @@ use Rattle.send_core.proofs.Born.{birth_told}
 use Rattle.send_core.proofs.Known.{Sound}
 use Rattle.send_core.proofs.Asked.{Asked, Base, Facts, Knows, KnowsAt, facts_by}
 use Rattle.send_core.proofs.Noted.{Follows, note_step, noting_step}
-use Rattle.send_core.proofs.Says.{arrive_says, asked_first, knows_more, knows_ready, row_knows, where_at}
+use Rattle.send_core.proofs.Says.{arrive_says, asked_first, knows_more, knows_ready, row_knows}
+use Rattle.send_core.proofs.RowFits.{where_at}
 use Rattle.send_core.proofs.Early.{StepOf, start_step}
 use Rattle.send_core.proofs.Turns.{close_step, file_step_local, file_step_remote, find_step, finish_step, open_step, request_local, request_remote, sweep_step, take_step, todo_step, unlink_step, write_step}
 

@@ -4,7 +4,6 @@ use Rattle.std.specs.Prelude.{is_some, slice_get}
 use Rattle.std.proofs.lemmas.Slice.Eq.{bytes_eq-Decides}
 use Rattle.address_rules.specs.declared.control_file.ControlFile.{ControlFile}
 use Rattle.address_rules.specs.declared.control_file.ControlFile.TheVariants as files
-use Rattle.bounce_record.specs.Writing.{Writing}
 use Rattle.call_fs.specs.declared.calls.Answer.{Answer}
 use Rattle.call_fs.specs.declared.calls.Answer.TheVariants as answer
 use Rattle.call_fs.specs.declared.calls.CallData.TheVariants as call
@@ -27,8 +26,6 @@ use Rattle.queue_paths.specs.Names.Part.{Info as InfoFile, Local as LocalFile, R
 use Rattle.queue_paths.proofs.Paths.{parse-path}
 use Rattle.retry_schedule.specs.Due.{first_due}
 use Rattle.send_core.specs.declared.desk.Desk.{Desk}
-use Rattle.send_core.specs.declared.row.MarkRow.{MarkRow}
-use Rattle.send_core.specs.declared.row.Marked.{Marked}
 use Rattle.send_core.specs.declared.row.Point.{Point}
 use Rattle.send_core.specs.declared.row.Point.TheVariants as point
 use Rattle.send_core.specs.declared.row.Row.{Row}
@@ -44,31 +41,31 @@ use Rattle.send_jobs.specs.declared.channels.Channel.{Channel}
 use Rattle.send_jobs.specs.declared.channels.Channel.TheVariants.{Local, Remote}
 use Rattle.send_jobs.specs.declared.slots.Slots.{Slots}
 use Rattle.send_jobs.specs.Lanes.{next}
-use Rattle.send_jobs.specs.Sending.{lane, none_out}
+use Rattle.send_jobs.specs.Sending.{lane}
 use Rattle.send_jobs.specs.Slots.{lowest}
 use Rattle.send_known.specs.Known.{is_known}
 use Rattle.send_known.specs.Messages.{learned}
-use Rattle.send_steps.specs.declared.reading.Reading.{Reading}
-use Rattle.send_steps.specs.declared.reading.Reading.TheVariants.{Closing, Going, Opening, Shutting}
-use Rattle.send_steps.specs.declared.reply.Way.{Way}
-use Rattle.send_steps.specs.declared.reply.Way.TheVariants as way
-use Rattle.send_steps.specs.declared.rows.FinishRow.{FinishRow}
-use Rattle.send_steps.specs.declared.rows.FinishRow.TheVariants as finish
-use Rattle.send_steps.specs.declared.rows.Search.TheVariants as searches
-use Rattle.send_steps.specs.declared.rows.StartRow.{StartRow}
-use Rattle.send_steps.specs.declared.rows.StartRow.TheVariants as start
-use Rattle.send_steps.specs.declared.rows.SweepRow.{SweepRow}
-use Rattle.send_steps.specs.declared.rows.SweepRow.TheVariants as sweep
-use Rattle.send_steps.specs.Files.{is_info, message_number, sender_in}
-use Rattle.send_steps.specs.Finish.{finish_to}
-use Rattle.send_steps.specs.Readings.{read_on}
-use Rattle.send_steps.specs.Replies.{answered, said}
-use Rattle.send_steps.specs.Requests.{addressed, first_text, request_of, to_slot}
-use Rattle.send_steps.specs.declared.book.Book.{Book}
-use Rattle.send_steps.specs.declared.reading.Progress.TheVariants.{Goes}
-use Rattle.send_steps.specs.Start.{act_start, control_read, info_read}
-use Rattle.send_steps.specs.Steps.{control_text, remove_text}
-use Rattle.send_steps.specs.Sweep.{info_stated as info_stated_in, mess_stated, sweep_row, sweep_taken, sweep_to, swept, todo_stated}
+use Rattle.send_parts.specs.declared.reading.Reading.{Reading}
+use Rattle.send_parts.specs.declared.reading.Reading.TheVariants.{Closing, Going, Opening, Shutting}
+use Rattle.send_parts.specs.declared.reply.Way.{Way}
+use Rattle.send_parts.specs.declared.reply.Way.TheVariants as way
+use Rattle.send_parts.specs.declared.rows.FinishRow.{FinishRow}
+use Rattle.send_parts.specs.declared.rows.FinishRow.TheVariants as finish
+use Rattle.send_parts.specs.declared.rows.Search.TheVariants as searches
+use Rattle.send_parts.specs.declared.rows.StartRow.{StartRow}
+use Rattle.send_parts.specs.declared.rows.StartRow.TheVariants as start
+use Rattle.send_parts.specs.declared.rows.SweepRow.{SweepRow}
+use Rattle.send_parts.specs.declared.rows.SweepRow.TheVariants as sweep
+use Rattle.send_parts.specs.Files.{is_info, message_number, sender_in}
+use Rattle.send_parts.specs.Finish.{finish_to}
+use Rattle.send_parts.specs.Readings.{read_on}
+use Rattle.send_parts.specs.Replies.{answered, said}
+use Rattle.send_parts.specs.Requests.{addressed, first_text, request_of, to_slot}
+use Rattle.send_parts.specs.declared.book.Book.{Book}
+use Rattle.send_parts.specs.declared.reading.Progress.TheVariants.{Goes}
+use Rattle.send_parts.specs.Start.{act_start, control_read, info_read}
+use Rattle.send_parts.specs.Steps.{control_text, remove_text}
+use Rattle.send_parts.specs.Sweep.{info_stated as info_stated_in, mess_stated, sweep_row, sweep_taken, sweep_to, swept, todo_stated}
 use Rattle.todo_pass.specs.declared.row.Row.{Row as PassRow}
 use Rattle.todo_pass.specs.declared.row.Row.TheVariants as todo
 use Rattle.todo_pass.specs.declared.part.Target.TheVariants as target
@@ -78,52 +75,16 @@ use Rattle.todo_pass.specs.Table as pass_table
 use Rattle.send_core.specs.Births.{Birth, Births, cleaned, found, passed, stated}
 use Rattle.send_core.specs.Papers.{Paper, Papers, control_named, filed as filed_paper, filed_if, longer_paper, opened_file, opened_paper, papers_by}
 use Rattle.send_core.specs.Papers.Papers.{Reads, Told}
-use Rattle.send_core.specs.Past.{Account, Work}
 use Rattle.send_core.specs.Senders.{Letter, letter_of, longer, opened_as, read_more, said_at, said_if, saying_by, sender_if}
 use Rattle.send_core.proofs.Coming.{by_file}
 use Rattle.send_core.proofs.Known.{Sound, each_more, first_is_due, sound_learned}
 use Rattle.send_core.proofs.Asked.{Asked, Base, ControlSays, Facts, FinishSays, Knows, KnowsAt, PassSays, StartSays, SweepSays, asked_addressed, asked_more, base_more, base_ready, facts_by}
 use Rattle.send_core.proofs.Leads.{base_looked, ok_file, ok_finish, ok_mark, ok_named, ok_on, ok_over_pass, ok_requested, ok_swept, ok_took, ok_unlinked}
 use Rattle.send_core.proofs.PassSays.{pass_next}
-use Rattle.send_core.proofs.Standing.{FitAt}
 use Rattle.send_core.proofs.StartSays.{Lands, lands_failed, lands_filed, lands_info_row, lands_learned, lands_local, lands_remote, lands_scanned, lands_way, to_knows}
 use Rattle.send_core.proofs.Still.{IsAnswered, IsBefore, IsPlain, IsStill, finish_still, info_still, pass_still, row_still, sweep_still, unstated}
 use Rattle.send_core.proofs.Turns.{same_end, same_place}
-
--- What else is known at a row
-
-abbrev pub Where : Row → Desk → Type 0
-Where (at.Request c) d = (slot : ℕ) × (a : Attempt) × (lowest (lane c d.slots).slots ≡ Some slot) × (next (lane c d.slots) ≡ Some a)
-Where (at.Start (start.GreetRemote limit)) d = d.slots ≡ none_out 0 0
-Where row d = Unit {0}
-
-module _ (P : MarkRow → Option Mark → Marked → Writing → Type 0) (f : Option Work) (al ar : Account) (d : Desk) where
-  where_start : (row : StartRow) → FitAt P f al ar (at.Start row) d → Where (at.Start row) d
-  where_start (start.Control file reading) h = tt
-  where_start start.GreetLocal h = tt
-  where_start (start.GreetRemote limit) h = h.0.0
-  where_start (start.Scan split) h = tt
-  where_start (start.StatTodo split n) h = tt
-  where_start (start.ReadInfo split n reading) h = tt
-  where_start (start.StatInfo split n) h = tt
-  where_start (start.StatLocal split n birth) h = tt
-  where_start (start.StatRemote split n birth local) h = tt
-  where_start start.Over h = tt
-  where_start (start.Ended status) h = tt
-
-  pub where_at : (row : Row) → FitAt P f al ar row d → Where row d
-  where_at (at.Start row) h = where_start row h
-  where_at (at.Turn p) h = tt
-  where_at (at.TakeLink c) h = tt
-  where_at (at.Mark row m) h = tt
-  where_at (at.UnlinkFile c n p) h = tt
-  where_at (at.ReadFile c n begun reading) h = tt
-  where_at (at.Request c) h = h.1
-  where_at (at.FindTodo search) h = tt
-  where_at at.InTodo h = tt
-  where_at (at.Finish row n) h = tt
-  where_at (at.Sweep row) h = tt
-  where_at (at.Ended status) h = tt
+use Rattle.send_core.proofs.RowFits.{Where, Where}
 
 -- A step
 

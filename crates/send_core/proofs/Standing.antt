@@ -28,14 +28,14 @@ use Rattle.send_jobs.specs.Lanes.{next}
 use Rattle.send_jobs.specs.Sending.{lane, none_out}
 use Rattle.send_jobs.specs.Slots.{lowest}
 use Rattle.send_known.specs.Known.{birth_of}
-use Rattle.send_steps.specs.declared.book.Book.{Book}
-use Rattle.send_steps.specs.declared.link.Link.{Link}
-use Rattle.send_steps.specs.declared.reading.Reading.{Reading}
-use Rattle.send_steps.specs.declared.reading.Reading.TheVariants.{Opening, Going, Closing, Shutting}
-use Rattle.send_steps.specs.declared.rows.Search.TheVariants as searches
-use Rattle.send_steps.specs.declared.rows.StartRow.{StartRow}
-use Rattle.send_steps.specs.declared.rows.StartRow.TheVariants as start
-use Rattle.send_steps.specs.declared.rows.SweepRow.TheVariants as sweep
+use Rattle.send_parts.specs.declared.book.Book.{Book}
+use Rattle.send_parts.specs.declared.link.Link.{Link}
+use Rattle.send_parts.specs.declared.reading.Reading.{Reading}
+use Rattle.send_parts.specs.declared.reading.Reading.TheVariants.{Opening, Going, Closing, Shutting}
+use Rattle.send_parts.specs.declared.rows.Search.TheVariants as searches
+use Rattle.send_parts.specs.declared.rows.StartRow.{StartRow}
+use Rattle.send_parts.specs.declared.rows.StartRow.TheVariants as start
+use Rattle.send_parts.specs.declared.rows.SweepRow.TheVariants as sweep
 use Rattle.send_core.specs.Past.{Account, Owed, Work}
 use Rattle.send_core.specs.Past.Work.{Missing, Noting, Reading as ReadingFile}
 use Rattle.send_core.specs.Agrees.{owed_at}

@@ -5,14 +5,14 @@ use Rattle.address_rules.specs.declared.control_file.ControlFile.TheVariants as 
 use Rattle.address_rules.specs.Files.{Fault, controls_of, first_fault, place}
 use Rattle.send_core.specs.declared.desk.Desk.{Desk}
 use Rattle.send_core.specs.Start.{start_at}
-use Rattle.send_steps.specs.declared.book.Book.{Book}
-use Rattle.send_steps.specs.declared.reply.Way.{Way}
-use Rattle.send_steps.specs.declared.reply.Way.TheVariants as way
-use Rattle.send_steps.specs.declared.rows.StartRow.{StartRow}
-use Rattle.send_steps.specs.declared.rows.StartRow.TheVariants as start
-use Rattle.send_steps.specs.Files.{message_number, sender_in}
+use Rattle.send_parts.specs.declared.book.Book.{Book}
+use Rattle.send_parts.specs.declared.reply.Way.{Way}
+use Rattle.send_parts.specs.declared.reply.Way.TheVariants as way
+use Rattle.send_parts.specs.declared.rows.StartRow.{StartRow}
+use Rattle.send_parts.specs.declared.rows.StartRow.TheVariants as start
+use Rattle.send_parts.specs.Files.{message_number, sender_in}
 use Rattle.send_known.specs.Messages.{learned}
-use Rattle.send_steps.specs.Start.{begins_at, by_way, filed, greeted_local, greeted_remote, info_row, judged_by, remote_stated, scan_next, scan_row, scanned, start_failed}
+use Rattle.send_parts.specs.Start.{begins_at, by_way, filed, greeted_local, greeted_remote, info_row, judged_by, remote_stated, scan_next, scan_row, scanned, start_failed}
 use Rattle.todo_pass.specs.Table.{Pass}
 use Rattle.send_core.specs.declared.row.Row.{Row}
 use Rattle.send_core.specs.declared.row.Row.TheVariants as at

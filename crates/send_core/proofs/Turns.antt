@@ -47,23 +47,23 @@ use Rattle.send_jobs.specs.Lanes.{finished, is_in_flight, is_open_on, job_over, 
 use Rattle.send_jobs.specs.Sending.{at_lane, lane, sent_on}
 use Rattle.send_jobs.specs.Slots.{lowest}
 use Rattle.send_known.specs.Messages.{learned}
-use Rattle.send_steps.specs.declared.link.Link.{Link}
-use Rattle.send_steps.specs.declared.reading.Progress.TheVariants.{Goes}
-use Rattle.send_steps.specs.declared.reading.Reading.{Reading}
-use Rattle.send_steps.specs.declared.reading.Reading.TheVariants.{Closing, Going, Opening, Shutting}
-use Rattle.send_steps.specs.declared.reply.Way.{Way}
-use Rattle.send_steps.specs.declared.reply.Way.TheVariants as way
-use Rattle.send_steps.specs.declared.rows.FinishRow.{FinishRow}
-use Rattle.send_steps.specs.declared.rows.FinishRow.TheVariants as finish
-use Rattle.send_steps.specs.declared.rows.Search.{Search}
-use Rattle.send_steps.specs.declared.rows.SweepRow.{SweepRow}
-use Rattle.send_steps.specs.declared.rows.SweepRow.TheVariants as sweep
-use Rattle.send_steps.specs.Files.{message_number, records_of}
-use Rattle.send_steps.specs.Finish.{finish_to}
-use Rattle.send_steps.specs.Replies.{Said, answered, said}
-use Rattle.send_steps.specs.Requests.{first_text}
-use Rattle.send_steps.specs.Rows.{is_again}
-use Rattle.send_steps.specs.Sweep.{sweep_to}
+use Rattle.send_parts.specs.declared.link.Link.{Link}
+use Rattle.send_parts.specs.declared.reading.Progress.TheVariants.{Goes}
+use Rattle.send_parts.specs.declared.reading.Reading.{Reading}
+use Rattle.send_parts.specs.declared.reading.Reading.TheVariants.{Closing, Going, Opening, Shutting}
+use Rattle.send_parts.specs.declared.reply.Way.{Way}
+use Rattle.send_parts.specs.declared.reply.Way.TheVariants as way
+use Rattle.send_parts.specs.declared.rows.FinishRow.{FinishRow}
+use Rattle.send_parts.specs.declared.rows.FinishRow.TheVariants as finish
+use Rattle.send_parts.specs.declared.rows.Search.{Search}
+use Rattle.send_parts.specs.declared.rows.SweepRow.{SweepRow}
+use Rattle.send_parts.specs.declared.rows.SweepRow.TheVariants as sweep
+use Rattle.send_parts.specs.Files.{message_number, records_of}
+use Rattle.send_parts.specs.Finish.{finish_to}
+use Rattle.send_parts.specs.Replies.{Said, answered, said}
+use Rattle.send_parts.specs.Requests.{first_text}
+use Rattle.send_parts.specs.Rows.{is_again}
+use Rattle.send_parts.specs.Sweep.{sweep_to}
 use Rattle.todo_pass.specs.declared.part.Target.TheVariants as target
 use Rattle.todo_pass.specs.declared.row.Row.{Row as PassRow}
 use Rattle.todo_pass.specs.declared.row.Row.TheVariants as todo

@@ -22,11 +22,11 @@ use Rattle.send_jobs.specs.Bookings.Booking.{Dropped, Noted, ReadNotes, Reported
 use Rattle.send_jobs.specs.Failures.{is_final}
 use Rattle.send_jobs.specs.Sending.{lane}
 use Rattle.send_jobs.specs.Slots.{attempt_in}
-use Rattle.send_steps.specs.declared.reply.Way.{Way}
-use Rattle.send_steps.specs.declared.reply.Way.TheVariants as way
-use Rattle.send_steps.specs.declared.rows.FinishRow.{FinishRow}
-use Rattle.send_steps.specs.declared.rows.FinishRow.TheVariants as finish
-use Rattle.send_steps.specs.Replies.{said}
+use Rattle.send_parts.specs.declared.reply.Way.{Way}
+use Rattle.send_parts.specs.declared.reply.Way.TheVariants as way
+use Rattle.send_parts.specs.declared.rows.FinishRow.{FinishRow}
+use Rattle.send_parts.specs.declared.rows.FinishRow.TheVariants as finish
+use Rattle.send_parts.specs.Replies.{said}
 use Rattle.spawn_protocol.specs.declared.report.Report.{Report}
 use Rattle.spawn_protocol.specs.Report.{counted, read_on}
 

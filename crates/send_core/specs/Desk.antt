@@ -18,12 +18,12 @@ use Rattle.send_core.specs.declared.row.Point.{Point}
 use Rattle.send_core.specs.declared.row.Point.TheVariants as point
 use Rattle.send_core.specs.declared.row.Row.{Row}
 use Rattle.send_core.specs.declared.row.Row.TheVariants as at
-use Rattle.send_steps.specs.declared.link.Link.{Link}
-use Rattle.send_steps.specs.Requests.{requests_of, addressed}
+use Rattle.send_parts.specs.declared.link.Link.{Link}
+use Rattle.send_parts.specs.Requests.{requests_of, addressed}
 pub use Rattle.send_jobs.specs.Failures.{is_final, failure_in}
 pub use Rattle.send_jobs.specs.Lanes.{is_free_for}
 pub use Rattle.send_jobs.specs.Tries.{due_on, due_then, file_gone, moment_of}
-pub use Rattle.send_steps.specs.Sweep.{sweep_due}
+pub use Rattle.send_parts.specs.Sweep.{sweep_due}
 
 -- Where it stands
 

@@ -6,17 +6,18 @@ use Rattle.bounce_record.specs.Returning.{Returning, return_begun, returned_on}
 use Rattle.call_fs.specs.declared.past.GotData.{GotData}
 use Rattle.send_known.specs.Known.{put_off, sender_of}
 use Rattle.send_known.specs.Messages.{forgotten}
-use Rattle.send_steps.specs.declared.book.Book.{Book}
-use Rattle.send_steps.specs.declared.rows.FinishRow.{FinishRow}
-use Rattle.send_steps.specs.declared.rows.FinishRow.TheVariants as finish
-use Rattle.send_steps.specs.declared.rows.SweepRow.{SweepRow}
-use Rattle.send_steps.specs.declared.rows.SweepRow.TheVariants as sweep
-use Rattle.send_steps.specs.Finish.{finish_to}
-use Rattle.send_steps.specs.Replies.{Said, said}
-use Rattle.send_steps.specs.Sweep.{searched, sweep_to}
+use Rattle.send_parts.specs.declared.book.Book.{Book}
+use Rattle.send_parts.specs.declared.rows.FinishRow.{FinishRow}
+use Rattle.send_parts.specs.declared.rows.FinishRow.TheVariants as finish
+use Rattle.send_parts.specs.declared.rows.SweepRow.{SweepRow}
+use Rattle.send_parts.specs.declared.rows.SweepRow.TheVariants as sweep
+use Rattle.send_parts.specs.Finish.{finish_to}
+use Rattle.send_parts.specs.Replies.{Said, said}
+use Rattle.send_parts.specs.Sweep.{searched, sweep_to}
 use Rattle.send_core.specs.declared.desk.Desk.{Desk}
 use Rattle.send_core.specs.declared.row.Row.TheVariants as at
 use Rattle.send_core.specs.Desk.{goes, later, past_finish, turn_over}
+use Rattle.queue_limits.specs.declared.statuses.TheConstants.{NO_CLEANER}
 
 -- 5. The finish of a message: after a failure it is finished no earlier than 123 seconds later; once it is finished its number
 -- is forgotten; without the link to the cleaner the sender ends.
@@ -30,7 +31,7 @@ forgot n d = record d { book = record d.book { messages = forgotten n d.book.mes
 abbrev pub finish_at : FinishRow → ℕ → ℕ → Desk → Desk
 finish_at finish.Later n now d = past_finish now (put_off_to n (later now) d)
 finish_at finish.Over n now d = past_finish now (forgot n d)
-finish_at finish.Lost n now d = goes d (at.Ended 81)
+finish_at finish.Lost n now d = goes d (at.Ended NO_CLEANER)
 finish_at row n now d = goes d (at.Finish row n)
 
 -- The return of a message that has a bounce file: its steps are those of bounce_record.
@@ -66,7 +67,7 @@ sweep_begun row now d = d
 
 abbrev pub sweep_at : SweepRow → Desk → Desk
 sweep_at sweep.Over d = turn_over d
-sweep_at sweep.Lost d = goes d (at.Ended 81)
+sweep_at sweep.Lost d = goes d (at.Ended NO_CLEANER)
 sweep_at row d = goes d (at.Sweep row)
 
 abbrev pub looked_up : SweepRow → Said → Desk → Desk

@@ -19,7 +19,7 @@ use Rattle.send_core.specs.Turn.{told_report}
 use Rattle.send_jobs.specs.declared.attempts.Failure.{Failure}
 use Rattle.send_jobs.specs.declared.channels.Channel.{Channel}
 use Rattle.send_jobs.specs.declared.channels.Channel.TheVariants.{Local, Remote}
-use Rattle.send_steps.specs.Requests.{request_of, to_slot}
+use Rattle.send_parts.specs.Requests.{request_of, to_slot}
 use Rattle.send_core.specs.Papers.{controls_told}
 use Rattle.send_core.specs.Past.{Account, Owed, Task, account}
 use Rattle.send_core.specs.Senders.{IsSaid}

@@ -11,14 +11,14 @@ use Rattle.send_jobs.specs.Lines.{settled_lines, starting_if}
 use Rattle.send_jobs.specs.Sending.{lane, at_lane, sent_on}
 use Rattle.send_jobs.specs.Slots.{attempt_in}
 use Rattle.send_log.specs.Lines.{stray_report}
-use Rattle.send_steps.specs.declared.rows.FinishRow.{FinishRow}
-use Rattle.send_steps.specs.declared.rows.FinishRow.TheVariants as finish
-use Rattle.send_steps.specs.declared.rows.StartRow.{StartRow}
-use Rattle.send_steps.specs.declared.rows.StartRow.TheVariants as start
-use Rattle.send_steps.specs.Files.{is_info}
-use Rattle.send_steps.specs.Lines.{finish_lines, if_fine, is_skipped, skipped_if}
-use Rattle.send_steps.specs.Readings.{read_on}
-use Rattle.send_steps.specs.Replies.{Said, said}
+use Rattle.send_parts.specs.declared.rows.FinishRow.{FinishRow}
+use Rattle.send_parts.specs.declared.rows.FinishRow.TheVariants as finish
+use Rattle.send_parts.specs.declared.rows.StartRow.{StartRow}
+use Rattle.send_parts.specs.declared.rows.StartRow.TheVariants as start
+use Rattle.send_parts.specs.Files.{is_info}
+use Rattle.send_parts.specs.Lines.{finish_lines, if_fine, is_skipped, skipped_if}
+use Rattle.send_parts.specs.Readings.{read_on}
+use Rattle.send_parts.specs.Replies.{Said, said}
 use Rattle.spawn_protocol.specs.declared.report.Report.{Report}
 use Rattle.spawn_protocol.specs.Report.{read_on as reports_on}
 use Rattle.todo_pass.specs.declared.row.Row.{Row as PassRow}

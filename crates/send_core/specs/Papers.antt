@@ -18,8 +18,8 @@ use Rattle.call_fs.specs.declared.past.GotData.TheVariants as came
 use Rattle.call_fs.specs.declared.past.NeedData.{NeedData}
 use Rattle.call_fs.specs.declared.past.NeedData.TheVariants as needs
 use Rattle.call_fs.specs.declared.past.Own.{Own}
-use Rattle.send_steps.specs.Start.{no_files}
-use Rattle.send_steps.specs.Steps.{control_text}
+use Rattle.send_parts.specs.Start.{no_files}
+use Rattle.send_parts.specs.Steps.{control_text}
 
 -- The control file that is being read: its descriptor, the bytes so far, and whether the last read brought fewer bytes than were
 -- asked for.

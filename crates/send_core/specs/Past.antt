@@ -26,7 +26,7 @@ use Rattle.send_jobs.specs.declared.attempts.Failure.{Failure}
 use Rattle.send_jobs.specs.declared.channels.Channel.{Channel}
 use Rattle.send_jobs.specs.declared.channels.Channel.TheVariants.{Local, Remote}
 use Rattle.send_jobs.specs.Failures.{failure_in, is_final}
-use Rattle.send_steps.specs.Files.{records_of}
+use Rattle.send_parts.specs.Files.{records_of}
 use Rattle.spawn_protocol.specs.declared.report.Report.{Report}
 use Rattle.spawn_protocol.specs.Report.{counted, read_on}
 use Rattle.spawn_protocol.specs.Report.Reader.{AtBegin}

@@ -16,7 +16,7 @@ use Rattle.call_fs.specs.declared.past.Own.{Own}
 use Rattle.queue_paths.specs.Names.{Name, parse}
 use Rattle.queue_paths.specs.Names.Name.{Of}
 use Rattle.queue_paths.specs.Names.Part.{Info as InfoFile, Todo as TodoFile}
-use Rattle.send_steps.specs.Files.{is_info, sender_in}
+use Rattle.send_parts.specs.Files.{is_info, sender_in}
 use Rattle.todo_pass.specs.Todo.{Todo, read_todo}
 
 -- The info or todo file that is being read

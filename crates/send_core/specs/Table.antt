@@ -20,17 +20,17 @@ use Rattle.send_jobs.specs.declared.channels.Channel.TheVariants.{Local, Remote}
 use Rattle.send_jobs.specs.Lanes.{next}
 use Rattle.send_jobs.specs.Sending.{lane, none_out}
 use Rattle.send_jobs.specs.Slots.{lowest}
-use Rattle.send_steps.specs.declared.dir.Dir.TheVariants as dir
-use Rattle.send_steps.specs.declared.reading.Reading.TheVariants.{Opening}
-use Rattle.send_steps.specs.declared.step.Step.{Step}
-use Rattle.send_steps.specs.declared.step.Step.TheVariants as step
-use Rattle.send_steps.specs.Lines.{finish_takes_memory}
-use Rattle.send_steps.specs.Readings.{read_on, reading_step}
-use Rattle.send_steps.specs.Replies.{said}
-use Rattle.send_steps.specs.Steps.{due_by}
+use Rattle.send_parts.specs.declared.dir.Dir.TheVariants as dir
+use Rattle.send_parts.specs.declared.reading.Reading.TheVariants.{Opening}
+use Rattle.send_parts.specs.declared.step.Step.{Step}
+use Rattle.send_parts.specs.declared.step.Step.TheVariants as step
+use Rattle.send_parts.specs.Lines.{finish_takes_memory}
+use Rattle.send_parts.specs.Readings.{read_on, reading_step}
+use Rattle.send_parts.specs.Replies.{said}
+use Rattle.send_parts.specs.Steps.{due_by}
 use Rattle.todo_pass.specs.Table.{begun as pass_begun, due_of_pass}
 use Rattle.send_core.specs.declared.desk.Desk.{Desk}
-use Rattle.send_steps.specs.declared.rows.FinishRow.TheVariants as finish
+use Rattle.send_parts.specs.declared.rows.FinishRow.TheVariants as finish
 use Rattle.send_core.specs.declared.row.MarkRow.{MarkRow}
 use Rattle.send_core.specs.declared.row.MarkRow.TheVariants as mark
 use Rattle.send_core.specs.declared.row.Marked.{Marked}
@@ -38,15 +38,15 @@ use Rattle.send_core.specs.declared.row.Point.{Point}
 use Rattle.send_core.specs.declared.row.Point.TheVariants as point
 use Rattle.send_core.specs.declared.row.Row.{Row}
 use Rattle.send_core.specs.declared.row.Row.TheVariants as at
-use Rattle.send_steps.specs.declared.rows.Search.{Search}
-use Rattle.send_steps.specs.declared.rows.Search.TheVariants as search
-use Rattle.send_steps.specs.declared.rows.StartRow.{StartRow}
-use Rattle.send_steps.specs.declared.rows.StartRow.TheVariants as start
-use Rattle.send_steps.specs.declared.rows.SweepRow.{SweepRow}
-use Rattle.send_steps.specs.declared.rows.SweepRow.TheVariants as sweep
-use Rattle.send_steps.specs.Requests.{first_text, quiet}
-use Rattle.send_steps.specs.Rows.{finish_step, start_step, sweep_step}
-use Rattle.send_steps.specs.Start.{new_book, start_takes_memory}
+use Rattle.send_parts.specs.declared.rows.Search.{Search}
+use Rattle.send_parts.specs.declared.rows.Search.TheVariants as search
+use Rattle.send_parts.specs.declared.rows.StartRow.{StartRow}
+use Rattle.send_parts.specs.declared.rows.StartRow.TheVariants as start
+use Rattle.send_parts.specs.declared.rows.SweepRow.{SweepRow}
+use Rattle.send_parts.specs.declared.rows.SweepRow.TheVariants as sweep
+use Rattle.send_parts.specs.Requests.{first_text, quiet}
+use Rattle.send_parts.specs.Rows.{finish_step, start_step, sweep_step}
+use Rattle.send_parts.specs.Start.{new_book, start_takes_memory}
 use Rattle.send_core.specs.Desk.{link, due_on, sweep_due, next_idle, ready}
 use Rattle.send_core.specs.Start.{started}
 use Rattle.send_core.specs.Turn.{act_mark, mark_takes_memory, begun_at, file_read, in_todo, requested, took, todo_named, unlinked}

@@ -17,13 +17,13 @@ use Rattle.send_jobs.specs.Lanes.{mark_settled, left_unmarked}
 use Rattle.send_jobs.specs.Sending.{lane, at_lane}
 use Rattle.send_known.specs.declared.known.Known.{Known}
 use Rattle.send_known.specs.Messages.{learned}
-use Rattle.send_steps.specs.declared.reading.Progress.{Progress}
-use Rattle.send_steps.specs.declared.reading.Progress.TheVariants.{Goes, Whole, Missing, Failed}
-use Rattle.send_steps.specs.declared.reading.Reading.{Reading}
-use Rattle.send_steps.specs.declared.reply.Way.{Way}
-use Rattle.send_steps.specs.declared.reply.Way.TheVariants as way
-use Rattle.send_steps.specs.Files.{message_number, records_of}
-use Rattle.send_steps.specs.Replies.{Said, said}
+use Rattle.send_parts.specs.declared.reading.Progress.{Progress}
+use Rattle.send_parts.specs.declared.reading.Progress.TheVariants.{Goes, Whole, Missing, Failed}
+use Rattle.send_parts.specs.declared.reading.Reading.{Reading}
+use Rattle.send_parts.specs.declared.reply.Way.{Way}
+use Rattle.send_parts.specs.declared.reply.Way.TheVariants as way
+use Rattle.send_parts.specs.Files.{message_number, records_of}
+use Rattle.send_parts.specs.Replies.{Said, said}
 use Rattle.todo_pass.specs.declared.row.Row.{Row as PassRow}
 use Rattle.todo_pass.specs.declared.row.Row.TheVariants as todo
 use Rattle.todo_pass.specs.Sorting.{has}
@@ -36,19 +36,20 @@ use Rattle.send_core.specs.declared.row.Point.{Point}
 use Rattle.send_core.specs.declared.row.Point.TheVariants as point
 use Rattle.send_core.specs.declared.row.Row.{Row}
 use Rattle.send_core.specs.declared.row.Row.TheVariants as at
-use Rattle.send_steps.specs.declared.rows.Search.{Search}
-use Rattle.send_steps.specs.declared.rows.Search.TheVariants as searches
+use Rattle.send_parts.specs.declared.rows.Search.{Search}
+use Rattle.send_parts.specs.declared.rows.Search.TheVariants as searches
 use Rattle.send_core.specs.Desk.{goes, stands_at, later, due_again, done_with, closed, heard, is_free_for, has_begun, request_sent, past_todo}
-use Rattle.send_steps.specs.Rows.{is_again}
-use Rattle.send_steps.specs.Start.{kept}
-pub use Rattle.send_steps.specs.Readings.{begun_at}
-pub use Rattle.send_steps.specs.Replies.{is_fine}
+use Rattle.send_parts.specs.Rows.{is_again}
+use Rattle.send_parts.specs.Start.{kept}
+pub use Rattle.send_parts.specs.Readings.{begun_at}
+pub use Rattle.send_parts.specs.Replies.{is_fine}
 pub use Rattle.todo_pass.specs.Rows.{is_done}
+use Rattle.queue_limits.specs.declared.statuses.TheConstants.{NO_CLEANER, NO_LOCAL, NO_REMOTE}
 
 -- A link that ended, or from which a taking or to which a giving failed, ends the sender.
 abbrev pub lost : Channel → Row
-lost Local = at.Ended 82
-lost Remote = at.Ended 83
+lost Local = at.Ended NO_LOCAL
+lost Remote = at.Ended NO_REMOTE
 
 -- 1. Takings: what a link holds, once a turn for each
 
@@ -167,7 +168,7 @@ known_of p = record {
 -- Without the link to the cleaner the sender ends. A pass that is left is remembered.
 abbrev pub todo_on : PassRow → Pass → ℕ → Desk → Desk
 todo_on (todo.Left why) p now d = past_todo now (record d { pass = p; last_left = digits p.n })
-todo_on todo.Lost p now d = record d { row = at.Ended 81; pass = p }
+todo_on todo.Lost p now d = record d { row = at.Ended NO_CLEANER; pass = p }
 todo_on row p now d = record d { row = at.InTodo; pass = p }
 
 -- A pass is done when the cleaner answers `+`: its message is known, and due at once.

@@ -15,7 +15,7 @@ use crate::{Desk, Row};
 use call_fs::Got;
 use mail_bytes::Memory;
 use send_log::Log;
-use send_steps::{begun_at, reply_of};
+use send_parts::{begun_at, reply_of};
 use std::alloc::Global;
 
 /// What came at this row, at this moment; then the next request of each channel is for its lowest free slot. After an `Err`

@@ -6,7 +6,7 @@ ghost use Rattle.send_core.specs.Table.{beginning, finishing, from_begin, from_l
 use crate::{Desk, MarkRow, Marked, Point, Row};
 use call_fs::Ready;
 use send_jobs::{Channel, Mark, first_due};
-use send_steps::{FinishRow, Reading, Search, SweepRow, sweep_due};
+use send_parts::{FinishRow, Reading, Search, SweepRow, sweep_due};
 
 /// The row at which a sender that keeps this is, at this moment and with this ready.
 pub fn row_now(desk: &Desk, now: u64, ready: &Ready) -> Row

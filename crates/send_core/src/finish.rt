@@ -2,8 +2,8 @@
 // last one of a finish, for its line of the log.
 ghost use Rattle.std.specs.Prelude.{◌≡◌, ◌++◌, false, IsOk, OnOk, OnErr};
 ghost use Rattle.mail_bytes.specs.Moments.{IsMoment};
-ghost use Rattle.send_steps.specs.Lines.{finish_takes_memory};
-ghost use Rattle.send_steps.specs.Replies.{said_of};
+ghost use Rattle.send_parts.specs.Lines.{finish_takes_memory};
+ghost use Rattle.send_parts.specs.Replies.{said_of};
 ghost use Rattle.bounce_record.specs.Lines.{return_lines};
 ghost use Rattle.bounce_record.specs.Rows.{takes_memory};
 ghost use Rattle.call_fs.specs.Program.{came_of};
@@ -14,8 +14,9 @@ use crate::{Desk, Row};
 use bounce_record::{ReturnRow, add_returned};
 use call_fs::Got;
 use mail_bytes::Memory;
+use queue_limits::NO_CLEANER;
 use send_log::Log;
-use send_steps::{FinishRow, Reply, SweepRow, add_finished, finish_to, reply_of};
+use send_parts::{FinishRow, Reply, SweepRow, add_finished, finish_to, reply_of};
 use std::alloc::Global;
 
 /// What came at a row of the finish of a message. After an `Err` all is as before.
@@ -119,7 +120,7 @@ fn finish_at(desk: &mut Desk, row: FinishRow, n: u64, now: u64)
             desk.book.messages.forget(n);
             desk.past_finish(now);
         }
-        FinishRow::Lost => desk.row = Row::Ended(81),
+        FinishRow::Lost => desk.row = Row::Ended(NO_CLEANER),
         row => desk.row = Row::Finish(row, n),
     }
 }
@@ -129,7 +130,7 @@ pub fn act_sweep(desk: &mut Desk, row: SweepRow, now: u64, reply: &Reply<'_>)
     ensures { desk.new ≡ act_sweep row now (said_of reply.now) desk.old }
 {
     sweep_begun(desk, row, now);
-    let next = send_steps::act_sweep(&mut desk.book, row, now, reply);
+    let next = send_parts::act_sweep(&mut desk.book, row, now, reply);
     sweep_at(desk, next);
 }
 
@@ -149,7 +150,7 @@ fn sweep_at(desk: &mut Desk, row: SweepRow)
 {
     match row {
         SweepRow::Over => desk.turn_over(),
-        SweepRow::Lost => desk.row = Row::Ended(81),
+        SweepRow::Lost => desk.row = Row::Ended(NO_CLEANER),
         row => desk.row = Row::Sweep(row),
     }
 }

@@ -9,7 +9,7 @@ use bounce_record::{NoteRow, late_report};
 use call_fs::{Fd, Got};
 use mail_bytes::Memory;
 use send_jobs::{Failure, Mark};
-use send_steps::{Way, is_fine, reply_of};
+use send_parts::{Way, is_fine, reply_of};
 use std::alloc::Global;
 
 /// What came at a row of a mark. After an `Err` all is as before.

@@ -4,9 +4,9 @@ ghost use Rattle.std.specs.Option.{option_map};
 ghost use Rattle.mail_bytes.specs.Moments.{IsMoment};
 ghost use Rattle.send_jobs.specs.Lanes.{next};
 ghost use Rattle.send_jobs.specs.Sending.{lane};
-ghost use Rattle.send_steps.specs.Lines.{if_fine};
-ghost use Rattle.send_steps.specs.Readings.{read_on};
-ghost use Rattle.send_steps.specs.Replies.{said_of};
+ghost use Rattle.send_parts.specs.Lines.{if_fine};
+ghost use Rattle.send_parts.specs.Readings.{read_on};
+ghost use Rattle.send_parts.specs.Replies.{said_of};
 ghost use Rattle.send_core.specs.Log.{request_lines};
 ghost use Rattle.send_core.specs.Turn.{file_read, pass_opened, put_later, requested};
 
@@ -16,7 +16,7 @@ use envelope_records::Record;
 use mail_bytes::Memory;
 use send_jobs::{Channel, due_again, put_starting, status_if};
 use send_log::Log;
-use send_steps::{Progress, Reading, Reply, Way, keep, read_on, records_in};
+use send_parts::{Progress, Reading, Reply, Way, keep, read_on, records_in};
 use std::alloc::Global;
 
 /// A step of reading a channel file, whose pass begins or began then. After an `Err` all is as before.

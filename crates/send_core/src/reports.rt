@@ -2,19 +2,20 @@
 ghost use Rattle.std.specs.Prelude.{◌≡◌, ◌≤◌, ◌+◌, ◌++◌, OnOk, OnErr};
 ghost use Rattle.mail_bytes.specs.Moments.{IsMoment};
 ghost use Rattle.send_jobs.specs.Lines.{settled_room};
-ghost use Rattle.send_steps.specs.Lines.{if_fine, reports_room};
-ghost use Rattle.send_steps.specs.Replies.{said_of};
+ghost use Rattle.send_parts.specs.Lines.{if_fine, reports_room};
+ghost use Rattle.send_parts.specs.Replies.{said_of};
 ghost use Rattle.send_core.specs.Desk.{deferred, heard, retried_if, settle, told, told_all, with_reader};
 ghost use Rattle.send_core.specs.Log.{report_lines_on, taken_lines, told_lines};
 ghost use Rattle.send_core.specs.Turn.{after_take, lost, took, unlinked};
 
 use crate::{Desk, Point, Row};
 use mail_bytes::Memory;
+use queue_limits::{NO_LOCAL, NO_REMOTE};
 use send_jobs::{
     Attempt, Channel, Job, Mark, done_with, due_again, failure_in, is_final, put_settled,
 };
 use send_log::{Line, Log};
-use send_steps::{Reply, Way, make_room};
+use send_parts::{Reply, Way, make_room};
 use spawn_protocol::{Report, ReportReader};
 use std::alloc::Global;
 
@@ -23,8 +24,8 @@ pub fn lost(channel: Channel) -> Row
     ensures { result ≡ lost channel }
 {
     match channel {
-        Channel::Local => Row::Ended(82),
-        Channel::Remote => Row::Ended(83),
+        Channel::Local => Row::Ended(NO_LOCAL),
+        Channel::Remote => Row::Ended(NO_REMOTE),
     }
 }
 

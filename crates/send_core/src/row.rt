@@ -2,7 +2,7 @@
 
 use call_fs::Fd;
 use send_jobs::Channel;
-use send_steps::{FinishRow, Reading, Search, StartRow, SweepRow};
+use send_parts::{FinishRow, Reading, Search, StartRow, SweepRow};
 
 /// A place in a turn between two steps: what comes next is decided by the moment and by what is ready.
 #[derive(Clone, Copy)]

@@ -18,7 +18,7 @@ use call_fs::{Got, Need, Ready};
 use mail_bytes::{Memory, NameBuf};
 use send_jobs::{Channel, Marks, Slots};
 use send_log::Log;
-use send_steps::{Book, FinishRow, Link, NamedStep, Reading, StartRow};
+use send_parts::{Book, FinishRow, Link, NamedStep, Reading, StartRow};
 use std::alloc::Global;
 use std::marker::Model;
 use todo_pass::Pass;

@@ -1,7 +1,7 @@
 // The sender's start, and what it goes over into.
 ghost use Rattle.std.specs.Prelude.{◌≡◌, ◌++◌, false, IsOk, OnOk, OnErr};
-ghost use Rattle.send_steps.specs.Replies.{said_of};
-ghost use Rattle.send_steps.specs.Start.{start_takes_memory};
+ghost use Rattle.send_parts.specs.Replies.{said_of};
+ghost use Rattle.send_parts.specs.Start.{start_takes_memory};
 ghost use Rattle.send_core.specs.Log.{start_lines};
 ghost use Rattle.send_core.specs.Start.{entered, start_at, started};
 
@@ -9,7 +9,7 @@ use crate::{Desk, Point, Row};
 use mail_bytes::Memory;
 use send_jobs::Slots;
 use send_log::{LINE_ROOM, Log};
-use send_steps::{
+use send_parts::{
     Reply, StartRow, act_start, is_info, is_skipped, put_skipped, read_on, remote_limit,
 };
 use std::alloc::Global;

@@ -6,7 +6,7 @@ use crate::{Desk, MarkRow, Marked, Row};
 use call_fs::How;
 use queue_paths::Name;
 use send_jobs::{file_of, port_of};
-use send_steps::{
+use send_parts::{
     Dir, Search, StartRow, Step, SweepRow, finish_step, reading_step, start_step, sweep_step,
 };
 

@@ -1,7 +1,7 @@
 // Point 4 of a turn: preprocessing.
 ghost use Rattle.std.specs.Prelude.{◌≡◌, ◌++◌, OnOk, OnErr, IfOk};
 ghost use Rattle.call_fs.specs.Program.{came_of};
-ghost use Rattle.send_steps.specs.Replies.{said_of};
+ghost use Rattle.send_parts.specs.Replies.{said_of};
 ghost use Rattle.send_known.specs.Messages.{learned};
 ghost use Rattle.todo_pass.specs.declared.row.Row.TheVariants as todo;
 ghost use Rattle.todo_pass.specs.Table.{answer_row, moved};
@@ -13,7 +13,7 @@ use call_fs::Got;
 use mail_bytes::{ByteText, Memory};
 use send_known::Known;
 use send_log::{LINE_ROOM, Log};
-use send_steps::{Reply, Search, Way, hold, message_number, number_text};
+use send_parts::{Reply, Search, Way, hold, message_number, number_text};
 use std::alloc::Global;
 use todo_pass::{Pass, Row as PassRow, is_plus, put_left, put_queued, queued_room};
 
@@ -111,7 +111,7 @@ fn goes_on(desk: &mut Desk, now: u64)
             desk.last_left = number_text(desk.pass.number());
             desk.past_todo(now);
         }
-        PassRow::Lost => desk.row = Row::Ended(81),
+        PassRow::Lost => desk.row = Row::Ended(queue_limits::NO_CLEANER),
         _ => desk.row = Row::InTodo,
     }
 }

@@ -8,6 +8,7 @@ use Rattle.send_jobs.specs.Channels.{skip_of}
 use Rattle.send_known.specs.declared.messages.Messages.{Messages}
 use Rattle.send_known.specs.Known.{birth_of}
 use Rattle.send_known.specs.Messages.{local_gone, remote_gone}
+use Rattle.mail_bytes.specs.declared.moments.TheConstants.{LAST_MOMENT}
 
 -- when messages are due on a channel
 abbrev pub due_on : Channel → Messages → List (ℕ × ℕ)
@@ -26,7 +27,7 @@ file_gone Remote n m = remote_gone n m
 
 -- a moment that a clock may tell: one past the last counts as the last
 abbrev pub moment_of : ℕ → ℕ
-moment_of moment = min moment 250000000000
+moment_of moment = min moment LAST_MOMENT
 
 -- the next retry of a message, reckoned at its pass's begin
 abbrev pub retry_of : Channel → ℕ → ℕ → Messages → ℕ

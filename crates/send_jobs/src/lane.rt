@@ -27,7 +27,7 @@ impl Lane {
     ghost use Rattle.send_jobs.specs.Lanes.{empty, next, begun_by, sent, finished, job_over};
     ghost use Rattle.send_jobs.specs.Slots.{lowest, is_on};
 
-    /// Nothing, with so many slots.
+    /// Nothing, with so many slots. The error: out of memory.
     pub fn new(alloc: Global, limit: u8) -> Result<Self, Memory>
         ensures { IfOk result (λ lane. lane ≡ empty limit) }
     {

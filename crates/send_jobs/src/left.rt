@@ -37,7 +37,7 @@ impl Left {
         }
     }
 
-    /// Those of a pass over these records of a message: the ones that read `T`.
+    /// Those of a pass over these records of a message: the ones that read `T`. The error: out of memory.
     pub fn of(alloc: Global, n: u64, records: &[Record], dying: bool) -> Result<Self, Memory>
         ensures { IfOk result (λ left. left ≡ attempts_of n dying records.now) }
     {

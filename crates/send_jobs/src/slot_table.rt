@@ -31,7 +31,7 @@ impl Model for SlotTable {
 }
 
 impl SlotTable {
-    /// So many free slots, and no more than `MAX_SLOTS`.
+    /// So many free slots, and no more than `MAX_SLOTS`. The error: out of memory.
     pub fn free(alloc: Global, count: u8) -> Result<Self, Memory>
         ensures { IfOk result (λ table. table ≡ replicate (min count 120) None) }
     {

@@ -36,7 +36,7 @@ impl Slots {
     ghost use Rattle.send_jobs.specs.Sending.{lane, at_lane, none_out, next_delivery, sent_on};
 
     /// Nothing is out. `limits` says how many local and how many remote slots there are; more than `MAX_SLOTS` count as
-    /// `MAX_SLOTS`.
+    /// `MAX_SLOTS`. The error: out of memory.
     pub fn new(alloc: Global, limits: [u8; 2]) -> Result<Self, Memory>
         ensures { IfOk result (λ slots. slots ≡ none_out (slice_index limits 0) (slice_index limits 1)) }
     {

@@ -39,6 +39,7 @@ use Rattle.send_core.specs.declared.desk.Desk.{Desk}
 use Rattle.send_core.specs.declared.row.MarkRow.{MarkRow}
 use Rattle.send_core.specs.declared.row.MarkRow.TheVariants as mark
 use Rattle.send_core.specs.declared.row.Marked.{Marked}
+use Rattle.send_core.specs.declared.row.Point.{Point}
 use Rattle.send_core.specs.declared.row.Point.TheVariants as point
 use Rattle.send_core.specs.declared.row.Row.{Row}
 use Rattle.send_core.specs.declared.row.Row.TheVariants as at
@@ -55,23 +56,23 @@ use Rattle.send_jobs.specs.Lines.{channel_word, starting_if}
 use Rattle.send_jobs.specs.Sending.{at_lane, lane, next_delivery, none_out, sent_as, sent_on}
 use Rattle.send_jobs.specs.Slots.{IsLeastFree, attempt_in, lowest}
 use Rattle.send_log.specs.Lines.{starting}
-use Rattle.send_steps.specs.Readings.{reading_step}
-use Rattle.send_steps.specs.Requests.{first_text, request_of, to_slot}
-use Rattle.send_steps.specs.Start.{remote_limit}
-use Rattle.send_steps.specs.Replies.{said}
-use Rattle.send_steps.specs.Steps.{due_by}
-use Rattle.send_steps.specs.declared.reading.Reading.{Reading}
-use Rattle.send_steps.specs.declared.reading.Reading.TheVariants.{Opening}
-use Rattle.send_steps.specs.declared.reply.Way.{Way}
-use Rattle.send_steps.specs.declared.reply.Way.TheVariants as way
-use Rattle.send_steps.specs.declared.rows.FinishRow.{FinishRow}
-use Rattle.send_steps.specs.declared.rows.FinishRow.TheVariants as finish
-use Rattle.send_steps.specs.declared.rows.StartRow.{StartRow}
-use Rattle.send_steps.specs.declared.rows.StartRow.TheVariants as start
-use Rattle.send_steps.specs.declared.rows.SweepRow.{SweepRow}
-use Rattle.send_steps.specs.declared.rows.SweepRow.TheVariants as sweep
-use Rattle.send_steps.specs.declared.step.Step.{Step}
-use Rattle.send_steps.specs.declared.step.Step.TheVariants as step
+use Rattle.send_parts.specs.Readings.{reading_step}
+use Rattle.send_parts.specs.Requests.{first_text, request_of, to_slot}
+use Rattle.send_parts.specs.Start.{remote_limit}
+use Rattle.send_parts.specs.Replies.{said}
+use Rattle.send_parts.specs.Steps.{due_by}
+use Rattle.send_parts.specs.declared.reading.Reading.{Reading}
+use Rattle.send_parts.specs.declared.reading.Reading.TheVariants.{Opening}
+use Rattle.send_parts.specs.declared.reply.Way.{Way}
+use Rattle.send_parts.specs.declared.reply.Way.TheVariants as way
+use Rattle.send_parts.specs.declared.rows.FinishRow.{FinishRow}
+use Rattle.send_parts.specs.declared.rows.FinishRow.TheVariants as finish
+use Rattle.send_parts.specs.declared.rows.StartRow.{StartRow}
+use Rattle.send_parts.specs.declared.rows.StartRow.TheVariants as start
+use Rattle.send_parts.specs.declared.rows.SweepRow.{SweepRow}
+use Rattle.send_parts.specs.declared.rows.SweepRow.TheVariants as sweep
+use Rattle.send_parts.specs.declared.step.Step.{Step}
+use Rattle.send_parts.specs.declared.step.Step.TheVariants as step
 use Rattle.spawn_protocol.specs.declared.report.Report.{Report}
 use Rattle.spawn_protocol.specs.Report.{read_on}
 use Rattle.todo_pass.specs.declared.row.Row.{Row as PassRow}
@@ -80,6 +81,12 @@ use Rattle.todo_pass.specs.Table.{Pass}
 use Rattle.todo_pass.specs.Table as pass_table
 use Rattle.send_runs.specs.Reports.{given_by}
 use Rattle.send_runs.specs.Deliveries.{DeliveriesAreNumbered, is_giving, is_request, number_in, numbered_by, requests_given}
+use Rattle.send_runs.proofs.Limits.{LimitsBy, limits_kept, status_is}
+use Rattle.send_runs.specs.Status.{limit_in, status_after}
+use Rattle.send_core.proofs.Agreed.{lanes_agree}
+use Rattle.send_core.specs.Agrees.{has_ended}
+use Rattle.send_core.specs.Papers.{controls_told}
+use Rattle.send_jobs.specs.Lines.{status_line}
 use Rattle.send_runs.proofs.Slots.{IsPlain, Same, of_row, of_settle}
 
 -- A row that gives no request
@@ -134,10 +141,10 @@ module _ (c : Channel) (got : GotData) where
 
 -- What is counted, and the numbers of what is in flight
 
-abbrev Numbers : (Channel → ℕ → ℕ) → Slots → Type 0
+abbrev pub Numbers : (Channel → ℕ → ℕ) → Slots → Type 0
 Numbers of s = (c : Channel) (slot : ℕ) (a : Attempt) → attempt_in (lane c s).slots slot ≡ Some a → a.delivery ≡ of c slot
 
-abbrev Counts : ℕ → (Channel → ℕ → ℕ) → Slots → Type 0
+abbrev pub Counts : ℕ → (Channel → ℕ → ℕ) → Slots → Type 0
 Counts count of s = (s.given ≡ count) × Numbers of s
 
 counts_same : (count : ℕ) (of : Channel → ℕ → ℕ) (s t : Slots) → Same s t → Counts count of s → Counts count of t
@@ -163,7 +170,7 @@ still_there slots freed slot a lt there = by (same_or freed slot) where
 
 -- Takings
 
-told_counts : (count : ℕ) (of : Channel → ℕ → ℕ) (c : Channel) (r : Report) (o : Option Attempt) (d : Desk) → attempt_in (lane c d.slots).slots r.slot ≡ o → Counts count of d.slots
+pub told_counts : (count : ℕ) (of : Channel → ℕ → ℕ) (c : Channel) (r : Report) (o : Option Attempt) (d : Desk) → attempt_in (lane c d.slots).slots r.slot ≡ o → Counts count of d.slots
     → Counts count of (told_by o c r d).slots
 told_counts count of c r None d there h = h
 told_counts count of Local r (Some x) d there h =
@@ -367,7 +374,7 @@ asks_at turns past now ready run c slot is fl fr low =
 
 -- After each run
 
-counts_kept : (turns : Option ℕ) (past : List Own) → IsRunBy (Next turns) past → Counts (requests_given past) (λ c. number_in c past) (desk_after turns past).slots
+pub counts_kept : (turns : Option ℕ) (past : List Own) → IsRunBy (Next turns) past → Counts (requests_given past) (λ c. number_in c past) (desk_after turns past).slots
 counts_kept turns [] run = none_out_counts 0 0 (λ c slot. 0)
 counts_kept turns (event ∷ before) run =
     let d : Desk = desk_after turns before in
@@ -415,16 +422,28 @@ gift_of Local Remote slot text got gives = absurd (no_gift slot gives)
 gift_of Remote Local slot text got gives = absurd (no_gift slot gives)
 
 module _ (al ar : Account) (now number : ℕ) (d : Desk) (t : Task) where
+  -- with what is in flight then, between two steps
   abbrev Line : Channel → Row → GotData → Type 0
-  Line c row got = (status : List ℕ) × (lines_at row now got d ≡ starting number t.n (channel_word c) t.address ++ status)
+  Line c row got = (lines_at row now got d ≡ starting number t.n (channel_word c) t.address ++ status_line (act row now got d).slots) × ((p : Point) × ((act row now got d).row ≡ at.Turn p))
+
+  -- what a request that was given leaves
+  abbrev given_when : Channel → Bool → Desk
+  given_when c b = let before : Desk = stands_at d (point.Pass c false) in if b then with_requests c (drop 1 (link c before).requests) (record before { slots = sent_on c before.slots }) else before
 
   request_line : (c : Channel) (a : Attempt) → next (lane c d.slots) ≡ Some a → task_of a ≡ t → raised d.slots.given ≡ number → Line c (at.Request c) came.Gave
-  request_line c a first same counted = (
-    status_if (is_some (next (lane c d.slots))) (sent_on c d.slots),
-    ap (λ (w : List ℕ). w ++ status_if (is_some (next (lane c d.slots))) (sent_on c d.slots))
-        (ap (λ (o : Option Attempt). starting_if o c d.slots) first
-        ∙ ap (λ (x : Task). starting (raised d.slots.given) x.n (channel_word c) x.address) same
-        ∙ ap (λ (k : ℕ). starting k t.n (channel_word c) t.address) counted),
+  request_line Local a first same counted = (
+    ap (λ (o : Option Attempt). starting_if o Local d.slots ++ status_if (is_some o) (sent_on Local d.slots)) first
+        ∙ ap (λ (x : Task). starting (raised d.slots.given) x.n (channel_word Local) x.address ++ status_line (sent_on Local d.slots)) same
+        ∙ ap (λ (k : ℕ). starting k t.n (channel_word Local) t.address ++ status_line (sent_on Local d.slots)) counted
+        ∙ ap (λ (o : Option Attempt). starting number t.n (channel_word Local) t.address ++ status_line (given_when Local (is_some o)).slots) (sym first),
+    (point.Pass Local false, ap (λ (o : Option Attempt). (given_when Local (is_some o)).row) first),
+  )
+  request_line Remote a first same counted = (
+    ap (λ (o : Option Attempt). starting_if o Remote d.slots ++ status_if (is_some o) (sent_on Remote d.slots)) first
+        ∙ ap (λ (x : Task). starting (raised d.slots.given) x.n (channel_word Remote) x.address ++ status_line (sent_on Remote d.slots)) same
+        ∙ ap (λ (k : ℕ). starting k t.n (channel_word Remote) t.address ++ status_line (sent_on Remote d.slots)) counted
+        ∙ ap (λ (o : Option Attempt). starting number t.n (channel_word Remote) t.address ++ status_line (given_when Remote (is_some o)).slots) (sym first),
+    (point.Pass Remote false, ap (λ (o : Option Attempt). (given_when Remote (is_some o)).row) first),
   )
 
   gift_line : (P : MarkRow → Option Mark → Marked → Writing → Type 0) (f : Option Work) (c : Channel) (slot : ℕ) (rest : List Task) (row : Row) (got : GotData) → FitAt P f al ar row d → MayCome (due_at row d) got
@@ -443,7 +462,7 @@ module _ (al ar : Account) (now number : ℕ) (d : Desk) (t : Task) where
 
 starts : (turns : Option ℕ) (past : List Own) (event : Own) → IsRunBy (Next turns) (event ∷ past) → (c : Channel) (slot : ℕ) → given_by event.due event.came c ≡ Gives slot
     → (t : Task) (rest : List Task) → (account c past).to_give ≡ t ∷ rest
-    → (status : List ℕ) × (lines_of (desk_after turns past) event ≡ starting (requests_given (event ∷ past)) t.n (channel_word c) t.address ++ status)
+    → lines_of (desk_after turns past) event ≡ starting (requests_given (event ∷ past)) t.n (channel_word c) t.address ++ status_after (event ∷ past)
 starts turns past event run c slot gives t rest next_is =
     let d : Desk = desk_after turns past in
     let row : Row = row_now d event.read event.ready in
@@ -452,7 +471,13 @@ starts turns past event run c slot gives t rest next_is =
     let gift : given_by (due_at row d) event.came c ≡ Gives slot = ap (λ (x : NeedData). given_by x event.came c) run.1.0 ∙ gives in
     let number : raised d.slots.given ≡ requests_given (event ∷ past) =
     ap raised (counts_kept turns past run.0).0 ∙ sym (ap (λ (b : Bool). if b then raised (requests_given past) else requests_given past) (request_true c slot event.due event.came gives)) in
-    gift_line (account Local past) (account Remote past) event.read (requests_given (event ∷ past)) d t (Was past) (work past) c slot rest row event.came fit may gift (to_give c next_is) number
+    let e : Desk = desk_after turns (event ∷ past) in
+    let line = gift_line (account Local past) (account Remote past) event.read (requests_given (event ∷ past)) d t (Was past) (work past) c slot rest row event.came fit may gift (to_give c next_is) number in
+    let turn : e.row ≡ at.Turn line.1.0 = line.1.1 in
+    line.0 ∙ ap (λ (text : List ℕ). starting (requests_given (event ∷ past)) t.n (channel_word c) t.address ++ text)
+    (status_is (limit_in (event ∷ past)) (λ (x : Channel). account x (event ∷ past)) e.slots
+    (λ x. (lanes_agree turns (event ∷ past) run x (ap has_ended turn)).in_flight)
+    (subst (λ (to : Row). LimitsBy (λ x. account x (event ∷ past)) (controls_told (event ∷ past)) to e.slots) turn (limits_kept turns (event ∷ past) run)))
   where
     to_give : (c : Channel) → (account c past).to_give ≡ t ∷ rest → of_channel c (account Local past) (account Remote past) ≡ t ∷ rest
     to_give Local e = e

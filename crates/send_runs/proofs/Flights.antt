@@ -1,6 +1,6 @@
 -- What is in flight was given, and no report of its slot was taken since: in any past, whatever the sender keeps.
 use Rattle.std.proofs.Common.{◌≡◌, ◌≢◌, ◌⊎◌, ℕ, List, [], ◌∷◌, ◌++◌, Bool, true, false, Option, Some, None, refl, sym, ap, ◌∙◌, subst, inl, inr, ⊎_elim}
-use Rattle.std.specs.Prelude.{All, slice_get}
+use Rattle.std.specs.Prelude.{slice_get}
 use Rattle.std.proofs.lemmas.List.Elements.{All-cons, All-nil}
 use Rattle.call_fs.proofs.Maps.{put_cases}
 use Rattle.call_fs.specs.Maps.{put}
@@ -22,14 +22,14 @@ use Rattle.call_fs.specs.declared.program.Port.TheVariants as port
 use Rattle.queue_paths.specs.Names.{Name, parse}
 use Rattle.queue_paths.specs.Names.Name.{Of}
 use Rattle.queue_paths.specs.Names.Part.{Bounce as BounceFile, Local as LocalFile, Remote as RemoteFile}
-use Rattle.send_core.specs.Past.{Account, Happening, Owed, Source, Task, Work, account, account_by, called, closed, closed_if, ends, given_up, happening, news, note_closed, opened, settle, settle_all, settle_by, taken, given, took, uncreated_note, unopened_note, whole_of, work}
+use Rattle.send_core.specs.Past.{Account, Happening, Owed, Source, Task, Work, account, account_by, called, closed, closed_if, ends, given_up, happening, news, opened, settle, settle_all, settle_by, taken, given, took, uncreated_note, unopened_note, whole_of, work}
 use Rattle.send_core.specs.Past.Happening.{Gives, GivesUp, Marks, Nothing, Reads, Takes}
 use Rattle.send_core.specs.Past.Work.{Missing, Noting, Reading}
 use Rattle.send_core.specs.Table.{port_of}
 use Rattle.send_jobs.specs.declared.channels.Channel.{Channel}
 use Rattle.send_jobs.specs.declared.channels.Channel.TheVariants.{Local, Remote}
 use Rattle.spawn_protocol.specs.declared.report.Report.{Report}
-use Rattle.send_runs.specs.Reports.{FlightsWereGiven, HasNoReport, IsLeft, WasGiven, ending_in, given_by, reports_at, taken_by, taken_when}
+use Rattle.send_runs.specs.Reports.{FlightsWereGiven, HasNoReport, WasGiven, ending_in, given_by, reports_at, taken_by, taken_when}
 
 -- Reports that are taken
 

@@ -1,18 +1,16 @@
 -- Known messages were met, with their senders and births.
-use Rattle.std.proofs.Common.{◌≡◌, ℕ, zero, suc, ◌+◌, ◌<◌, ◌≤◌, List, [], ◌∷◌, length, get_or, Bool, true, false, Option, Some, None, refl, sym, ap, ◌∙◌, arith, eqb-true, eq-eqb}
+use Rattle.std.proofs.Common.{◌≡◌, ℕ, zero, suc, ◌+◌, ◌<◌, ◌≤◌, List, [], ◌∷◌, length, get_or, Bool, true, false, Some, refl, ap, ◌∙◌, arith, eqb-true, eq-eqb}
 use Rattle.std.specs.Prelude.{◌==◌, if◌then◌else◌, All}
 use Rattle.std.proofs.lemmas.List.Elements.{All-cons, All-nil}
-use Rattle.call_fs.specs.Past.{IsRunBy}
-use Rattle.call_fs.specs.declared.past.Own.{Own}
 use Rattle.retry_schedule.specs.Due.{is_due}
 use Rattle.send_core.proofs.Asked.{Facts, KnowsAt}
-use Rattle.send_core.proofs.Born.{Born, first_birth}
+use Rattle.send_core.proofs.Born.{first_birth}
 use Rattle.send_core.proofs.Known.{Each, Sound}
 use Rattle.send_core.proofs.Runs.{all_kept, facts}
 use Rattle.send_core.specs.Agrees.{has_ended}
 use Rattle.send_core.specs.Births.{births}
 use Rattle.send_core.specs.Senders.{IsSaid}
-use Rattle.send_core.specs.Table.{Next, desk_after}
+use Rattle.send_core.specs.Table.{desk_after}
 use Rattle.send_core.specs.declared.desk.Desk.{Desk}
 use Rattle.send_core.specs.declared.row.Row.{Row}
 use Rattle.send_core.specs.declared.row.Row.TheVariants as at
@@ -22,8 +20,8 @@ use Rattle.send_jobs.specs.Tries.{due_on}
 use Rattle.send_known.specs.declared.known.Known.{Known}
 use Rattle.send_known.specs.declared.messages.Messages.{Messages}
 use Rattle.send_known.specs.Known.{is_known}
-use Rattle.send_steps.specs.declared.rows.StartRow.TheVariants as start
-use Rattle.send_runs.specs.Known.{AreOfPast, KnownAreOfPast}
+use Rattle.send_parts.specs.declared.rows.StartRow.TheVariants as start
+use Rattle.send_runs.specs.Known.{KnownAreOfPast}
 use Rattle.send_runs.proofs.Rising.{RiseFrom, all_above, rise_past}
 
 sound_of : (S : ℕ → List ℕ → Type 0) (t : Facts) (row : Row) (d : Desk) → has_ended row ≡ false → KnowsAt S t row d → Sound S t.births.of d.book.messages

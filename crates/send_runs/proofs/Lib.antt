@@ -1,3 +1,5 @@
+-- the rows of a todo pass before the answer
+pub mod BeforeAnswer
 -- what each event keeps of the known messages
 pub mod Messages
 -- the numbers of the known messages rise
@@ -10,5 +12,39 @@ pub mod Reports
 pub mod Flights
 -- what rows leave of the slots
 pub mod Slots
+-- how many slots each channel has
+pub mod Limits
 -- the numbers of deliveries
 pub mod Deliveries
+-- the lines of reports
+pub mod ReportLines
+-- where readings and sweeps go on
+pub mod Calm
+-- what comes before an unlink
+pub mod Clearing
+-- what is so of each known message
+pub mod Knowns
+-- what each row does to messages and jobs
+pub mod Steady
+-- exactly which messages are known
+pub mod Knowing
+-- which channel file is opened for a pass
+pub mod Trials
+-- changes of schedules and jobs
+pub mod DueLists
+-- events that leave what was due
+pub mod Quiet
+-- what takings and marks do to the channels
+pub mod Settling
+-- where a channel has nothing of a message
+pub mod Overs
+-- which channel files are there
+pub mod There
+-- on which channels messages are due
+pub mod Filed
+-- which channel files messages have
+pub mod Files
+-- when messages are due
+pub mod DueMoments
+-- from when messages may be finished
+pub mod FinishMoments

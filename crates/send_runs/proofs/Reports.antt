@@ -48,18 +48,18 @@ use Rattle.send_jobs.specs.Channels.{file_of}
 use Rattle.send_jobs.specs.Lanes.{job_over, left_unmarked, reported}
 use Rattle.send_jobs.specs.Sending.{at_lane, lane}
 use Rattle.send_jobs.specs.Slots.{attempt_in}
-use Rattle.send_steps.specs.Readings.{reading_step}
-use Rattle.send_steps.specs.Steps.{due_by}
-use Rattle.send_steps.specs.declared.step.Step.{Step}
-use Rattle.send_steps.specs.declared.step.Step.TheVariants as step
-use Rattle.send_steps.specs.declared.reading.Reading.{Reading}
-use Rattle.send_steps.specs.declared.reading.Reading.TheVariants.{Opening}
-use Rattle.send_steps.specs.declared.rows.FinishRow.{FinishRow}
-use Rattle.send_steps.specs.declared.rows.FinishRow.TheVariants as finish
-use Rattle.send_steps.specs.declared.rows.StartRow.{StartRow}
-use Rattle.send_steps.specs.declared.rows.StartRow.TheVariants as start
-use Rattle.send_steps.specs.declared.rows.SweepRow.{SweepRow}
-use Rattle.send_steps.specs.declared.rows.SweepRow.TheVariants as sweep
+use Rattle.send_parts.specs.Readings.{reading_step}
+use Rattle.send_parts.specs.Steps.{due_by}
+use Rattle.send_parts.specs.declared.step.Step.{Step}
+use Rattle.send_parts.specs.declared.step.Step.TheVariants as step
+use Rattle.send_parts.specs.declared.reading.Reading.{Reading}
+use Rattle.send_parts.specs.declared.reading.Reading.TheVariants.{Opening}
+use Rattle.send_parts.specs.declared.rows.FinishRow.{FinishRow}
+use Rattle.send_parts.specs.declared.rows.FinishRow.TheVariants as finish
+use Rattle.send_parts.specs.declared.rows.StartRow.{StartRow}
+use Rattle.send_parts.specs.declared.rows.StartRow.TheVariants as start
+use Rattle.send_parts.specs.declared.rows.SweepRow.{SweepRow}
+use Rattle.send_parts.specs.declared.rows.SweepRow.TheVariants as sweep
 use Rattle.spawn_protocol.specs.declared.report.Report.{Report}
 use Rattle.spawn_protocol.specs.Report.{Reader, counted, read_on}
 use Rattle.spawn_protocol.specs.Report.Reader.{AtBegin}
@@ -71,7 +71,7 @@ use Rattle.send_runs.specs.Reports.{EntriesAreReports, EntriesWereReported, WasR
 
 -- What is in flight, as reports are taken
 
-abbrev Flies : Channel → Account → Desk → Type 0
+abbrev pub Flies : Channel → Account → Desk → Type 0
 Flies c a d = (slot : ℕ) → option_map task_of (attempt_in (lane c d.slots).slots slot) ≡ a.in_flight slot
 
 flies_if : (c : Channel) (a : Account) (b : Bool) (x y : Desk) → Flies c a x → Flies c a y → Flies c a (if b then x else y)
@@ -93,7 +93,7 @@ flies_settled Local a r x d h =
 flies_settled Remote a r x d h =
     flies_if Remote a (is_final (counted r.letter) x.dying && nat_lt (length (lane Remote d.slots).marks) 120) (waits Remote x (failure_in r) d) (deferred Remote x.n d) h (flies_deferred Remote a x.n d h)
 
-flies_told : (c : Channel) (a : Account) (r : Report) (o : Option Attempt) (d : Desk) → attempt_in (lane c d.slots).slots r.slot ≡ o → Flies c a d → Flies c (settle_by (option_map task_of o) r a) (told_by o c r d)
+pub flies_told : (c : Channel) (a : Account) (r : Report) (o : Option Attempt) (d : Desk) → attempt_in (lane c d.slots).slots r.slot ≡ o → Flies c a d → Flies c (settle_by (option_map task_of o) r a) (told_by o c r d)
 flies_told c a r None d there h = h
 flies_told Local a r (Some x) d there h =
     let after : Desk = record d { slots = at_lane Local (reported r.slot) d.slots } in

@@ -1,7 +1,7 @@
 -- The numbers of the known messages rise.
-use Rattle.std.proofs.Common.{◌≡◌, ℕ, zero, suc, ◌+◌, ◌<◌, ◌≤◌, List, [], ◌∷◌, ◌++◌, length, get_or, set, insert, filter, position, cond, Bool, true, false, not, Option, Some, None, refl, sym, ap, ◌∙◌, subst, arith, eqb-true, eq-eqb}
-use Rattle.std.specs.Prelude.{if◌then◌else◌, All, Contains, find, nat_le, slice_get}
-use Rattle.std.specs.List.{AllPairs, list_any}
+use Rattle.std.proofs.Common.{◌≡◌, ℕ, zero, suc, ◌+◌, ◌<◌, ◌≤◌, List, [], ◌∷◌, ◌++◌, length, get_or, set, insert, filter, position, cond, Bool, true, false, not, Option, Some, None, refl, sym, ◌∙◌, subst, arith, eqb-true, eq-eqb}
+use Rattle.std.specs.Prelude.{if◌then◌else◌, All, Contains, find, nat_le}
+use Rattle.std.specs.List.{list_any}
 use Rattle.std.specs.Option.{option_map}
 use Rattle.std.proofs.lemmas.Bool.{leb-false, leb-true, or_left, or_right}
 use Rattle.std.proofs.lemmas.List.Elements.{All-cons, All-weaker}
@@ -19,7 +19,7 @@ use Rattle.send_known.specs.declared.known.Known.{Known}
 use Rattle.send_known.specs.declared.messages.Messages.{Messages}
 use Rattle.send_known.specs.Known as known
 use Rattle.send_known.specs.Known.{first_idle, is_idle}
-use Rattle.send_known.specs.Messages.{forgotten, learned, put_if}
+use Rattle.send_known.specs.Messages.{put_if}
 use Rattle.send_runs.specs.Rising.{AreInOrder, AreRising, IsLeastIdle, KnownNumbersRise}
 use Rattle.send_runs.proofs.Messages.{Keeps, of_past}
 
@@ -62,13 +62,13 @@ rise_put false low k (y ∷ ks) zero lt from below is le h = (le, (before y k fr
 rise_put true low k (y ∷ ks) (suc i) lt from below is le h = (h.0, rise_put true (y.n + 1) k ks i (omega arith) from (λ j lt. below (suc j) (omega arith)) is (above y k (below 0 (omega arith))) h.1)
 rise_put false low k (y ∷ ks) (suc i) lt from below is le h = (h.0, rise_put false (y.n + 1) k ks i (omega arith) from (λ j lt. below (suc j) (omega arith)) is (above y k (below 0 (omega arith))) h.1)
 
-rise_learned : (k : Known) (ks : List Known) (o : Option ℕ) → position (known.is_from k.n) ks ≡ o → RiseFrom 0 ks → RiseFrom 0 (known.learned_at o k ks)
+pub rise_learned : (k : Known) (ks : List Known) (o : Option ℕ) → position (known.is_from k.n) ks ≡ o → RiseFrom 0 ks → RiseFrom 0 (known.learned_at o k ks)
 rise_learned k ks None at h = rise_end 0 k ks (λ some. none_passes (known.is_from k.n) ks at some) (omega arith) h
 rise_learned k ks (Some i) at h = let w = position-Some (known.is_from k.n) ks i k at in rise_put (known.is_of k.n (get_or ks i k)) 0 k ks i w.0 w.1 w.2 refl (omega arith) h
 
 -- One is forgotten, or changed in all but its number
 
-rise_filtered : (keeps : Known → Bool) (low : ℕ) (ks : List Known) → RiseFrom low ks → RiseFrom low (filter keeps ks)
+pub rise_filtered : (keeps : Known → Bool) (low : ℕ) (ks : List Known) → RiseFrom low ks → RiseFrom low (filter keeps ks)
 rise_filtered keeps low [] h = tt
 rise_filtered keeps low (k ∷ ks) h = by (keeps k) (rise_filtered keeps (k.n + 1) ks h.1) where
   by : (b : Bool) → RiseFrom (k.n + 1) (filter keeps ks) → RiseFrom low (cond b (k ∷ filter keeps ks) (filter keeps ks))
@@ -80,15 +80,15 @@ rise_set low [] i y d same h = h
 rise_set low (k ∷ ks) zero y d same h = (subst (λ (n : ℕ). low ≤ n) (sym same) h.0, subst (λ (n : ℕ). RiseFrom (n + 1) ks) (sym same) h.1)
 rise_set low (k ∷ ks) (suc i) y d same h = (h.0, rise_set (k.n + 1) ks i y d same h.1)
 
-rise_off : (moment : ℕ) (ks : List Known) (o : Option ℕ) → RiseFrom 0 ks → RiseFrom 0 (known.put_off_at o moment ks)
+pub rise_off : (moment : ℕ) (ks : List Known) (o : Option ℕ) → RiseFrom 0 ks → RiseFrom 0 (known.put_off_at o moment ks)
 rise_off moment ks None h = h
 rise_off moment ks (Some i) h = rise_set 0 ks i (record (get_or ks i known.nobody) { finish_at = moment }) known.nobody refl h
 
-rise_local : (ks : List Known) (o : Option ℕ) → RiseFrom 0 ks → RiseFrom 0 (known.local_gone_at o ks)
+pub rise_local : (ks : List Known) (o : Option ℕ) → RiseFrom 0 ks → RiseFrom 0 (known.local_gone_at o ks)
 rise_local ks None h = h
 rise_local ks (Some i) h = rise_set 0 ks i (record (get_or ks i known.nobody) { local = false }) known.nobody refl h
 
-rise_remote : (ks : List Known) (o : Option ℕ) → RiseFrom 0 ks → RiseFrom 0 (known.remote_gone_at o ks)
+pub rise_remote : (ks : List Known) (o : Option ℕ) → RiseFrom 0 ks → RiseFrom 0 (known.remote_gone_at o ks)
 rise_remote ks None h = h
 rise_remote ks (Some i) h = rise_set 0 ks i (record (get_or ks i known.nobody) { remote = false }) known.nobody refl h
 

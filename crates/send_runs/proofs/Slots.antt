@@ -32,24 +32,24 @@ use Rattle.send_jobs.specs.declared.slots.Slots.{Slots}
 use Rattle.send_jobs.specs.Lanes.{job_over, left_unmarked, mark_settled}
 use Rattle.send_jobs.specs.Sending.{at_lane, lane}
 use Rattle.send_known.specs.Messages.{learned}
-use Rattle.send_steps.specs.declared.reading.Progress.{Progress}
-use Rattle.send_steps.specs.declared.reading.Progress.TheVariants.{Goes, Whole, Missing, Failed}
-use Rattle.send_steps.specs.declared.reading.Reading.{Reading}
-use Rattle.send_steps.specs.declared.reply.Way.{Way}
-use Rattle.send_steps.specs.declared.reply.Way.TheVariants as way
-use Rattle.send_steps.specs.declared.rows.FinishRow.{FinishRow}
-use Rattle.send_steps.specs.declared.rows.FinishRow.TheVariants as finish
-use Rattle.send_steps.specs.declared.rows.Search.{Search}
-use Rattle.send_steps.specs.declared.rows.StartRow.{StartRow}
-use Rattle.send_steps.specs.declared.rows.StartRow.TheVariants as start
-use Rattle.send_steps.specs.declared.rows.SweepRow.{SweepRow}
-use Rattle.send_steps.specs.declared.rows.SweepRow.TheVariants as sweep
-use Rattle.send_steps.specs.Files.{message_number, records_of}
-use Rattle.send_steps.specs.Finish.{finish_to}
-use Rattle.send_steps.specs.Readings.{read_on}
-use Rattle.send_steps.specs.Replies.{Said, said}
-use Rattle.send_steps.specs.Rows.{is_again}
-use Rattle.send_steps.specs.Sweep.{sweep_to}
+use Rattle.send_parts.specs.declared.reading.Progress.{Progress}
+use Rattle.send_parts.specs.declared.reading.Progress.TheVariants.{Goes, Whole, Missing, Failed}
+use Rattle.send_parts.specs.declared.reading.Reading.{Reading}
+use Rattle.send_parts.specs.declared.reply.Way.{Way}
+use Rattle.send_parts.specs.declared.reply.Way.TheVariants as way
+use Rattle.send_parts.specs.declared.rows.FinishRow.{FinishRow}
+use Rattle.send_parts.specs.declared.rows.FinishRow.TheVariants as finish
+use Rattle.send_parts.specs.declared.rows.Search.{Search}
+use Rattle.send_parts.specs.declared.rows.StartRow.{StartRow}
+use Rattle.send_parts.specs.declared.rows.StartRow.TheVariants as start
+use Rattle.send_parts.specs.declared.rows.SweepRow.{SweepRow}
+use Rattle.send_parts.specs.declared.rows.SweepRow.TheVariants as sweep
+use Rattle.send_parts.specs.Files.{message_number, records_of}
+use Rattle.send_parts.specs.Finish.{finish_to}
+use Rattle.send_parts.specs.Readings.{read_on}
+use Rattle.send_parts.specs.Replies.{Said, said}
+use Rattle.send_parts.specs.Rows.{is_again}
+use Rattle.send_parts.specs.Sweep.{sweep_to}
 use Rattle.spawn_protocol.specs.declared.report.Report.{Report}
 use Rattle.spawn_protocol.specs.Report.{counted}
 use Rattle.todo_pass.specs.declared.row.Row.{Row as PassRow}

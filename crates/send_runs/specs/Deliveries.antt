@@ -19,6 +19,7 @@ use Rattle.send_jobs.specs.Sending.{lane}
 use Rattle.send_jobs.specs.Slots.{attempt_in}
 use Rattle.send_log.specs.Lines.{starting}
 use Rattle.send_runs.specs.Reports.{given_by}
+use Rattle.send_runs.specs.Status.{status_after}
 
 abbrev pub is_giving : Happening → Bool
 is_giving (Gives slot) = true
@@ -42,11 +43,12 @@ number_in c [] = λ slot. 0
 number_in c (event ∷ before) = numbered_by (given_by event.due event.came c) (requests_given (event ∷ before)) (number_in c before)
 
 -- What a sender counts is that; each attempt in flight has the number of the request that was given last for its slot; and the line of a request
--- that is given tells that number, and the message, the channel and the recipient of the record that comes next of those to be given.
+-- that is given tells that number, and the message, the channel and the recipient of the record that comes next of those to be given, and the status
+-- line follows it.
 pub record DeliveriesAreNumbered : Type 0 where
   pub counted : (turns : Option ℕ) (past : List Own) → IsRunBy (Next turns) past → (desk_after turns past).slots.given ≡ requests_given past
   pub numbered : (turns : Option ℕ) (past : List Own) → IsRunBy (Next turns) past → (c : Channel) (slot : ℕ) (a : Attempt)
       → attempt_in (lane c (desk_after turns past).slots).slots slot ≡ Some a → a.delivery ≡ number_in c past slot
   pub starts : (turns : Option ℕ) (past : List Own) (event : Own) → IsRunBy (Next turns) (event ∷ past) → (c : Channel) (slot : ℕ) → given_by event.due event.came c ≡ Gives slot
       → (t : Task) (rest : List Task) → (account c past).to_give ≡ t ∷ rest
-      → (status : List ℕ) × (lines_of (desk_after turns past) event ≡ starting (requests_given (event ∷ past)) t.n (channel_word c) t.address ++ status)
+      → lines_of (desk_after turns past) event ≡ starting (requests_given (event ∷ past)) t.n (channel_word c) t.address ++ status_after (event ∷ past)

@@ -1,13 +1,19 @@
 // Worked runs, as laws: contracts of functions that do nothing.
-ghost use Rattle.std.specs.Prelude.{◌≡◌, ◌∷◌, ◌++◌, [], None, true, false};
+ghost use Rattle.std.specs.Prelude.{◌≡◌, ◌∷◌, ◌++◌, [], None, Some, codes, take, true, false};
 ghost use Rattle.send_core.specs.Table.{begun};
 ghost use Rattle.send_jobs.specs.Bookings.Booking.{Reported};
-ghost use Rattle.send_jobs.specs.declared.channels.Channel.TheVariants.{Remote};
+ghost use Rattle.send_jobs.specs.declared.channels.Channel.TheVariants.{Local, Remote};
 ghost use Rattle.send_runs.specs.Deliveries.{DeliveriesAreNumbered, number_in, requests_given};
+ghost use Rattle.send_runs.specs.DueMoments.{DuesAreOfPast, begun_in, shift};
+ghost use Rattle.send_runs.specs.DueMoments.Shift.{Fails, Learns, Same};
+ghost use Rattle.send_runs.specs.Files.{FilesAreOfPast, has_in, there_in};
+ghost use Rattle.send_runs.specs.FinishMoments.{FinishesAreOfPast};
+ghost use Rattle.send_runs.specs.Knowing.{KnownExactly, known_in};
 ghost use Rattle.send_runs.specs.Known.{KnownAreOfPast};
 ghost use Rattle.send_runs.specs.Reports.{EntriesAreReports, EntriesWereReported, FlightsWereGiven, said_at};
+ghost use Rattle.send_runs.specs.ReportLines.{ReportsAreLogged, report_lines};
 ghost use Rattle.send_runs.specs.Rising.{KnownNumbersRise};
-ghost use Rattle.send_runs.specs.WorkedPasts.{deferred_0, delivered_0, failed_1, takes, two_given};
+ghost use Rattle.send_runs.specs.WorkedPasts.{answers, cleared_7, deferred_0, delivered_0, dropped_7, failed_1, found_7, given_8, left_7, looked_7, past_of, removed_7, stray_2, stray_line, success_line, takes, two_given, unopened_7};
 ghost use Rattle.send_runs.specs.Worked.{asks, logs, remote_log, deferred_log, remote_run, remote_dues, deferred_run, deferred_dues, restarted_run, restarted_dues, swept_run, swept_dues, faulted_run, faulted_dues};
 
 /// One message to a remote recipient, from the start until its number is free.
@@ -54,6 +60,31 @@ pub fn known_are_of_past()
     ensures { KnownAreOfPast }
 {}
 
+/// A sender knows exactly the messages that it met, in the scan of the start or in a todo pass, and whose finish hasn't ended since.
+pub fn known_exactly()
+    ensures { KnownExactly }
+{}
+
+/// Which channel files a known message has is told by the past: those that were there when it became known, as they were looked for or
+/// made, and weren't unlinked since when nothing of them was left to do. It is due on just the channels of these.
+pub fn files_are_of_past()
+    ensures { FilesAreOfPast }
+{}
+
+/// When a message is due on a channel is told by the past: found by the scan of the start at 0; at the moment of the `+` that ended its
+/// todo pass; 123 seconds after its channel file couldn't be opened, read or unlinked, or was read while an attempt at it was in flight;
+/// and once a pass of it began, never while that goes on, and when nothing of it is in flight or to be marked any more at the next
+/// retry, reckoned from its birth and from the moment at which that file was opened for the pass.
+pub fn dues_are_of_past()
+    ensures { DuesAreOfPast }
+{}
+
+/// From when a known message may be finished is told by the past: at once from when it becomes known, and 123 seconds after an event by
+/// which a finish of it failed; a todo pass that fails to unlink its info file is none.
+pub fn finishes_are_of_past()
+    ensures { FinishesAreOfPast }
+{}
+
 /// What a sender enters in its books of recipients that were delivered to or failed for good is just what the reports say that it takes: a
 /// final report of a slot says it of the record in flight there, by the past alone.
 pub fn entries_are_reports()
@@ -73,18 +104,27 @@ pub fn flights_were_given()
 {}
 
 /// The requests that were given are numbered from 1, those of both channels together; an attempt in flight has the number of the request
-/// that was given last for its slot; and the log's line of a request tells its number, its message, channel and recipient.
+/// that was given last for its slot; and the log's line of a request tells its number, its message, channel and recipient, and the
+/// status line follows it, with how many deliveries are in flight then and how many may be.
 pub fn deliveries_are_numbered()
     ensures { DeliveriesAreNumbered }
 {}
 
-/// What the reports say after two requests were given: in one taking, one after the other, and after a report of the same slot.
+/// What the log says of reports that are taken: of each one line, in their order, with the number that the request for its slot had, and how
+/// many deliveries are in flight then and how many may be, by the past alone.
+pub fn reports_are_logged()
+    ensures { ReportsAreLogged }
+{}
+
+/// What the reports say after two requests were given: in one taking, one after the other, and after a report of the same slot; and the
+/// lines of the first one and of one of a slot in which nothing is in flight.
 pub fn worked_reports()
     ensures delivered { said_at Remote two_given (takes delivered_0) ≡ Reported true Remote 7 0 ∷ [] }
     ensures deferred { said_at Remote two_given (takes deferred_0) ≡ [] }
     ensures both { said_at Remote two_given (takes (delivered_0 ++ failed_1)) ≡ Reported true Remote 7 0 ∷ (Reported false Remote 7 5 ∷ []) }
     ensures again { said_at Remote two_given (takes (deferred_0 ++ delivered_0)) ≡ [] }
     ensures later { said_at Remote (takes deferred_0 ∷ two_given) (takes delivered_0) ≡ [] }
+    ensures logged { report_lines Remote two_given (takes (delivered_0 ++ stray_2)) ≡ success_line ++ stray_line }
 {}
 
 /// The numbers of these deliveries.
@@ -92,4 +132,47 @@ pub fn worked_deliveries()
     ensures count { requests_given two_given ≡ 2 }
     ensures first { number_in Remote two_given 0 ≡ 1 }
     ensures second { number_in Remote two_given 1 ≡ 2 }
+{}
+
+/// What is known after a look of the scan, after a todo pass that was done or was left, and after a message was removed.
+pub fn worked_knowledge()
+    ensures found { known_in found_7 7 ≡ true }
+    ensures other { known_in found_7 8 ≡ false }
+    ensures passed { known_in (answers (codes "+") ∷ given_8) 8 ≡ true }
+    ensures unclean { known_in (answers (codes "!") ∷ given_8) 8 ≡ false }
+    ensures removed { known_in removed_7 7 ≡ false }
+    ensures stays { known_in removed_7 8 ≡ true }
+{}
+
+/// Which files are there and which a message has: after the looks of the scan, after a todo pass unlinked one, and after the sender did.
+pub fn worked_files()
+    ensures local { has_in Local 7 looked_7 ≡ true }
+    ensures remote { has_in Remote 7 looked_7 ≡ false }
+    ensures cleared { has_in Local 7 cleared_7 ≡ true }
+    ensures missing { there_in Local 7 cleared_7 ≡ false }
+    ensures unlinked { has_in Local 7 dropped_7 ≡ false }
+{}
+
+/// What the pasts of worked runs tell: a message that was tried twice, one that was found by the scan, and two of which calls failed.
+pub fn worked_pasts()
+    ensures tried { begun_in Remote 1 (past_of deferred_run deferred_dues []) ≡ Some 400 }
+    ensures removed { known_in (past_of deferred_run deferred_dues []) 1 ≡ false }
+    ensures given { requests_given (past_of deferred_run deferred_dues []) ≡ 3 }
+    ensures found { has_in Remote 1 (past_of (take 60 restarted_run) restarted_dues []) ≡ true }
+    ensures local { has_in Local 1 (past_of (take 60 restarted_run) restarted_dues []) ≡ false }
+    ensures unlinked { has_in Remote 1 (past_of restarted_run restarted_dues []) ≡ false }
+    ensures faulted { begun_in Remote 1 (past_of faulted_run faulted_dues []) ≡ Some 600 }
+    ensures other { begun_in Remote 3 (past_of faulted_run faulted_dues []) ≡ Some 0 }
+{}
+
+/// When passes began, and what single events are for a message: it is learnt and due, its channel file couldn't be opened, or couldn't be
+/// unlinked, by the sender or by a todo pass.
+pub fn worked_dues()
+    ensures began { begun_in Remote 7 two_given ≡ Some 0 }
+    ensures local { begun_in Local 7 two_given ≡ None }
+    ensures learnt { shift Local 8 given_8 (answers (codes "+")) ≡ Learns 0 }
+    ensures other { shift Local 7 given_8 (answers (codes "+")) ≡ Same }
+    ensures unopened { shift Remote 7 two_given unopened_7 ≡ Fails }
+    ensures left { shift Remote 7 two_given left_7 ≡ Fails }
+    ensures cleared { shift Remote 7 (left_7 ∷ two_given) left_7 ≡ Same }
 {}

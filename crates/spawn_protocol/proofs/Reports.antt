@@ -7,7 +7,7 @@ use Rattle.std.proofs.lemmas.Bool.{cases_lt, cases_eq, cond_both, eqb-true, eqb-
 use Rattle.std.proofs.lemmas.List.{append-nil, append_assoc, length_push, length-take, flat_map_more, map_push, take_all, take-append-le}
 use Rattle.std.proofs.lemmas.List.Elements.{All-push, All-nil, All-cons, All-take, All-map, All-weaker, recursion_from_All}
 use Rattle.spawn_protocol.specs.declared.report.Report.{Report}
-use Rattle.spawn_protocol.specs.Report.{report_text, IsReport, IsKept, kept_text, kept, Start, bytes_to, HasNoNul, IsText, Reader, reader_of, HasRead, eaten, given, more_text, read_on, step, Takes}
+use Rattle.spawn_protocol.specs.Report.{report_text, IsReport, IsKept, kept_text, kept, Start, bytes_to, HasPlainStart, IsText, Reader, reader_of, HasRead, eaten, given, more_text, read_on, step, Takes}
 use Rattle.spawn_protocol.specs.Report.Start.{NoByte, Numbered, Lettered}
 use Rattle.spawn_protocol.specs.Report.Reader.{AtBegin, AtLetter, InText}
 use Rattle.spawn_protocol.proofs.Runs.{run, run_quiet, run_some, run_one}
@@ -45,7 +45,7 @@ no_text = record {
   holds = refl;
 }
 
-goes : (bytes : List ℕ) (whole : List Report) (start next : Start) (b : ℕ) → IsText bytes whole start → bytes_to next ≡ bytes_to start ++ b ∷ [] → HasNoNul next → After bytes (map kept whole) b ([], reader_of next)
+goes : (bytes : List ℕ) (whole : List Report) (start next : Start) (b : ℕ) → IsText bytes whole start → bytes_to next ≡ bytes_to start ++ b ∷ [] → HasPlainStart next → After bytes (map kept whole) b ([], reader_of next)
 goes bytes whole start next b h e plain = record {
   whole = whole;
   start = next;
@@ -146,7 +146,7 @@ run_reports (r ∷ whole) more h =
     ∙ run_report r (flat_map report_text whole ++ more) h.0
     ∙ ap (With (kept r)) (run_reports whole more h.1)
 
-run_start : (start : Start) → HasNoNul start → run step AtBegin (bytes_to start) ≡ ([], reader_of start)
+run_start : (start : Start) → HasPlainStart start → run step AtBegin (bytes_to start) ≡ ([], reader_of start)
 run_start NoByte h = refl
 run_start (Numbered slot) h = refl
 run_start (Lettered slot letter text) h =

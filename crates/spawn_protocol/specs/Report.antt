@@ -4,6 +4,7 @@ use Rattle.std.specs.declared.alloc.AllocError.{AllocError}
 use Rattle.spawn_protocol.specs.declared.report.Report.{Report}
 use Rattle.spawn_protocol.specs.declared.report.Place.{Place}
 use Rattle.spawn_protocol.specs.declared.report.Place.TheVariants as place
+use Rattle.mail_bytes.specs.Texts.{HasNoNul}
 
 -- The delivery number, one byte; then a letter, the text and NUL. One without a letter, whose letter is 0, is its number
 -- and NUL. Byte 3, `Kok`, NUL says of delivery 3 that it was a success, with the text `ok`.
@@ -20,7 +21,7 @@ counted letter = if letter == 75 || letter == 68 then letter else 90
 
 -- a report as a spawner gives it: no byte of its text is NUL, and without a letter it has no text
 pub record IsReport (r : Report) : Type 0 where
-  pub plain : All (λ b. b ≢ 0) r.text
+  pub plain : HasNoNul r.text
   pub none : r.letter ≡ 0 → r.text ≡ []
 
 -- What a reader keeps of it: the number, the letter and 9,998 bytes of text. What goes past its 10,000th byte is dropped.
@@ -48,16 +49,16 @@ bytes_to (Numbered slot) = slot ∷ []
 bytes_to (Lettered slot letter text) = slot ∷ letter ∷ text
 
 -- its letter and text have no NUL
-abbrev pub HasNoNul : Start → Type 0
-HasNoNul NoByte = Unit {0}
-HasNoNul (Numbered slot) = Unit {0}
-HasNoNul (Lettered slot letter text) = (letter ≢ 0) × All (λ b. b ≢ 0) text
+abbrev pub HasPlainStart : Start → Type 0
+HasPlainStart NoByte = Unit {0}
+HasPlainStart (Numbered slot) = Unit {0}
+HasPlainStart (Lettered slot letter text) = (letter ≢ 0) × HasNoNul text
 
 -- the bytes are these reports, one after the other, and the start of one more
 pub record IsText (bytes : List ℕ) (whole : List Report) (start : Start) : Type 0 where
   pub text : bytes ≡ flat_map report_text whole ++ bytes_to start
   pub reports : All IsReport whole
-  pub begun : HasNoNul start
+  pub begun : HasPlainStart start
 
 -- The reader that takes one byte after the other
 

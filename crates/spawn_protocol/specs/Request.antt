@@ -5,6 +5,7 @@ use Rattle.spawn_protocol.specs.declared.request.CodecError.{CodecError}
 use Rattle.spawn_protocol.specs.declared.request.CodecError.TheVariants.{TooLong, Memory}
 use Rattle.spawn_protocol.specs.declared.request.Place.{Place}
 use Rattle.spawn_protocol.specs.declared.request.Place.TheVariants as place
+use Rattle.mail_bytes.specs.Texts.{HasNoNul}
 
 -- a field and its NUL
 abbrev pub field_text : List ℕ → List ℕ
@@ -18,7 +19,7 @@ request_text r = r.slot ∷ (field_text r.mess ++ (field_text r.sender ++ field_
 -- at most 4096 bytes, none of them NUL
 pub record IsField (field : List ℕ) : Type 0 where
   pub short : length field ≤ 4096
-  pub plain : All (λ b. b ≢ 0) field
+  pub plain : HasNoNul field
 
 -- a request that a reader can give
 pub record IsRequest (r : Request) : Type 0 where

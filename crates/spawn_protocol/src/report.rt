@@ -101,7 +101,7 @@ impl ReportReader {
         self.advance(alloc, byte)
     }
 
-    /// The same reader.
+    /// The same reader. The error: out of memory.
     pub fn copy(&self, alloc: Global) -> Result<Self, Memory>
         ensures { IfOk result (λ copy. copy ≡ self.now) }
     {

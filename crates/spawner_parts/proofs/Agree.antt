@@ -6,7 +6,8 @@ use Rattle.call_fs.specs.declared.past.NeedData.TheVariants as needs
 use Rattle.call_fs.specs.declared.past.Own.{Own}
 use Rattle.call_fs.specs.Program.{MayCome}
 use Rattle.spawner_parts.specs.declared.place.Place.{Place}
-use Rattle.spawner_parts.specs.Causes.{end_by, has_end, programs, programs_by, slot_of, taken, taken_by}
+use Rattle.spawner_parts.specs.Causes.{end_by, has_end, programs, programs_by, slot_of}
+use Rattle.call_fs.specs.Past.{taken, taken_by}
 use Rattle.spawner_parts.specs.Counts.{reported, reported_by}
 use Rattle.spawner_parts.specs.Known.{Counts, HearsIn, Tells}
 use Rattle.spawner_parts.specs.Table.{IsKind, Kind, act, begun, due_at, row_now}

@@ -35,11 +35,13 @@ use Rattle.spawner_parts.specs.declared.row.Row.{Row}
 use Rattle.spawner_parts.specs.declared.row.Row.TheVariants as at
 use Rattle.spawner_parts.specs.Asked.{is_bad, runs_in}
 use Rattle.spawner_parts.specs.Known.{At, AtWork, Counts, IsReport, Reads, Rests, Sums}
-use Rattle.spawner_parts.specs.Causes.{end_by, has_end, programs, programs_by, slot_of, taken, taken_by}
+use Rattle.spawner_parts.specs.Causes.{end_by, has_end, programs, programs_by, slot_of}
+use Rattle.call_fs.specs.Past.{taken, taken_by}
 use Rattle.spawner_parts.specs.Counts.{asked, one, reported, reported_by, runs, times, with_report}
 use Rattle.spawner_parts.specs.Table.{IsKind, IsReadied, Kind, act, arrive, bad_request, begun, closed, due_at, gave, heeded, is_asked, is_open, next_request, none_runs, opened_by, opens, read_by, ended_by, no_memory, printed, reports, resting, row_now, status_of, took, turning, unable, with_pulled}
 use Rattle.spawner_parts.specs.Table.IsReadied.{IsAnswered, IsGiven}
-use Rattle.spawner_parts.proofs.Coming.{by_fit, by_give, by_input, by_program, by_start}
+use Rattle.spawner_parts.proofs.Coming.{by_give, by_input, by_program, by_start}
+use Rattle.call_fs.proofs.Coming.{by_fit}
 use Rattle.spawner_parts.proofs.Tallies.{asked_push, finished, good_slot, none_at_first, read_both, started}
 
 abbrev flat : List Request → List ℕ

@@ -23,7 +23,7 @@ use Rattle.spawner_parts.specs.Asked.{is_bad}
 use Rattle.spawner_parts.specs.Known.{Carries, last_read, more_read, read_after}
 use Rattle.spawner_parts.specs.Table.{IsKind, IsReadied, Kind, act, bad_request, due_at, fed, gave, heeded, launched, next_request, opened_by, opens, printed, read_by, reports, row_now, took}
 use Rattle.spawner_parts.specs.Table.IsReadied.{IsAnswered, IsGiven}
-use Rattle.spawner_parts.proofs.Coming.{by_fit}
+use Rattle.call_fs.proofs.Coming.{by_fit}
 use Rattle.spawner_parts.proofs.Rows.{arrive_keeps}
 
 module _ (given : List ℕ → List ℕ) (read : List ℕ) where

@@ -1,30 +1,12 @@
--- What may come of what a spawner needs.
+-- What may come of the gives, takings and starts of a spawner.
 use Rattle.std.proofs.Common.{ℕ, List}
-use Rattle.call_fs.specs.declared.calls.CallData.{CallData}
-use Rattle.call_fs.specs.declared.calls.Told.{Told}
 use Rattle.call_fs.specs.declared.past.GotData.{GotData}
 use Rattle.call_fs.specs.declared.past.GotData.TheVariants as came
 use Rattle.call_fs.specs.declared.past.ChildData.{ChildData}
 use Rattle.call_fs.specs.declared.past.NeedData.TheVariants as needs
-use Rattle.call_fs.specs.declared.past.NeedData.TheVariants.{File}
 use Rattle.call_fs.specs.declared.program.Port.{Port}
 use Rattle.call_fs.specs.declared.program.Port.TheVariants as port
-use Rattle.call_fs.specs.Columns.{IsAnswerTo}
 use Rattle.call_fs.specs.Program.{MayCome}
-
--- of a file call only an answer to it
-pub by_fit : (c : CallData) (P : GotData → Type 0) (got : GotData) → MayCome (File c) got → ((told : Told) → IsAnswerTo c told.answer → P (came.Answered told)) → P got
-by_fit c P (came.Answered told) may f = f told may
-by_fit c P (came.Took bytes) may f = absurd may
-by_fit c P came.End may f = absurd may
-by_fit c P (came.Ended status) may f = absurd may
-by_fit c P came.Crashed may f = absurd may
-by_fit c P came.Gave may f = absurd may
-by_fit c P (came.Started pid) may f = absurd may
-by_fit c P came.Failed may f = absurd may
-by_fit c P came.Memory may f = absurd may
-
--- What may come of gives, takings and starts
 
 pub by_give : (to : Port) (bytes : List ℕ) (P : GotData → Type 0) → P came.Gave → P came.Failed → (got : GotData) → MayCome (needs.Give to bytes) got → P got
 by_give to bytes P well ill came.Gave may = well

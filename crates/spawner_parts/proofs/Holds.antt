@@ -28,7 +28,7 @@ use Rattle.spawner_parts.specs.Asked.{is_bad, runs_in}
 use Rattle.spawner_parts.specs.Table.{IsKind, IsReadied, Kind, act, arrive, closed, due_at, ended_by, gave, heeded, is_asked, launched, next_request, none_runs, opened_by, opens, printed, read_by, reports, resting, row_now, took, turning, bad_request}
 use Rattle.spawner_parts.specs.Table.IsReadied.{IsAnswered, IsGiven}
 use Rattle.spawner_parts.specs.Known.{HoldsRow}
-use Rattle.spawner_parts.proofs.Coming.{by_fit}
+use Rattle.call_fs.proofs.Coming.{by_fit}
 
 some_held : (o : Option Mode) (mode : Mode) → o ≡ Some mode → IsSome o
 some_held o mode e = ap is_some e

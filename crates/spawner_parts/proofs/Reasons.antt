@@ -27,12 +27,14 @@ use Rattle.spawner_parts.specs.declared.row.Row.{Row}
 use Rattle.spawner_parts.specs.declared.row.Row.TheVariants as at
 use Rattle.spawner_parts.specs.Asked.{is_bad, runs_in}
 use Rattle.spawner_parts.specs.Known.{Heard, Hears, HearsIn, Kept, Knows}
-use Rattle.spawner_parts.specs.Causes.{slot_of, EndsWith, IsEnded, end_by, has_end, programs, programs_by, taken, taken_by}
+use Rattle.spawner_parts.specs.Causes.{slot_of, EndsWith, IsEnded, end_by, has_end, programs, programs_by}
+use Rattle.call_fs.specs.Past.{taken, taken_by}
 use Rattle.spawner_parts.specs.Table.IsReadied.{IsAnswered, IsGiven}
 use Rattle.spawner_parts.specs.Causes.EndsWith.{GiveFailed, RequestsFailed, ProgramFailed}
 use Rattle.spawner_parts.specs.Causes.IsOver.{RequestsEnded, FieldTooLong}
 use Rattle.spawner_parts.specs.Table.{IsKind, IsReadied, Kind, act, arrive, bad_request, begun, closed, due_at, ended_by, gave, heeded, is_asked, is_open, next_request, none_runs, opened_by, opens, read_by, reports, resting, row_now, took, turning}
-use Rattle.spawner_parts.proofs.Coming.{by_fit, by_give, by_input, by_program, by_start}
+use Rattle.spawner_parts.proofs.Coming.{by_give, by_input, by_program, by_start}
+use Rattle.call_fs.proofs.Coming.{by_fit}
 use Rattle.spawner_parts.proofs.Hears.{more_heard, pull_hears}
 
 -- What is known after an event

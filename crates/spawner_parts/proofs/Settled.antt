@@ -21,7 +21,8 @@ use Rattle.spawner_parts.specs.declared.row.Row.{Row}
 use Rattle.spawner_parts.specs.declared.row.Row.TheVariants as at
 use Rattle.spawner_parts.specs.Asked.{is_bad, runs_in}
 use Rattle.spawner_parts.specs.Known.{At, AtWork, Counts, Kept, Reads, Rests, Tells}
-use Rattle.spawner_parts.specs.Causes.{slot_of, IsOver, has_end, programs, taken}
+use Rattle.spawner_parts.specs.Causes.{slot_of, IsOver, has_end, programs}
+use Rattle.call_fs.specs.Past.{taken}
 use Rattle.spawner_parts.specs.Causes.IsOver.{RequestsEnded, FieldTooLong}
 use Rattle.spawner_parts.specs.Counts.{IsAtRest, IsSettled, IsStart, asked, dealt_with, one, reported, runs, times}
 use Rattle.spawner_parts.specs.Table.{any_runs, arrive, due_at, ended_by, is_asked, is_open, none_runs, resting, row_now, turning}

@@ -1,5 +1,5 @@
 -- Why a spawner has ended, by its past alone; what happens in its start counts for nothing here.
-use Rattle.std.specs.Prelude.{◌≡◌, ◌⊎◌, ℕ, List, [], ◌∷◌, ◌++◌, replicate, set, Bool, true, false}
+use Rattle.std.specs.Prelude.{◌≡◌, ◌⊎◌, ℕ, List, [], ◌∷◌, replicate, set, Bool, true, false}
 use Rattle.call_fs.specs.declared.past.ChildData.{ChildData}
 use Rattle.call_fs.specs.declared.past.ChildData.TheVariants as child
 use Rattle.call_fs.specs.declared.past.GotData.{GotData}
@@ -13,16 +13,7 @@ use Rattle.spawn_protocol.specs.Request.{IsTooLong}
 use Rattle.spawn_protocol.specs.declared.request.Request.{Request}
 use Rattle.spawner_parts.specs.declared.place.TheConstants.{SLOTS}
 use Rattle.spawner_parts.specs.Table.{none_runs}
-
--- the bytes of all its requests, after one event
-abbrev pub taken_by : List ℕ → NeedData → GotData → List ℕ
-taken_by old (needs.Take port.Input) (came.Took bytes) = old ++ bytes
-taken_by old due got = old
-
--- the bytes of all its requests
-abbrev pub taken : List Own → List ℕ
-taken [] = []
-taken (event ∷ before) = taken_by (taken before) event.due event.came
+use Rattle.call_fs.specs.Past.{taken}
 
 abbrev pub end_by : Bool → NeedData → GotData → Bool
 end_by old (needs.Take port.Input) came.End = true

@@ -10,7 +10,8 @@ use Rattle.call_fs.specs.declared.program.Port.TheVariants as port
 use Rattle.spawn_protocol.specs.Request.{HasRead, Reader}
 use Rattle.spawn_protocol.specs.declared.request.Request.{Request}
 use Rattle.spawner_parts.specs.Asked.{is_bad, runs_in}
-use Rattle.spawner_parts.specs.Causes.{IsFailed, programs, slot_of, taken}
+use Rattle.spawner_parts.specs.Causes.{IsFailed, programs, slot_of}
+use Rattle.call_fs.specs.Past.{taken}
 
 -- a report begins with its slot; the one byte that is given first is none
 abbrev pub with_report : List ℕ → List ℕ → List ℕ

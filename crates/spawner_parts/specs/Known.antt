@@ -11,7 +11,7 @@ use Rattle.call_fs.specs.declared.past.GotData.TheVariants as came
 use Rattle.call_fs.specs.declared.past.NeedData.{NeedData}
 use Rattle.call_fs.specs.declared.past.NeedData.TheVariants as needs
 use Rattle.call_fs.specs.declared.past.Own.{Own}
-use Rattle.call_fs.specs.Past.{held}
+use Rattle.call_fs.specs.Past.{held, taken}
 use Rattle.spawn_protocol.specs.Cut.{cut}
 use Rattle.spawn_protocol.specs.Cut.Cut.{More}
 use Rattle.spawn_protocol.specs.Report.{numbered}
@@ -25,7 +25,7 @@ use Rattle.spawner_parts.specs.declared.place.TheConstants.{SLOTS}
 use Rattle.spawner_parts.specs.declared.row.Row.{Row}
 use Rattle.spawner_parts.specs.declared.row.Row.TheVariants as at
 use Rattle.spawner_parts.specs.Asked.{is_bad, runs_in}
-use Rattle.spawner_parts.specs.Causes.{IsFailed, has_end, programs, taken}
+use Rattle.spawner_parts.specs.Causes.{IsFailed, has_end, programs}
 use Rattle.spawner_parts.specs.Counts.{asked, reported, runs, times}
 
 -- Why it has ended

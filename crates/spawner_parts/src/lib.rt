@@ -11,6 +11,19 @@
 //! which programs run, how many requests have their report, and what it holds open. `pasts_have_causes` and
 //! `pasts_have_reports` are what comes of that. `programs_are_given_messages` says that a program is given the message as it was
 //! read.
+//!
+//! # What is claimed
+//!
+//! - What both spawners do: which requests are bad, the order of their turns, and where what came at each row
+//!   leads, each an equation with the definition of its name (`specs/Asked.antt`, `specs/Table.antt`). An address
+//!   is what comes before its last `@`, the `@`, and its host: `is_bad`, `host_of`, `domain_of`, `runs_in`,
+//!   `row_now`, `need_at`, `gave`, `took`, `opened`, `read_on`, `launched`, `fed`, `printed`, `exited`, ..; the law
+//!   `hosts_are_exact`.
+//! - A place that follows that table agrees with the past, whatever a spawner does in its own way (`Kind`), if its
+//!   programs run in the slots of their requests. The past tells why it has ended, which programs run, how many
+//!   requests have their report, what it holds open, and which message a program is given. The laws:
+//!   `places_tell_the_past`, `pasts_have_causes`, `pasts_have_reports`, `programs_are_given_messages`, by `Tells`
+//!   and `Carries` (`specs/Known.antt`).
 #![tactic(auto)]
 
 mod asked;

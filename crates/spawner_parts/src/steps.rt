@@ -32,7 +32,7 @@ fn reports(place: &mut Place, alloc: Global, report: &[u8], slot: u8) -> Result<
     Ok(())
 }
 
-/// The report of the request at work is due.
+/// The report of the request at work is due. The error: out of memory.
 pub fn answers(place: &mut Place, alloc: Global, report: &[u8]) -> Result<(), Memory>
     ensures ok { OnOk result (place.new ≡ answers report.now place.old) }
     ensures err { OnErr result (place.new ≡ place.old) }
@@ -90,7 +90,7 @@ fn heed_one(place: &mut Place, alloc: Global, request: Request) -> Result<(), Me
     Ok(())
 }
 
-/// After a give to the output.
+/// After a give to the output. The error: out of memory.
 pub fn gave(place: &mut Place, alloc: Global, got: &Got<'_>) -> Result<(), Memory>
     ensures ok { OnOk result (place.new ≡ gave (came_of got.now) place.old) }
     ensures err { OnErr result (place.new ≡ place.old) }
@@ -104,7 +104,7 @@ pub fn gave(place: &mut Place, alloc: Global, got: &Got<'_>) -> Result<(), Memor
     }
 }
 
-/// After a taking of requests.
+/// After a taking of requests. The error: out of memory.
 pub fn took(place: &mut Place, alloc: Global, got: &Got<'_>) -> Result<(), Memory>
     ensures ok { OnOk result (place.new ≡ took (came_of got.now) place.old) }
     ensures err { OnErr result (place.new ≡ place.old) }
@@ -123,7 +123,7 @@ pub fn took(place: &mut Place, alloc: Global, got: &Got<'_>) -> Result<(), Memor
     Ok(())
 }
 
-/// After the open of the message's file.
+/// After the open of the message's file. The error: out of memory.
 pub fn opened(place: &mut Place, alloc: Global, got: &Got<'_>) -> Result<(), Memory>
     ensures ok { OnOk result (place.new ≡ opened (came_of got.now) place.old) }
     ensures err { OnErr result (place.new ≡ place.old) }
@@ -149,7 +149,7 @@ fn opened_by(place: &mut Place, alloc: Global, told: &Answer) -> Result<(), Memo
     }
 }
 
-/// After a read of it.
+/// After a read of it. The error: out of memory.
 pub fn read_on(place: &mut Place, fd: Fd, got: &Got<'_>) -> Result<(), Memory>
     ensures ok { OnOk result (place.new ≡ read_on fd (came_of got.now) place.old) }
     ensures err { OnErr result (place.new ≡ place.old) }
@@ -225,7 +225,7 @@ pub fn fed(place: &mut Place, alloc: Global) -> Result<(), Memory>
     Ok(())
 }
 
-/// After a taking of what a program printed.
+/// After a taking of what a program printed. The error: out of memory.
 pub fn printed(place: &mut Place, slot: u8, got: &Got<'_>) -> Result<(), Memory>
     ensures ok { OnOk result (place.new ≡ printed slot (came_of got.now) place.old) }
     ensures err { OnErr result (place.new ≡ place.old) }
@@ -241,7 +241,7 @@ pub fn printed(place: &mut Place, slot: u8, got: &Got<'_>) -> Result<(), Memory>
     Ok(())
 }
 
-/// After the taking of a program's status, by which this report is due.
+/// After the taking of a program's status, by which this report is due. The error: out of memory.
 pub fn exited(place: &mut Place, alloc: Global, slot: u8, report: &[u8]) -> Result<(), Memory>
     ensures ok { OnOk result (place.new ≡ exited slot report.now place.old) }
     ensures err { OnErr result (place.new ≡ place.old) }

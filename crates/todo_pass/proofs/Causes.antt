@@ -30,7 +30,7 @@ use Rattle.todo_pass.specs.Sorting.{sort_todo, text_of, has}
 use Rattle.todo_pass.specs.Table.{Pass, clear_row, stated, open_row, read, sorted_with, create_row, appended, sync_row, made_row, local_row, remote_row, give_row, answer_row, moved_at, due_at, passed, piece, why_of}
 use Rattle.todo_pass.specs.Causes.{HasStep, part_at, IsNamed, IsCause, LosesLink}
 use Rattle.todo_pass.specs.Run.{IsRun}
-use Rattle.todo_pass.proofs.Coming.{by_fit}
+use Rattle.call_fs.proofs.Coming.{by_fit}
 use Rattle.todo_pass.proofs.Todos.{sorted_bad}
 
 -- a row that a failure led to has its cause here

@@ -3,7 +3,7 @@ use Rattle.std.proofs.Common.{◌≡◌, ◌≢◌, ℕ, ◌+◌, ◌≤◌, ◌
 use Rattle.std.proofs.lemmas.List.{length-take-le}
 use Rattle.call_fs.specs.declared.calls.Fd.{Fd}
 use Rattle.call_fs.specs.Apply.{changed, grown, synced, with_new, with_name, without_open, with_open}
-use Rattle.call_fs.specs.Disk.{File, Open as OpenFile, Disk, IsSynced}
+use Rattle.call_fs.specs.Disk.{File, Open as OpenFile, Disk, IsSynced, IsWhole}
 use Rattle.call_fs.specs.declared.modes.Mode.{Mode}
 use Rattle.call_fs.proofs.Maps.{put_same, put_other, put_at_same, put_at_other}
 use Rattle.queue_paths.specs.Names.{Name}
@@ -14,7 +14,7 @@ use Rattle.todo_pass.specs.declared.part.Part.{Part}
 use Rattle.todo_pass.specs.declared.part.Part.TheVariants as part
 use Rattle.todo_pass.specs.declared.part.Target.{Target}
 use Rattle.todo_pass.specs.Parts.{part_of, name_in, path_in}
-use Rattle.todo_pass.specs.Disks.{SameAt, IsThere}
+use Rattle.todo_pass.specs.Disks.{SameAt}
 
 -- Two parts of a message have two names.
 
@@ -123,7 +123,7 @@ synced_is : (f : File) (text : List ℕ) → f.bytes ≡ text → IsSynced (sync
 synced_is f text e = subst (IsSynced (synced f)) e (record { holds = refl; all = refl; none_given = refl; no_shorter = refl; no_longer = refl })
 
 pub there_synced : (n : ℕ) (t : Target) (fd : Fd) (text : List ℕ) (d : Disk) (w : Writing n t fd text d)
-    → IsThere (changed d (Some (open_of w.number)) synced) (path_in (part_of t) n) text
+    → IsWhole (changed d (Some (open_of w.number)) synced) (path_in (part_of t) n) text
 there_synced n t fd text d w =
     (w.number, w.named, subst (λ f. IsSynced f text) (sym (put_same d.files w.number (synced (d.files w.number)))) (synced_is (d.files w.number) text w.holds))
 

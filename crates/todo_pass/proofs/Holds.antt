@@ -29,7 +29,7 @@ use Rattle.todo_pass.specs.Parts.{part_of, path_in}
 use Rattle.todo_pass.specs.Sorting.{sort_todo, text_of, has}
 use Rattle.todo_pass.specs.Table.{Pass, cleared, clear_row, stated, open_row, read, sorted_with, create_row, appended, sync_row, made_row, local_row, remote_row, give_row, answer_row, moved_at, due_at, passed, piece}
 use Rattle.todo_pass.specs.Run.{IsRun}
-use Rattle.todo_pass.proofs.Coming.{by_fit}
+use Rattle.call_fs.proofs.Coming.{by_fit}
 
 -- what a row holds open
 abbrev pub HoldsRow : (ℕ → Option Mode) → Row → Type 0

@@ -1,7 +1,5 @@
 -- records that are read byte by byte
 pub mod Records
--- what may come of a need
-pub mod Coming
 -- the files of a message on a disk
 pub mod Files
 -- what stands on a disk at each row

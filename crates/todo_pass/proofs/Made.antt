@@ -33,7 +33,7 @@ use Rattle.todo_pass.specs.Sorting.{sort_todo, text_of, has}
 use Rattle.todo_pass.specs.Table.{Pass, goes, cleared, clear_row, stated, open_row, read, read_row, sorted_with, create_row, next_piece, appended, sync_row, made_row, local_row, remote_row, give_row, answer_row, moved_at, due_at, passed, piece}
 use Rattle.todo_pass.specs.Disks.{SameAt, LeaveAlone, LeadsTo, HoldsWhatWasRead}
 use Rattle.todo_pass.specs.Run.{IsRun}
-use Rattle.todo_pass.proofs.Coming.{by_answer}
+use Rattle.call_fs.proofs.Coming.{by_answer}
 use Rattle.todo_pass.proofs.Files.{Writing, same_unnamed, same_new, same_changed, same_closed, writing_new, writing_grown, changed_at, open_of, there_synced, read_more}
 use Rattle.todo_pass.proofs.Stages.{Status, Is, made_status, channel_status, with_status, clear_status, HasMess, Rests, Says, Needed, channel_settled, rests_left, rests_shut, rests_lost, is_kept, mess_kept, holds_kept, with_kept, its_own, stays}
 use Rattle.todo_pass.proofs.Stages.Status.{Gone, Begun, Ready}

@@ -4,7 +4,7 @@ use Rattle.std.specs.Prelude.{Ok}
 use Rattle.address_rules.specs.declared.controls.Controls.{Controls}
 use Rattle.call_fs.specs.declared.calls.Fd.{Fd}
 use Rattle.call_fs.specs.declared.calls.How.TheVariants as how
-use Rattle.call_fs.specs.Disk.{File, Disk, IsSynced}
+use Rattle.call_fs.specs.Disk.{File, Disk, IsSynced, IsWhole}
 use Rattle.call_fs.specs.declared.modes.Mode.{Mode}
 use Rattle.todo_pass.specs.declared.part.Part.{Part}
 use Rattle.todo_pass.specs.declared.part.Part.TheVariants as part
@@ -17,7 +17,7 @@ use Rattle.todo_pass.specs.declared.sorted.Sorted.{Sorted}
 use Rattle.todo_pass.specs.Parts.{part_of, path_in}
 use Rattle.todo_pass.specs.Sorting.{sort_todo, text_of, has}
 use Rattle.todo_pass.specs.Table.{Pass}
-use Rattle.todo_pass.specs.Disks.{SameAt, LeaveAlone, HoldsTodo, IsThere, HoldsWhatWasRead}
+use Rattle.todo_pass.specs.Disks.{SameAt, LeaveAlone, HoldsTodo, HoldsWhatWasRead}
 use Rattle.todo_pass.proofs.Files.{Writing, writing_kept}
 
 -- what is known of a file that a pass makes: nothing, that it isn't there, that it is being written, or that it is complete
@@ -31,7 +31,7 @@ abbrev pub Is : Status → ℕ → Target → List ℕ → Disk → Type 0
 Is Unknown n t text d = Unit {0}
 Is Gone n t text d = d.names (path_in (part_of t) n) ≡ None
 Is (Begun fd written) n t text d = Writing n t fd written d
-Is Ready n t text d = IsThere d (path_in (part_of t) n) text
+Is Ready n t text d = IsWhole d (path_in (part_of t) n) text
 
 -- a channel without recipients has no file
 abbrev pub channel_status : Bool → Status

@@ -3,7 +3,7 @@ use Rattle.std.specs.Prelude.{◌≡◌, ℕ, List, [], ◌∷◌, length, Optio
 use Rattle.address_rules.specs.declared.controls.Controls.{Controls}
 use Rattle.call_fs.specs.declared.calls.Fd.{Fd}
 use Rattle.call_fs.specs.declared.past.Own.{Own}
-use Rattle.call_fs.specs.Disk.{Disk, IsSynced}
+use Rattle.call_fs.specs.Disk.{Disk, IsWhole}
 use Rattle.call_fs.specs.Past.{Makes}
 use Rattle.todo_pass.specs.declared.part.Part.{Part}
 use Rattle.todo_pass.specs.declared.part.Part.TheVariants as part
@@ -56,18 +56,14 @@ LeadsTo controls n first (event ∷ before) last =
 
 -- What stands at the end
 
--- a name is there, and its file holds just this text, all of it on the disk
-abbrev pub IsThere : Disk → List ℕ → List ℕ → Type 0
-IsThere d name text = (k : ℕ) × (d.names name ≡ Some k) × IsSynced (d.files k) text
-
--- so of a channel that has recipients; one without has no file
+-- the file of a channel that has recipients is whole; one without has none
 abbrev pub IsMade : Disk → List ℕ → List ℕ → Type 0
 IsMade d name [] = d.names name ≡ None
-IsMade d name (b ∷ text) = IsThere d name (b ∷ text)
+IsMade d name (b ∷ text) = IsWhole d name (b ∷ text)
 
 -- The files of a pass are complete, and all of them on the disk; the message is there, as long as its stat told.
 pub record IsComplete (n : ℕ) (p : Pass) (d : Disk) : Type 0 where
-  pub info : IsThere d (path_in part.Info n) p.sorted.info
+  pub info : IsWhole d (path_in part.Info n) p.sorted.info
   pub local : IsMade d (path_in part.Local n) p.sorted.local
   pub remote : IsMade d (path_in part.Remote n) p.sorted.remote
   pub mess : (k : ℕ) × (d.names (path_in part.Mess n) ≡ Some k) × (length (d.files k).bytes ≡ p.size)

@@ -3,15 +3,9 @@
 use crate::End;
 use crate::pass::Pass;
 use address_rules::Controls;
-use call_fs::{Got, Machine, Need, Ready};
+use call_fs::{Got, Machine, Need, Ready, UNREADY};
 use mail_bytes::Memory;
 use std::alloc::Global;
-
-/// Nothing is ready.
-const UNREADY: Ready = Ready {
-    links: [false; 4],
-    child: None,
-};
 
 /// The preprocessing of one message as a machine (qmail-send(8); INTERNALS, "How messages are preprocessed"): it unlinks
 /// what an earlier pass left, reads the todo file, makes the info file and the channel files, and has the cleaner remove

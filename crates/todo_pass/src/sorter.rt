@@ -53,6 +53,7 @@ impl Sorter {
     }
 
     /// What the records say, which end here, as the whole text does after so many bytes.
+    /// `BadRecord` exactly if the last one isn't whole.
     pub fn finish(self, len: usize) -> Result<Sorted, TodoError>
         ensures ok { (controls : ControlsOf) (head : HeadOf) (read : List ℕ) → Sorts controls head read self
             → IfOk result (λ sorted. sorted_by controls (envelope_by head len (read_envelope read)) ≡ Ok sorted) }

@@ -2,3 +2,5 @@
 pub mod Recipients
 -- a map whose keys are texts
 pub mod Index
+-- lists of open descriptors
+pub mod Descriptors

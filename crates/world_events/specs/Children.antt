@@ -3,7 +3,7 @@ use Rattle.std.specs.Prelude.{ℕ, ◌+◌, List, Bool, true, false, Option, Som
 use Rattle.actor_names.specs.ChildNames.{bounce_name, delivery_name, forward_of}
 use Rattle.call_fs.specs.declared.past.ChildData.{ChildData}
 use Rattle.call_fs.specs.declared.past.ChildData.TheVariants as child
-use Rattle.local_steps.specs.Arguments.{local_args}
+use Rattle.local_parts.specs.Arguments.{local_args}
 use Rattle.received_line.specs.declared.line.Invoked.{Invoked}
 use Rattle.received_line.specs.declared.line.Invoked.TheVariants as invoking
 use Rattle.world_events.specs.Inputs.{bounce, forward}
@@ -52,7 +52,7 @@ child_of before a (child.Forward uid room) pid start = Some (forward_of a, Injec
 child_of before a (child.Local slot words uid) pid start = Some (delivery_name (before.deliveries + 1), Delivery start (local_args words uid pid))
 child_of before a (child.Remote slot domain sender recipient) pid start = None
 
--- so many were started, when this child will have been
+-- the counts after this start
 abbrev pub counts_with : Counts → ChildData → Counts
 counts_with before (child.Bounce room) = counted (before.bounces + 1) before.deliveries
 counts_with before (child.Local slot words uid) = counted before.bounces (before.deliveries + 1)

@@ -18,3 +18,5 @@ pub mod Starts
 pub mod Inputs
 -- the children that actors start, and how many there are
 pub mod Children
+-- what an actor has open
+pub mod Opened

@@ -6,7 +6,7 @@ use call_fs::{CallData, Child, ChildData, DeliveryWords, DeliveryWordsData, Need
 use mail_bytes::{ByteText, Memory};
 use std::alloc::Global;
 
-/// What is asked for.
+/// What is asked for. The error: out of memory.
 pub fn need_data(alloc: Global, need: Need<'_>) -> Result<NeedData, Memory>
     ensures { IfOk result (λ due. due ≡ due_of need.entry) }
 {

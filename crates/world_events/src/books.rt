@@ -151,7 +151,7 @@ impl Books {
         self.entries.as_slice()
     }
 
-    /// Makes room for one entry more.
+    /// Makes room for one entry more. The error: out of memory.
     pub fn make_room(&mut self) -> Result<(), Memory>
         ensures same { entries_of self.new ≡ entries_of self.old }
         ensures room { OnOk result (HasPlace self.new) }

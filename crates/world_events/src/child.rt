@@ -6,7 +6,7 @@ use crate::Program;
 use crate::mail::unfed;
 use actor_names::{ActorName, bounce_name, delivery_name, forward_of};
 use call_fs::ChildData;
-use local_steps::LocalArgs;
+use local_parts::LocalArgs;
 use mail_bytes::Memory;
 use received_line::Invoked;
 use std::alloc::Global;
@@ -20,7 +20,7 @@ pub struct Born {
     pub program: Program,
 }
 
-/// How many bounces and deliveries were started, when this child will have been, if so many were before. The condition: a u64 counts them.
+/// The counts of bounces and deliveries after this start, from those before it. The condition: a u64 counts them.
 pub fn counts_with(bounces: u64, deliveries: u64, asked: &ChildData) -> (u64, u64)
     requires bounces { bounces < 2 ^ 64 - 1 }
     requires deliveries { deliveries < 2 ^ 64 - 1 }
@@ -34,7 +34,7 @@ pub fn counts_with(bounces: u64, deliveries: u64, asked: &ChildData) -> (u64, u6
 }
 
 /// The child that this actor starts, with this process number, at this moment, if there are so many bounces and deliveries with it. The
-/// condition: it is an actor.
+/// condition: it is an actor. The error: out of memory.
 pub fn child_of(
     alloc: Global,
     parent: &ActorName,

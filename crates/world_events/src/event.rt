@@ -4,7 +4,7 @@ ghost use Rattle.world_events.specs.Starting.{starts_in, starts_program};
 
 use actor_names::ActorName;
 use call_fs::{GotData, NeedData, Own, Ready, Survival};
-use local_steps::LocalArgs;
+use local_parts::LocalArgs;
 use mail_bytes::{ByteText, Memory};
 use queue_inject::Arguments;
 use std::alloc::Global;
@@ -198,7 +198,7 @@ impl History {
         &self.events[self.events.len() - 1]
     }
 
-    /// Makes room for this many events. The room that it has stays.
+    /// Makes room for this many events. The room that it has stays. The error: out of memory.
     pub fn reserve(&mut self, events: usize) -> Result<(), Memory>
         ensures same { events_of self.new ≡ events_of self.old }
         ensures room { OnOk result (HasRoom self.new events) }

@@ -2,12 +2,34 @@
 //! started, and which children actors start.
 //!
 //! The books are a function of the events, `books_of` in `specs/Books.antt`.
+//!
+//! An event leaves something with its actor: what it has open after its call, and what came, as its machine is handed it. A list of descriptors is kept by the calls and their answers. When an actor is over, each is closed, and the disk is as it was
+//! without them (`specs/Opened.antt`).
+//!
+//! # What is claimed
+//!
+//! - A history holds the events that were put there, in order. The books are a function of the events, one entry
+//!   for each injector's mail, also for that of a bounce or of a forward, whose recipients are known once it is
+//!   given its envelope. Contracts: `History`: `events_of`; `Books::{add, enter, feed, note, cut_off}`, by
+//!   `new_entry`, `fed_entry`, `noted`, `cut_off`.
+//! - What an event keeps of its own: what a machine asked for, the bytes that a read brought, what a mail's
+//!   injector is started with. How many programs an event starts; where each actor stands that is no member, by its
+//!   name. Who started, in order, and whether it has started again; which child comes of a start, with which name
+//!   and program. Contracts: `need_data`; `room_to_read`, `kept_read` (by `most_read`, `HasFew`, `bytes_read`);
+//!   `mail_of` (by `mail`); `started_by` (by `starts_in`); `Places` (by `place_of`); `Starts` (by `place_at`);
+//!   `child_of`, `counts_with`.
+//! - What an actor has open after an event: also what its call opened, and not what it closed. When it is over,
+//!   each of these is closed, and of a disk that tells nothing else has changed. What came of an event, as a
+//!   machine is handed it: `keep_open` (by `opened_by`), `close_all` (by `AreOpen` and `shut`), `got_of` (by
+//!   `came_of`).
 #![tactic(auto)]
 
 mod asked;
 mod books;
 mod child;
 mod event;
+mod handed;
+mod keeping;
 mod mail;
 mod places;
 mod reads;
@@ -17,6 +39,8 @@ pub use asked::need_data;
 pub use books::{Books, Entry, Life, number_by};
 pub use child::{Born, child_of, counts_with};
 pub use event::{Event, History, Program, started_by};
+pub use handed::got_of;
+pub use keeping::{close_all, keep_open};
 pub use mail::{MAIL_USER, mail_of, unfed};
 pub use places::Places;
 pub use reads::{kept_read, room_to_read};

@@ -11,7 +11,7 @@ use std::alloc::Global;
 /// The user whose mails a script starts.
 pub const MAIL_USER: u32 = 1000;
 
-/// What the injector of a mail is started with.
+/// What the injector of a mail is started with. The error: out of memory.
 pub fn mail_of(
     alloc: Global,
     pid: u32,

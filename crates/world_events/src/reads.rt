@@ -1,20 +1,20 @@
 // The bytes of a read, kept in room that was taken before the call.
 ghost use Rattle.std.specs.Prelude.{◌≡◌, [], IfOk, vec_len, vec_capacity};
-ghost use Rattle.call_fs.specs.Calls.{bytes_read};
+ghost use Rattle.call_fs.specs.Calls.{bytes_read, data_of};
 ghost use Rattle.world_events.specs.Reads.{most_read, HasFew};
 
-use call_fs::{Answer, CallData, PIECE};
+use call_fs::{Answer, Call, PIECE};
 use mail_bytes::{ByteText, Memory};
 use std::alloc::Global;
 
-/// Room for the bytes that a call may read.
-pub fn room_to_read(alloc: Global, call: &CallData) -> Result<Vec<u8>, Memory>
+/// Room for the bytes that a call may read. The error: out of memory.
+pub fn room_to_read(alloc: Global, call: Call<'_>) -> Result<Vec<u8>, Memory>
     ensures empty { IfOk result (λ room. room.items ≡ []) }
     ensures len { IfOk result (λ room. vec_len room ≡ 0) }
-    ensures room { IfOk result (λ room. vec_capacity room ≡ most_read call.now) }
+    ensures room { IfOk result (λ room. vec_capacity room ≡ most_read (data_of call.entry)) }
 {
     let most = match call {
-        CallData::ReadAt(_, _, len) => *len as usize,
+        Call::ReadAt(_, _, len) => len as usize,
         _ => 0,
     };
     Vec::with_capacity(alloc, most)

@@ -29,7 +29,7 @@ impl Starts {
         }
     }
 
-    /// Makes room for so many starts.
+    /// Makes room for so many starts. The error: out of memory.
     pub fn make_room(&mut self, more: usize) -> Result<(), Memory>
         ensures same { IsSameOrder self.old self.new }
         ensures room { OnOk result (HasRoomFor self.new more) }

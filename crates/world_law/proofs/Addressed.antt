@@ -1,22 +1,22 @@
 -- The injection of a delivery's forwards is from whom it forwards, to the addresses of its lines.
 use Rattle.std.proofs.Common.{◌≡◌, ℕ, List, [], ◌∷◌, ◌++◌, Bool, true, false, Some, refl, sym, ap, ◌∙◌, subst, codes, if◌then◌else◌}
 use Rattle.std.proofs.lemmas.List.Elements.{All-append}
-use Rattle.address_rules.specs.Nuls.{HasNoNul}
+use Rattle.mail_bytes.specs.Texts.{HasNoNul}
 use Rattle.address_rules.specs.declared.controls.Controls.{Controls}
 use Rattle.call_fs.specs.Disk.{Disk}
 use Rattle.call_fs.specs.declared.past.Own.{Own}
 use Rattle.local_deliver.specs.Carried.{AreDrops, IsCarried, IsInjected as HasOne}
 use Rattle.local_deliver.specs.Deeds.{feeds, statuses, told_names}
-use Rattle.local_steps.specs.declared.arguments.LocalArgs.{LocalArgs}
-use Rattle.local_steps.specs.Forwarding.{envelope, forward_sender, forwards, has_default_owner, has_owner, injection_of, injection_to, net_text, owner_sender}
-use Rattle.local_steps.specs.Texts.{forward_text}
+use Rattle.local_parts.specs.declared.arguments.LocalArgs.{LocalArgs}
+use Rattle.local_parts.specs.Forwarding.{envelope, forward_sender, forwards, has_default_owner, has_owner, injection_of, injection_to, net_text, owner_sender}
+use Rattle.local_parts.specs.Texts.{forward_text}
 use Rattle.dot_qmail.specs.declared.line.Line.{Line}
-use Rattle.post_law.proofs.Told.{words as plain_text}
+use Rattle.program_law.proofs.Post.Told.{words as plain_text}
 use Rattle.queue_inject.specs.declared.injection.Arguments.{Arguments}
 use Rattle.queue_law.specs.Books.{Books, Injection, IsInjected, IsValid}
 use Rattle.world_events.specs.declared.event.Program.{Program}
 use Rattle.world_events.specs.declared.event.Program.TheVariants.{Delivery}
-use Rattle.sender_law.specs.Control.{AreControls}
+use Rattle.program_law.specs.Sender.Control.{AreControls}
 use Rattle.mail_world.specs.History.{Actor, Event, Legal, after}
 use Rattle.mail_world.specs.History.Life.{Over}
 use Rattle.world_law.specs.Carried.{Carried, WereInjected}

@@ -17,14 +17,16 @@ use Rattle.mail_world.proofs.Halts.{is_well}
 use Rattle.mail_world.proofs.Kept.{Inv}
 use Rattle.mail_world.proofs.Programs.{FaresBy, fares_booked}
 use Rattle.mail_world.proofs.Waiting.{always_alone, legal_before, mails_wait}
-use Rattle.world_law.specs.Headline.{EachSafe, EndsWell, Safe, SafeWithoutGenerations, StaysSafe}
+use Rattle.world_law.specs.Headline.{EachSafe, EndsWell, SafeState, SafeWithoutGenerations, StaysSafe}
+use Rattle.world_law.specs.Laws.{AreAccounted}
+use Rattle.world_law.proofs.Ledger.{accounted_alone}
 use Rattle.world_law.proofs.Safe.{safe_by}
 
 ends_well : (now : ℕ) (q : Queue) (a : List ℕ) (program : Program) (past : List Own) (life : Life) → FaresBy now q a program past life → life ≡ Over 0 → EndsWell q.books a program past
 ends_well now q a (Injector args) past life F over = F.queued (F.ends (ap is_well over))
 ends_well now q a other past life F over = absurd F
 
-alone_safe : (controls : Controls) (s : State) → Inv controls s → Safe controls s
+alone_safe : (controls : Controls) (s : State) → Inv controls s → SafeState s × AreAccounted controls s
 alone_safe controls s I =
     let q = queue s I.role in
     safe_by controls s I.role I.sound
@@ -33,8 +35,10 @@ alone_safe controls s I =
 
 pub safe_without_generations : SafeWithoutGenerations
 safe_without_generations controls d h legal none = λ later before is.
-    alone_safe controls (after d before)
-    (always_alone controls d before (legal_before d later before (subst (Legal d) (sym is) legal)) (covered_before later before (subst HasNoGeneration (sym is) none)))
+    let whole = legal_before d later before (subst (Legal d) (sym is) legal) in
+    let alone = covered_before later before (subst HasNoGeneration (sym is) none) in
+    let w = alone_safe controls (after d before) (always_alone controls d before whole alone) in
+    record { state = w.0; accounted = λ q here accepted r. accounted_alone controls d before whole alone q here r (w.1 q here accepted r) }
 
 -- and each accepted message waits in todo
 pub stays_safe : (d : Disk) (h : List Event) → Legal d h → HasNoGeneration h → StaysSafe d h

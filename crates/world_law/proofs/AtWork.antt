@@ -3,8 +3,8 @@ use Rattle.std.proofs.Common.{◌≡◌, ⊎_elim, ℕ, ◌+◌, ◌≤◌, List
 use Rattle.std.specs.Prelude.{flat_map}
 use Rattle.std.proofs.lemmas.List.{append-nil}
 use Rattle.call_fs.specs.Disk.{Among}
-use Rattle.post_law.specs.Posts.{AreLast, At, Fares, HasPlainFields, IsAskedFor, Post, Waits, busy, goes_at, in_hand, most, owed_at, reports, told_of}
-use Rattle.post_law.proofs.Sums.{own_one}
+use Rattle.program_law.specs.Post.Posts.{AreLast, At, Fares, HasPlainFields, IsAskedFor, Post, Waits, busy, goes_at, in_hand, most, owed_at, reports, told_of}
+use Rattle.program_law.proofs.Post.Sums.{own_one}
 use Rattle.send_jobs.specs.declared.attempts.Attempt.{Attempt}
 use Rattle.send_jobs.specs.declared.channels.Channel.{Channel}
 use Rattle.send_jobs.specs.Slots.{attempt_in}

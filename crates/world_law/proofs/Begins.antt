@@ -8,9 +8,9 @@ use Rattle.queue_law.specs.Numbers.{NamesSuit, Sound}
 use Rattle.queue_law.specs.Numbers.Phase.{Free}
 use Rattle.queue_law.specs.Numbers.Role.{AsOld}
 use Rattle.queue_law.proofs.Looks.{find_none, found}
-use Rattle.send_steps.specs.Steps.{control_text}
-use Rattle.errand_law.specs.Errands.{Errand, fresh}
-use Rattle.errand_law.proofs.Links.{losses_keep}
+use Rattle.send_parts.specs.Steps.{control_text}
+use Rattle.program_law.specs.Errand.Errands.{Errand, fresh}
+use Rattle.program_law.proofs.Errand.Links.{losses_keep}
 use Rattle.mail_world.specs.History.{Opening, opening}
 use Rattle.mail_world.specs.Untouched.{queue}
 use Rattle.world_law.specs.Laws.{InvBegins}

@@ -4,7 +4,8 @@ use Rattle.std.specs.Prelude.{◌-◌, ◌==◌, nat_eq}
 use Rattle.std.specs.List.{ends_with}
 use Rattle.std.proofs.lemmas.List.Elements.{All-nil, All-cons, All-append, All-take, All-from_recursion}
 use Rattle.address_rules.specs.declared.controls.Controls.{Controls}
-use Rattle.address_rules.specs.Nuls.{HasNoNul, HaveNoNul}
+use Rattle.address_rules.specs.Nuls.{HaveNoNul}
+use Rattle.mail_bytes.specs.Texts.{HasNoNul}
 use Rattle.bounce_record.specs.declared.bounces.Bounce.{Bounce}
 use Rattle.bounce_record.specs.Bounces.{bounce_of, return_address, user_at}
 use Rattle.envelope_records.specs.Envelope.{Reading, read_envelope}

@@ -27,27 +27,27 @@ use Rattle.send_core.specs.Table.{due_at, file_of, start_words}
 use Rattle.send_jobs.specs.declared.channels.Channel.{Channel}
 use Rattle.send_jobs.specs.declared.channels.Channel.TheVariants.{Local, Remote}
 use Rattle.send_known.specs.declared.known.Known.{Known}
-use Rattle.send_steps.specs.declared.reading.Reading.{Reading}
-use Rattle.send_steps.specs.declared.reading.Reading.TheVariants.{Opening, Going, Closing, Shutting}
-use Rattle.send_steps.specs.declared.rows.FinishRow.TheVariants as finish
-use Rattle.send_steps.specs.declared.rows.StartRow.{StartRow}
-use Rattle.send_steps.specs.declared.rows.StartRow.TheVariants as start
-use Rattle.send_steps.specs.declared.rows.SweepRow.{SweepRow}
-use Rattle.send_steps.specs.declared.rows.SweepRow.TheVariants as sweep
-use Rattle.send_steps.specs.declared.step.Step.{Step}
-use Rattle.send_steps.specs.declared.step.Step.TheVariants as step
-use Rattle.send_steps.specs.Readings.{reading_step}
-use Rattle.send_steps.specs.Rows.{start_step, sweep_step}
-use Rattle.send_steps.specs.Steps.{control_text, due_by}
+use Rattle.send_parts.specs.declared.reading.Reading.{Reading}
+use Rattle.send_parts.specs.declared.reading.Reading.TheVariants.{Opening, Going, Closing, Shutting}
+use Rattle.send_parts.specs.declared.rows.FinishRow.TheVariants as finish
+use Rattle.send_parts.specs.declared.rows.StartRow.{StartRow}
+use Rattle.send_parts.specs.declared.rows.StartRow.TheVariants as start
+use Rattle.send_parts.specs.declared.rows.SweepRow.{SweepRow}
+use Rattle.send_parts.specs.declared.rows.SweepRow.TheVariants as sweep
+use Rattle.send_parts.specs.declared.step.Step.{Step}
+use Rattle.send_parts.specs.declared.step.Step.TheVariants as step
+use Rattle.send_parts.specs.Readings.{reading_step}
+use Rattle.send_parts.specs.Rows.{start_step, sweep_step}
+use Rattle.send_parts.specs.Steps.{control_text, due_by}
 use Rattle.todo_pass.specs.declared.row.Row.{Row as PassRow}
 use Rattle.todo_pass.specs.declared.row.Row.TheVariants as todo
 use Rattle.todo_pass.specs.Table.{Pass, due_at as pass_due}
 use Rattle.queue_law.specs.Numbers.{About, Queue, about}
 use Rattle.queue_law.specs.Routes.{lane_part}
-use Rattle.sender_law.specs.Knows.{IsLeaving, Knows, has_file}
-use Rattle.sender_law.specs.Knows.Knows.{Stays, Leaves}
-use Rattle.sender_law.specs.Rows.{ReturnHolds}
-use Rattle.sender_law.specs.Stands.{StandsAt}
+use Rattle.program_law.specs.Sender.Knows.{IsLeaving, Knows, has_file}
+use Rattle.program_law.specs.Sender.Knows.Knows.{Stays, Leaves}
+use Rattle.program_law.specs.Sender.Rows.{ReturnHolds}
+use Rattle.program_law.specs.Sender.Stands.{StandsAt}
 use Rattle.world_law.proofs.Marks.{both}
 
 -- the call by which it is opened

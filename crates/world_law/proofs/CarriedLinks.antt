@@ -2,7 +2,7 @@
 use Rattle.std.specs.Prelude.{◌≡◌, ◌≢◌, ℕ, List, [], ◌∷◌, ◌++◌, map, Bool, Option, Some, None, option_map, codes, if◌then◌else◌}
 use Rattle.std.proofs.Common.{◌⊎◌, inl, inr, ⊎_elim, refl, sym, ap, ◌∙◌, subst}
 use Rattle.address_rules.specs.declared.controls.Controls.{Controls}
-use Rattle.call_fs.specs.Disk.{Among, Disk}
+use Rattle.call_fs.specs.Disk.{Among, Disk, IsWhole}
 use Rattle.call_fs.specs.Maps.{put_at}
 use Rattle.call_fs.proofs.Maps.{put_at_cases}
 use Rattle.call_fs.specs.declared.calls.Answer.{Answer}
@@ -19,21 +19,22 @@ use Rattle.call_fs.specs.declared.program.Port.TheVariants as port
 use Rattle.local_deliver.specs.declared.place.Place.{Place}
 use Rattle.local_deliver.specs.declared.row.Row.{Row}
 use Rattle.local_deliver.specs.declared.row.Row.TheVariants as at
-use Rattle.local_deliver.specs.Deeds.{LinkMade, linked_by as made_by, links, links_by, taken, taken_by}
+use Rattle.local_deliver.specs.Deeds.{LinkMade, linked_by as made_by, links, links_by}
+use Rattle.call_fs.specs.Past.{taken, taken_by}
 use Rattle.local_deliver.specs.Drops.{Drop}
 use Rattle.local_deliver.specs.Table.{due_at, due_by_drop, place_after}
-use Rattle.local_deliver.proofs.Carrying.{Inv as AtRow, holds}
+use Rattle.local_deliver.proofs.Carrying.{holds}
+use Rattle.local_deliver.proofs.Underway.{Inv as AtRow}
 use Rattle.local_deliver.proofs.Deeds.{deeds_of}
-use Rattle.local_steps.specs.declared.arguments.LocalArgs.{LocalArgs}
-use Rattle.local_steps.specs.Inputs.{message_in}
-use Rattle.local_steps.specs.Texts.{maildir_text}
+use Rattle.local_parts.specs.declared.arguments.LocalArgs.{LocalArgs}
+use Rattle.local_parts.specs.Inputs.{message_in}
+use Rattle.local_parts.specs.Texts.{maildir_text}
 use Rattle.maildir_drop.specs.declared.row.Row.{Row as DropRow}
 use Rattle.maildir_drop.specs.declared.row.Row.TheVariants as drop
 use Rattle.maildir_drop.specs.declared.names.DropNames.{DropNames}
-use Rattle.maildir_drop.specs.Laws.{IsWhole}
 use Rattle.maildir_drop.specs.Table.{due_at as drop_due}
 use Rattle.queue_law.proofs.Tests.{other_text, same_text}
-use Rattle.sender_law.specs.Control.{AreControls}
+use Rattle.program_law.specs.Sender.Control.{AreControls}
 use Rattle.world_events.specs.declared.event.Program.{Program}
 use Rattle.world_events.specs.declared.event.Program.TheVariants.{Delivery}
 use Rattle.mail_world.specs.History.{Actor, Event, IsCleaner, IsLocalSpawner, IsRemoteSpawner, IsSender, Legal, MayDo, MayRun, acted, after, finished, newborn, next_of, stopped}
@@ -234,7 +235,7 @@ none_linked_yet d (Generation sender clean lspawn rspawn ∷ before) legal a non
     (none_before one (codes "clean") (newborn clean) a
     (none_before two (codes "lspawn") (newborn lspawn) a
     (none_before three (codes "rspawn") (newborn rspawn) a none).1).1).1).1
-none_linked_yet d (Report slot letter text ∷ before) legal a none = none_linked_yet d before legal.0 a none
+none_linked_yet d (Report slot output ∷ before) legal a none = none_linked_yet d before legal.0 a none
 none_linked_yet d (Moment m ∷ before) legal a none = none_linked_yet d before legal.0 a none
 none_linked_yet d (End b read ready status ∷ before) legal a none =
     let s = after d before in
@@ -373,8 +374,8 @@ module _ (controls : Controls) (d : Disk) (has : AreControls controls d) where
       child_links before (links_are before legal.0) parent own b program legal a x is start args runs
   links_are (Generation sender clean lspawn rspawn ∷ before) legal a x is start args runs =
       generation_links before (links_are before legal.0) sender clean lspawn rspawn legal a x is start args runs
-  links_are (Report slot letter text ∷ before) legal a x is start args runs =
-      calm before (Report slot letter text) a args x.past refl (links_are before legal.0 a x is start args runs)
+  links_are (Report slot output ∷ before) legal a x is start args runs =
+      calm before (Report slot output) a args x.past refl (links_are before legal.0 a x is start args runs)
   links_are (Moment m ∷ before) legal a x is start args runs = calm before (Moment m) a args x.past refl (links_are before legal.0 a x is start args runs)
   links_are (End b read ready status ∷ before) legal a x is start args runs =
       let y = legal.1.actor in

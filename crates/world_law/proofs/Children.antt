@@ -16,10 +16,10 @@ use Rattle.call_fs.specs.declared.past.NeedData.{NeedData}
 use Rattle.call_fs.specs.declared.past.NeedData.TheVariants as needs
 use Rattle.call_fs.specs.declared.past.Own.{Own}
 use Rattle.call_fs.specs.declared.program.Port.TheVariants as port
-use Rattle.delivery_law.proofs.Events.{deliveries_keep}
+use Rattle.program_law.proofs.Delivery.Events.{deliveries_keep}
 use Rattle.local_spawn.specs.declared.place.Place.{Place as LocalPlace}
 use Rattle.local_spawn.specs.Table.{place_after as local_after, program_of as local_asks}
-use Rattle.local_steps.specs.declared.arguments.LocalArgs.{LocalArgs}
+use Rattle.local_parts.specs.declared.arguments.LocalArgs.{LocalArgs}
 use Rattle.queue_clean.specs.declared.row.Row.{Row as CleanRow}
 use Rattle.queue_clean.specs.declared.row.Row.TheVariants as clean
 use Rattle.queue_clean.specs.Table.{due_at as clean_due, is_old, pid_path, place_after as clean_after, search_after}
@@ -31,7 +31,7 @@ use Rattle.queue_law.proofs.Tests.{text_cases}
 use Rattle.remote_spawn.specs.Table.{due_from, place_after as remote_after}
 use Rattle.send_core.specs.declared.desk.Desk.{Desk}
 use Rattle.send_core.specs.Table.{desk_after, row_now}
-use Rattle.sender_law.proofs.Programs.{starts_of}
+use Rattle.program_law.proofs.Sender.Programs.{starts_of}
 use Rattle.spawner_parts.specs.declared.place.Place.{Place as SpawnPlace}
 use Rattle.spawner_parts.specs.declared.row.Row.{Row as SpawnRow}
 use Rattle.spawner_parts.specs.declared.row.Row.TheVariants as spawn

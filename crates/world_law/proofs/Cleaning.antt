@@ -23,12 +23,12 @@ use Rattle.queue_clean.specs.declared.row.Row.{Row}
 use Rattle.queue_clean.specs.declared.row.Row.TheVariants as at
 use Rattle.queue_clean.specs.Commands.{first_name, message_of, second_name}
 use Rattle.queue_clean.specs.Table.{Place, due_at, due_by, is_old, moved, pid_path, place_after, search_after}
-use Rattle.errand_law.specs.Errands.{Awaits, Errand, IsOffered, Link, SaysWell, at_work, cleans, most, work_at}
-use Rattle.errand_law.specs.Errands.Awaits.{Answer, Nothing, Over}
-use Rattle.errand_law.specs.Laws.{Cleans, IsAnsweredBy}
-use Rattle.errand_law.proofs.Cleans.{cleans_keep}
-use Rattle.errand_law.proofs.Links.{idle_is, none_waits}
-use Rattle.delivery_law.proofs.Stay.{drops_stay}
+use Rattle.program_law.specs.Errand.Errands.{Awaits, Errand, IsOffered, Link, SaysWell, at_work, cleans, most, work_at}
+use Rattle.program_law.specs.Errand.Errands.Awaits.{Answer, Nothing, Over}
+use Rattle.program_law.specs.Errand.Laws.{Cleans, IsAnsweredBy}
+use Rattle.program_law.proofs.Errand.Cleans.{cleans_keep}
+use Rattle.program_law.proofs.Errand.Links.{idle_is, none_waits}
+use Rattle.program_law.proofs.Delivery.Stay.{drops_stay}
 use Rattle.queue_law.specs.Cleaners.{CleanerLeads, CleanerStands, Needs, number_at}
 use Rattle.queue_law.specs.Numbers.{About, IsPreprocessed, Queue, about}
 use Rattle.queue_law.specs.Rests.{IsClosed, RestsAs, Spares}
@@ -39,22 +39,22 @@ use Rattle.send_core.specs.declared.row.Row.{Row as SenderRow}
 use Rattle.send_core.specs.declared.row.Row.TheVariants as sends
 use Rattle.send_core.specs.Table.{desk_after}
 use Rattle.send_core.specs.Turn.{known_of}
-use Rattle.send_steps.specs.declared.rows.FinishRow.TheVariants as finish
-use Rattle.send_steps.specs.declared.rows.SweepRow.{SweepRow}
-use Rattle.send_steps.specs.declared.rows.SweepRow.TheVariants as sweep
+use Rattle.send_parts.specs.declared.rows.FinishRow.TheVariants as finish
+use Rattle.send_parts.specs.declared.rows.SweepRow.{SweepRow}
+use Rattle.send_parts.specs.declared.rows.SweepRow.TheVariants as sweep
 use Rattle.todo_pass.specs.declared.row.Row.{Row as PassRow}
 use Rattle.todo_pass.specs.declared.row.Row.TheVariants as todo
 use Rattle.todo_pass.specs.Table.{Pass}
-use Rattle.sender_law.specs.Commands.{IsNoCall}
-use Rattle.sender_law.specs.InTodo.{IsExpected}
-use Rattle.sender_law.specs.LeftAlone.{LeavesPass, LeavesRow}
-use Rattle.sender_law.specs.Points.{number_in}
-use Rattle.sender_law.specs.Waits.{awaits_at, awaits_in as awaits_in_pass}
-use Rattle.sender_law.proofs.ControlsStay.{controls_stay}
-use Rattle.sender_law.proofs.Goes.{cleaners_go_on}
-use Rattle.sender_law.proofs.Gone.{file_call}
-use Rattle.sender_law.proofs.Known.{unlinks_leave_learned}
-use Rattle.sender_law.proofs.Spares.{others_spare}
+use Rattle.program_law.specs.Sender.Commands.{IsNoCall}
+use Rattle.program_law.specs.Sender.InTodo.{IsExpected}
+use Rattle.program_law.specs.Sender.LeftAlone.{LeavesPass, LeavesRow}
+use Rattle.program_law.specs.Sender.Points.{number_in}
+use Rattle.program_law.specs.Sender.Waits.{awaits_at, awaits_in as awaits_in_pass}
+use Rattle.program_law.proofs.Sender.ControlsStay.{controls_stay}
+use Rattle.program_law.proofs.Sender.Goes.{cleaners_go_on}
+use Rattle.program_law.proofs.Sender.Gone.{file_call}
+use Rattle.program_law.proofs.Sender.Known.{unlinks_leave_learned}
+use Rattle.program_law.proofs.Sender.Spares.{others_spare}
 use Rattle.world_pipes.specs.Pipework.{Pipe, Pipework, Yields, pipework_after}
 use Rattle.world_events.specs.declared.event.Program.{Program}
 use Rattle.world_events.specs.declared.event.Program.TheVariants.{Cleaner, Sender}

@@ -33,11 +33,11 @@ accepted_ledger a (Some j) i e = let w = by (bytes_eq j.actor a) e in (j, refl, 
     by true is = let same : i ≡ record j { accepted = true } = cc in (ap (λ (k : Injection). k.args) same, ap (λ (k : Injection). k.ledger) same)
     by false is = let same : i ≡ j = cc in (ap (λ (k : Injection). k.args) same, ap (λ (k : Injection). k.ledger) same)
 
-among_option : (o : Option Injection) (i : Injection) → Among i (option_to_list o) → o ≡ Some i
+pub among_option : (o : Option Injection) (i : Injection) → Among i (option_to_list o) → o ≡ Some i
 among_option None i h = absurd h
 among_option (Some j) i h = ⊎_elim (λ (same : i ≡ j). ap Some (sym same)) (λ (none : ⊥). absurd none) h
 
-among_append : (i : Injection) (xs ys : List Injection) → Among i (xs ++ ys) → Among i xs ⊎ Among i ys
+pub among_append : (i : Injection) (xs ys : List Injection) → Among i (xs ++ ys) → Among i xs ⊎ Among i ys
 among_append i [] ys h = inr h
 among_append i (y ∷ xs) ys h = ⊎_elim
     (λ (e : i ≡ y). inl (inl e))

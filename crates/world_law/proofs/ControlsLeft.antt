@@ -2,12 +2,12 @@
 use Rattle.std.proofs.Common.{◌≡◌, ◌≢◌, ℕ, List, Some, sym, ap, ◌∙◌, subst}
 use Rattle.address_rules.specs.declared.control_file.ControlFile.{ControlFile}
 use Rattle.call_fs.specs.Disk.{File, IsSynced}
-use Rattle.delivery_law.specs.Leaves.{LeavesButDrops, LeavesButOwn}
-use Rattle.delivery_law.proofs.Apart.{no_control_name}
+use Rattle.program_law.specs.Delivery.Leaves.{LeavesButDrops, LeavesButOwn}
+use Rattle.program_law.proofs.Delivery.Apart.{no_control_name}
 use Rattle.queue_law.specs.Numbers.{Queue}
 use Rattle.queue_law.specs.Numbers.Role.{AsDrop, AsOld}
-use Rattle.send_steps.specs.Steps.{control_text}
-use Rattle.sender_law.specs.ControlFiles.{AreOld, LeavesControls}
+use Rattle.send_parts.specs.Steps.{control_text}
+use Rattle.program_law.specs.Sender.ControlFiles.{AreOld, LeavesControls}
 
 module _ (a : List ℕ) (q r : Queue) (outside : LeavesButDrops q.disk r.disk) (own : LeavesButOwn a q r) (old : AreOld q) where
   same_name : (f : ControlFile) → r.disk.names (control_text f) ≡ q.disk.names (control_text f)

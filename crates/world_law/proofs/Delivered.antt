@@ -1,18 +1,17 @@
 -- An attempt in flight is for the recipient whose record stands at its place.
-use Rattle.std.proofs.Common.{◌≡◌, ◌⊎◌, ⊎_elim, ℕ, ◌+◌, ◌<◌, ◌≤◌, List, [], ◌∷◌, ◌++◌, length, false, Option, Some, None, refl, sym, ap, ◌∙◌, subst, arith}
+use Rattle.std.proofs.Common.{◌≡◌, ⊎_elim, ℕ, ◌+◌, ◌<◌, ◌≤◌, List, [], ◌∷◌, ◌++◌, length, false, Option, Some, None, refl, sym, ap, ◌∙◌, subst, arith}
 use Rattle.std.specs.Prelude.{Contains, IfSome, flat_map}
 use Rattle.std.proofs.lemmas.Bool.{cases_lt}
 use Rattle.std.proofs.lemmas.List.{get_or_default, get_or_past, length-append}
 use Rattle.address_rules.specs.declared.controls.Controls.{Controls}
 use Rattle.address_rules.specs.Nuls.{HaveNoNul}
 use Rattle.call_fs.specs.Disk.{Among}
-use Rattle.channel_law.specs.Files.{IsOpen}
-use Rattle.channel_law.specs.Tied.{in_hand, is_slot_at}
-use Rattle.channel_law.proofs.Counts.{contained_counts}
-use Rattle.channel_law.proofs.Ties.{at_itself}
+use Rattle.program_law.specs.Channel.Files.{IsOpen}
+use Rattle.program_law.specs.Channel.Tied.{in_hand, is_slot_at}
+use Rattle.program_law.proofs.Channel.Counts.{contained_counts}
+use Rattle.program_law.proofs.Channel.Ties.{at_itself}
 use Rattle.envelope_records.specs.declared.channel.Record.{Record}
 use Rattle.envelope_records.specs.Records.{text_of}
-use Rattle.local_deliver.specs.Deeds.{taken}
 use Rattle.queue_law.specs.Books.{Injection}
 use Rattle.queue_law.specs.Numbers.{IsPreprocessed, Queue, Sound, about}
 use Rattle.queue_law.specs.Routes.{Recipient, routed, spot_of}
@@ -26,12 +25,12 @@ use Rattle.send_jobs.specs.declared.slots.Slots.{Slots}
 use Rattle.send_jobs.specs.Jobs.{job_of}
 use Rattle.send_jobs.specs.Sending.{lane}
 use Rattle.send_jobs.specs.Slots.{attempt_in}
-use Rattle.sender_law.specs.Knows.{Serves}
-use Rattle.sender_law.specs.Stands.{LaneStands}
-use Rattle.sender_law.specs.Views.{files_of, first_at, records_at}
-use Rattle.sender_law.proofs.Entries.{among_of}
-use Rattle.sender_law.proofs.Others.{the_job}
-use Rattle.sender_law.proofs.Texts.{they_are}
+use Rattle.program_law.specs.Sender.Knows.{Serves}
+use Rattle.program_law.specs.Sender.Stands.{LaneStands}
+use Rattle.program_law.specs.Sender.Views.{files_of, first_at, records_at}
+use Rattle.program_law.proofs.Sender.Entries.{among_of}
+use Rattle.program_law.proofs.Sender.Others.{the_job}
+use Rattle.program_law.proofs.Sender.Texts.{they_are}
 
 -- Records of one file are at places of their own
 

@@ -13,9 +13,9 @@ use Rattle.call_fs.specs.declared.calls.Answer.TheVariants as answer
 use Rattle.call_fs.specs.declared.calls.CallData.{CallData}
 use Rattle.call_fs.specs.declared.past.GotData.{GotData}
 use Rattle.call_fs.specs.declared.past.GotData.TheVariants as got
-use Rattle.post_law.specs.Laws.{AreHeard, IsHeard, WasDelivered}
-use Rattle.post_law.specs.Posts.{Done, freed}
-use Rattle.post_law.proofs.Desks.{desks_tell, was_in}
+use Rattle.program_law.specs.Post.Laws.{AreHeard, IsHeard, WasDelivered}
+use Rattle.program_law.specs.Post.Posts.{Done, freed}
+use Rattle.program_law.proofs.Post.Desks.{desks_tell, was_in}
 use Rattle.queue_inject.specs.declared.injection.Arguments.{Arguments}
 use Rattle.queue_law.proofs.Looks.{mapped_some}
 use Rattle.queue_law.specs.Books.{Books, Child, Injection, booked, booked_all, booked_on, entered_in, line_said, notes_read, with_line}
@@ -37,9 +37,9 @@ use Rattle.send_jobs.specs.declared.channels.Channel.TheVariants.{Local}
 use Rattle.send_jobs.specs.Failures.{is_final}
 use Rattle.send_jobs.specs.Sending.{lane}
 use Rattle.send_jobs.specs.Slots.{attempt_in}
-use Rattle.send_steps.specs.declared.rows.FinishRow.{FinishRow}
-use Rattle.send_steps.specs.declared.rows.FinishRow.TheVariants as finish
-use Rattle.send_steps.specs.Replies.{said}
+use Rattle.send_parts.specs.declared.rows.FinishRow.{FinishRow}
+use Rattle.send_parts.specs.declared.rows.FinishRow.TheVariants as finish
+use Rattle.send_parts.specs.Replies.{said}
 use Rattle.spawn_protocol.specs.declared.report.Report.{Report}
 use Rattle.spawn_protocol.specs.Report.{counted}
 use Rattle.world_law.proofs.Columns.{Has, IsLiving, call_has, entered_has, not_entered}

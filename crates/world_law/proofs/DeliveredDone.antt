@@ -1,5 +1,5 @@
 -- Of each local recipient that is accounted for as delivered a delivery for its address has ended with 0, and took the message as entered.
-use Rattle.std.proofs.Common.{◌≡◌, ◌≢◌, ◌⊎◌, inl, inr, ⊎_elim, ℕ, ◌+◌, List, [], ◌∷◌, ◌++◌, true, ◌&&◌, option_map, Option, Some, None, refl, sym, ap, ◌∙◌, subst, codes}
+use Rattle.std.proofs.Common.{◌≡◌, ◌≢◌, ◌⊎◌, inl, inr, ⊎_elim, ℕ, List, [], ◌∷◌, ◌++◌, true, ◌&&◌, option_map, Option, Some, None, refl, sym, ap, ◌∙◌, subst, codes}
 use Rattle.std.specs.Prelude.{Contains}
 use Rattle.address_rules.specs.declared.controls.Controls.{Controls}
 use Rattle.call_fs.specs.Disk.{Among, Disk}
@@ -14,10 +14,10 @@ use Rattle.call_fs.specs.declared.past.Own.{Own}
 use Rattle.call_fs.specs.declared.program.Port.TheVariants as port
 use Rattle.call_fs.specs.declared.program.Ready.{Ready}
 use Rattle.actor_names.specs.MailNames.{members}
-use Rattle.local_deliver.specs.Deeds.{taken}
-use Rattle.local_steps.specs.Inputs.{message_in}
-use Rattle.post_law.specs.Posts.{Done, Task}
-use Rattle.post_law.specs.Senders.{is_on}
+use Rattle.call_fs.specs.Past.{taken}
+use Rattle.local_parts.specs.Inputs.{message_in}
+use Rattle.program_law.specs.Post.Posts.{Done, Task}
+use Rattle.program_law.specs.Post.Senders.{is_on}
 use Rattle.queue_inject.specs.declared.injection.Arguments.{Arguments}
 use Rattle.queue_inject.specs.Texts.{entered}
 use Rattle.queue_law.specs.Books.{Books, Child as Bouncer, Injection, IsInjected}
@@ -35,10 +35,10 @@ use Rattle.send_jobs.specs.declared.channels.Channel.{Channel}
 use Rattle.send_jobs.specs.declared.channels.Channel.TheVariants.{Local}
 use Rattle.send_jobs.specs.Sending.{lane}
 use Rattle.send_jobs.specs.Slots.{attempt_in}
-use Rattle.send_steps.specs.declared.reply.Way.{Way}
-use Rattle.send_steps.specs.declared.reply.Way.TheVariants as way
-use Rattle.send_steps.specs.Replies.{said}
-use Rattle.sender_law.specs.Control.{AreControls}
+use Rattle.send_parts.specs.declared.reply.Way.{Way}
+use Rattle.send_parts.specs.declared.reply.Way.TheVariants as way
+use Rattle.send_parts.specs.Replies.{said}
+use Rattle.program_law.specs.Sender.Control.{AreControls}
 use Rattle.spawn_protocol.specs.Report.{read_on}
 use Rattle.world_pipes.specs.Pipework.{Pipe, Yields}
 use Rattle.world_events.specs.declared.event.Program.{Program}
@@ -100,7 +100,7 @@ over_kept (Child parent own b program) s may a x is over apart =
     other : a ≢ b
     other same = let both : ◌≡◌ {A = Option Actor} None (Some x) = sym may.new ∙ ap s.actors (sym same) ∙ is in absurd (cc)
 over_kept (Generation first second third last) s may a x is over apart = four_other s.actors first second third last a (no_member a apart) ∙ is
-over_kept (Report slot letter text) s may a x is over apart = is
+over_kept (Report slot output) s may a x is over apart = is
 over_kept (End b read ready status) s may a x is over apart =
     let y = may.actor in
     subst (λ (o : Option Actor). (finished s b (Over status) o).actors a ≡ Some x) (sym may.reads.is)
@@ -191,7 +191,7 @@ some_injection x y e = cc
 pub took_message : (controls : Controls) (s : State) → Inv controls s → (x : Done) (was : WasDone s x) → (m : List ℕ) × (message_in (taken was.is_for.delivery.past) ≡ Some m)
 took_message controls s I x was =
     let it : EndsWell s.books x.task.name was.is_for.delivery.program was.is_for.delivery.past =
-    (inv_is_safe controls s I).ends x.task.name was.is_for.delivery was.is_for.is was.over in
+    (inv_is_safe controls s I).0.ends x.task.name was.is_for.delivery was.is_for.is was.over in
     let carried : IsCarriedOut s.books was.is_for.args was.is_for.delivery.past = subst (λ (z : Program). EndsWell s.books x.task.name z was.is_for.delivery.past) was.is_for.program it in
     (carried.carried.message, carried.carried.input)
 
@@ -296,7 +296,7 @@ event_done (Child parent own a program) controls s I M D may of r on h =
     D of r on (subst (λ (b : Books). HasDelivered b of (spot_of controls of r)) same there)
 event_done (Start a program) controls s I M D may of r on h = D of r on h
 event_done (Generation first second third last) controls s I M D may of r on h = D of r on h
-event_done (Report slot letter text) controls s I M D may of r on h = D of r on h
+event_done (Report slot output) controls s I M D may of r on h = D of r on h
 event_done (End a read ready status) controls s I M D may of r on h =
     D of r on (subst (λ (o : Option Actor). HasDelivered (finished s a (Over status) o).books of (spot_of controls of r)) may.reads.is h)
 event_done (Stop a) controls s I M D may of r on h = D of r on (subst (λ (o : Option Actor). HasDelivered (finished s a Stopped o).books of (spot_of controls of r)) may.is h)

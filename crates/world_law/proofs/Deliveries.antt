@@ -15,9 +15,9 @@ use Rattle.call_fs.specs.declared.past.NeedData.TheVariants as needs
 use Rattle.call_fs.specs.declared.past.Own.{Own}
 use Rattle.call_fs.specs.declared.program.Port.{Port}
 use Rattle.call_fs.specs.declared.program.Port.TheVariants as port
-use Rattle.delivery_law.specs.Rests.{DeliveryRests}
-use Rattle.delivery_law.specs.Laws.{IsNoCall}
-use Rattle.delivery_law.proofs.Events.{deliveries_keep as rests_keep}
+use Rattle.program_law.specs.Delivery.Rests.{DeliveryRests}
+use Rattle.program_law.specs.Delivery.Laws.{IsNoCall}
+use Rattle.program_law.proofs.Delivery.Events.{deliveries_keep as rests_keep}
 use Rattle.local_deliver.specs.declared.place.Place.{Place}
 use Rattle.local_deliver.specs.declared.row.Row.{Row}
 use Rattle.local_deliver.specs.declared.row.Row.TheVariants as at
@@ -25,7 +25,7 @@ use Rattle.local_deliver.specs.Drops.{Drop}
 use Rattle.local_deliver.specs.Forwards.{HasGiven}
 use Rattle.local_deliver.specs.Table.{Next, due_at, due_by_drop, place_after}
 use Rattle.local_deliver.proofs.Forwards.{single, taken as status_taken}
-use Rattle.local_steps.specs.declared.arguments.LocalArgs.{LocalArgs}
+use Rattle.local_parts.specs.declared.arguments.LocalArgs.{LocalArgs}
 use Rattle.maildir_drop.specs.declared.names.DropNames.{DropNames}
 use Rattle.maildir_drop.specs.declared.row.Row.{Row as DropRow}
 use Rattle.maildir_drop.specs.declared.row.Row.TheVariants as drop
@@ -36,7 +36,7 @@ use Rattle.queue_law.specs.Senders.{called_queue}
 use Rattle.queue_law.specs.Steps.{Elsewhere}
 use Rattle.queue_law.proofs.Foreigners.{foreign_elsewhere, foreign_sound}
 use Rattle.queue_law.proofs.RestIsKept.{rest_is_kept}
-use Rattle.sender_law.proofs.Spares.{others_spare}
+use Rattle.program_law.proofs.Sender.Spares.{others_spare}
 use Rattle.actor_names.specs.MailNames.{members}
 use Rattle.world_pipes.specs.Pipework.{Pipe, Pipework, Tenant, closed as closed_pipe, given as given_pipe, pipework_after, programs_after, taken as taken_pipe}
 use Rattle.world_pipes.specs.Pipework.Tenant.{Remote, Runs}

@@ -5,26 +5,26 @@ use Rattle.address_rules.specs.declared.controls.Controls.{Controls}
 use Rattle.call_fs.specs.Disk.{Disk}
 use Rattle.call_fs.specs.declared.past.Own.{Own}
 use Rattle.call_fs.specs.declared.program.Port.TheVariants as port
-use Rattle.local_deliver.specs.Deeds.{taken}
-use Rattle.local_spawn.specs.Deliveries.{netstring}
-use Rattle.local_steps.specs.Inputs.{message_in}
-use Rattle.local_steps.proofs.Netstrings.{written}
-use Rattle.post_law.specs.Posts.{Done, IsAskedFor, Posted, Task}
-use Rattle.post_law.proofs.Asks.{starts_posted}
-use Rattle.post_law.proofs.Senders.{senders_keep}
-use Rattle.post_law.specs.Senders.{IsFirst, is_on}
+use Rattle.call_fs.specs.Past.{taken}
+use Rattle.mail_bytes.specs.Netstring.{netstring}
+use Rattle.local_parts.specs.Inputs.{message_in}
+use Rattle.local_parts.proofs.Netstrings.{written}
+use Rattle.program_law.specs.Post.Posts.{Done, IsAskedFor, Posted, Task}
+use Rattle.program_law.proofs.Post.Asks.{starts_posted}
+use Rattle.program_law.proofs.Post.Senders.{senders_keep}
+use Rattle.program_law.specs.Post.Senders.{IsFirst, is_on}
 use Rattle.send_jobs.specs.declared.attempts.Attempt.{Attempt}
 use Rattle.send_jobs.specs.declared.channels.Channel.TheVariants.{Local}
 use Rattle.send_jobs.specs.Sending.{lane}
 use Rattle.send_jobs.specs.Slots.{attempt_in}
 use Rattle.spawn_protocol.specs.declared.request.Request.{Request}
-use Rattle.sender_law.specs.Control.{AreControls}
+use Rattle.program_law.specs.Sender.Control.{AreControls}
 use Rattle.world_pipes.specs.Pipework.{Pipe, closed, given, mouth}
 use Rattle.call_fs.specs.Maps.{put_at}
 use Rattle.call_fs.proofs.Maps.{put_at_other}
 use Rattle.world_events.specs.declared.event.Program.{Program}
 use Rattle.world_events.specs.declared.event.Program.TheVariants.{Cleaner, Delivery, Injector, LocalSpawner, RemoteSpawner, Sender}
-use Rattle.mail_world.specs.History.{Actor, Allowed, Event, IsLocalSpawner, IsSender, Legal, MayDo, State, acted, after, happens, newborn, opening, report_text, stopped}
+use Rattle.mail_world.specs.History.{Actor, Allowed, Event, IsLocalSpawner, IsSender, Legal, MayDo, State, acted, after, happens, newborn, opening, stopped}
 use Rattle.mail_world.specs.History.Event.{Act, Child, End, Generation, Halt, Moment, Report as Tells, Start, Stop}
 use Rattle.mail_world.specs.History.Life.{Alive}
 use Rattle.world_law.specs.Crew.{IsNamed}
@@ -163,13 +163,13 @@ messages_keep : (e : Event) (controls : Controls) (s : State) → HaveRun s.acto
 messages_keep (Moment m) controls s R I J N M may = messages_left s (happens s (Moment m)) (record { view = refl; keeps = λ a x is. (x, is, refl, λ h. h); homes = λ a x is. refl; slots = λ d. refl })
     (λ on n m flies h. record { injection = h.injection; lives = h.lives; accepted = h.accepted; text = h.text }) (λ goes fd how h. record { opened = h.opened; held = h.held })
     (λ k it y there. ap (λ (z : Actor). received s k.name z) (some_actor y it.delivery (sym there ∙ it.is))) M N
-messages_keep (Tells slot letter text) controls s R I J N M may =
-    messages_left s (happens s (Tells slot letter text)) (record { view = refl; keeps = λ a x is. (x, is, refl, λ h. h); homes = λ a x is. refl; slots = λ d. refl })
+messages_keep (Tells slot output) controls s R I J N M may =
+    messages_left s (happens s (Tells slot output)) (record { view = refl; keeps = λ a x is. (x, is, refl, λ h. h); homes = λ a x is. refl; slots = λ d. refl })
     (λ on n m flies h. record { injection = h.injection; lives = h.lives; accepted = h.accepted; text = h.text }) (λ goes fd how h. record { opened = h.opened; held = h.held })
     (λ k it y there.
-    ap (λ (z : Actor). taken z.past ++ ((happens s (Tells slot letter text)).pipework.pipes k.name port.Input).bytes) (some_actor y it.delivery (sym there ∙ it.is))
+    ap (λ (z : Actor). taken z.past ++ ((happens s (Tells slot output)).pipework.pipes k.name port.Input).bytes) (some_actor y it.delivery (sym there ∙ it.is))
     ∙ ap (λ (p : Pipe). taken it.delivery.past ++ p.bytes)
-    (away_same s.pipework.pipes (Some (mouth (codes "rspawn") (port.Program slot))) (λ pipe. closed (given (report_text letter text) pipe)) k.name port.Input refl))
+    (away_same s.pipework.pipes (Some (mouth (codes "rspawn") (port.Program slot))) (λ pipe. closed (given output pipe)) k.name port.Input refl))
     M N
 messages_keep (Start a (Injector args)) controls s R I J N M may = messages_left s (happens s (Start a (Injector args)))
     (record {

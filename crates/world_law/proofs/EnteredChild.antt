@@ -22,12 +22,13 @@ use Rattle.call_fs.specs.declared.program.Ready.{Ready}
 use Rattle.local_spawn.specs.declared.place.Place.{Place}
 use Rattle.local_spawn.specs.declared.row.Row.{Row}
 use Rattle.local_spawn.specs.declared.row.Row.TheVariants as at
-use Rattle.local_spawn.specs.Deliveries.{crashed, netstring}
+use Rattle.local_spawn.specs.Deliveries.{crashed}
+use Rattle.mail_bytes.specs.Netstring.{netstring}
 use Rattle.local_spawn.specs.Table.{Next, act, due_at, due_by, due_from, moved, place_after, program_of, served}
 use Rattle.local_spawn.proofs.Tells.{At as StandsAt, tells}
-use Rattle.local_steps.specs.Arguments.{local_args}
-use Rattle.post_law.specs.Posts.{At, Done, IsAtWork, Task, asked_by, goes_at, task_of, told_by}
-use Rattle.post_law.specs.Senders.{is_on}
+use Rattle.local_parts.specs.Arguments.{local_args}
+use Rattle.program_law.specs.Post.Posts.{At, Done, IsAtWork, Task, asked_by, goes_at, task_of, told_by}
+use Rattle.program_law.specs.Post.Senders.{is_on}
 use Rattle.queue_inject.proofs.Acts.{IsAlone, next_alone}
 use Rattle.send_core.specs.declared.desk.Desk.{Desk}
 use Rattle.send_jobs.specs.declared.attempts.Attempt.{Attempt}

@@ -3,8 +3,8 @@ use Rattle.std.proofs.Common.{◌≡◌, ℕ, List, ◌++◌, true, Option, Some
 use Rattle.std.proofs.lemmas.Bool.{and_parts}
 use Rattle.address_rules.specs.declared.controls.Controls.{Controls}
 use Rattle.call_fs.specs.declared.past.Own.{Own}
-use Rattle.post_law.specs.Posts.{At, IsAskedFor, Post}
-use Rattle.post_law.specs.Senders.{is_on}
+use Rattle.program_law.specs.Post.Posts.{At, IsAskedFor, Post}
+use Rattle.program_law.specs.Post.Senders.{is_on}
 use Rattle.queue_paths.specs.Names.{path, split_text}
 use Rattle.queue_paths.specs.Names.Name.{Of}
 use Rattle.queue_paths.specs.Names.Part.{Mess}

@@ -2,8 +2,8 @@
 -- deliveries have received the same.
 use Rattle.std.proofs.Common.{◌≡◌, ℕ, List, true, Option, Some, None, sym, ◌∙◌, subst, codes}
 use Rattle.call_fs.specs.Disk.{Open}
-use Rattle.local_spawn.specs.Deliveries.{netstring}
-use Rattle.post_law.specs.Posts.{Task}
+use Rattle.mail_bytes.specs.Netstring.{netstring}
+use Rattle.program_law.specs.Post.Posts.{Task}
 use Rattle.queue_law.specs.Injectors.{IsHeld}
 use Rattle.send_jobs.specs.declared.attempts.Attempt.{Attempt}
 use Rattle.spawn_protocol.specs.declared.request.Request.{Request}

@@ -1,8 +1,8 @@
 -- An event that leaves both sides, their pipes and what deliveries have received leaves what is held and given of messages.
 use Rattle.std.proofs.Common.{◌≡◌, ℕ, List, true, ◌&&◌, Option, Some, None, refl, sym, ap, ◌∙◌, subst, codes}
 use Rattle.local_spawn.specs.declared.place.Place.{Place as LocalPlace}
-use Rattle.post_law.specs.Posts.{Posted, Task, goes_at}
-use Rattle.post_law.specs.Senders.{IsFirst, is_on}
+use Rattle.program_law.specs.Post.Posts.{Posted, Task, goes_at}
+use Rattle.program_law.specs.Post.Senders.{IsFirst, is_on}
 use Rattle.send_core.specs.declared.desk.Desk.{Desk}
 use Rattle.send_jobs.specs.declared.attempts.Attempt.{Attempt}
 use Rattle.send_jobs.specs.declared.channels.Channel.TheVariants.{Local}

@@ -7,8 +7,8 @@ use Rattle.call_fs.specs.Disk.{Disk}
 use Rattle.call_fs.specs.declared.past.Own.{Own}
 use Rattle.call_fs.specs.declared.program.Port.TheVariants as port
 use Rattle.call_fs.specs.declared.program.Ready.{Ready}
-use Rattle.post_law.specs.Posts.{goes_at}
-use Rattle.post_law.specs.Senders.{is_on}
+use Rattle.program_law.specs.Post.Posts.{goes_at}
+use Rattle.program_law.specs.Post.Senders.{is_on}
 use Rattle.queue_law.specs.Books.{Books}
 use Rattle.queue_law.specs.Injectors.{IsHeld}
 use Rattle.queue_law.specs.Numbers.{About, IsSorted}

@@ -12,8 +12,8 @@ use Rattle.call_fs.specs.declared.past.Own.{Own}
 use Rattle.call_fs.specs.declared.program.Port.TheVariants as port
 use Rattle.call_fs.specs.declared.program.Ready.{Ready}
 use Rattle.local_spawn.specs.declared.place.Place.{Place as LocalPlace}
-use Rattle.post_law.specs.Posts.{Post, Posted, Task, goes_at}
-use Rattle.post_law.specs.Senders.{IsSome, Sends, is_on}
+use Rattle.program_law.specs.Post.Posts.{Post, Posted, Task, goes_at}
+use Rattle.program_law.specs.Post.Senders.{IsSome, Sends, is_on}
 use Rattle.queue_law.specs.Books.{Books, Child as Bouncer}
 use Rattle.send_core.specs.Booked.{booked_at}
 use Rattle.send_core.specs.declared.desk.Desk.{Desk}

@@ -11,14 +11,14 @@ use Rattle.call_fs.specs.declared.past.NeedData.{NeedData}
 use Rattle.call_fs.specs.declared.past.NeedData.TheVariants as needs
 use Rattle.call_fs.specs.declared.past.Own.{Own}
 use Rattle.call_fs.specs.declared.program.Port.TheVariants as port
-use Rattle.local_deliver.specs.Deeds.{taken}
+use Rattle.call_fs.specs.Past.{taken}
 use Rattle.local_spawn.specs.declared.place.Place.{Place as LocalPlace}
 use Rattle.local_spawn.specs.declared.row.Row.{Row as LocalRow}
 use Rattle.local_spawn.specs.declared.row.Row.TheVariants as local
-use Rattle.local_spawn.specs.Deliveries.{netstring}
+use Rattle.mail_bytes.specs.Netstring.{netstring}
 use Rattle.local_spawn.specs.Table.{due_at as local_due_at, due_by, due_from, moved, place_after}
-use Rattle.post_law.specs.Posts.{At, Done, Task, done_by, goes_at, tasks_by}
-use Rattle.post_law.specs.Senders.{is_on}
+use Rattle.program_law.specs.Post.Posts.{At, Done, Task, done_by, goes_at, tasks_by}
+use Rattle.program_law.specs.Post.Senders.{is_on}
 use Rattle.send_jobs.specs.declared.attempts.Attempt.{Attempt}
 use Rattle.send_jobs.specs.declared.channels.Channel.TheVariants as channel
 use Rattle.send_jobs.specs.Sending.{lane}

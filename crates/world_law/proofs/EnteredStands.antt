@@ -6,10 +6,10 @@ use Rattle.call_fs.specs.Disk.{Among, Open}
 use Rattle.call_fs.specs.declared.modes.Mode.TheVariants as mode
 use Rattle.call_fs.specs.declared.calls.How.TheVariants as how
 use Rattle.call_fs.specs.declared.program.Port.TheVariants as port
-use Rattle.local_deliver.specs.Deeds.{taken}
-use Rattle.local_spawn.specs.Deliveries.{netstring}
-use Rattle.post_law.specs.Posts.{Done, Task, goes_at}
-use Rattle.post_law.specs.Senders.{is_on}
+use Rattle.call_fs.specs.Past.{taken}
+use Rattle.mail_bytes.specs.Netstring.{netstring}
+use Rattle.program_law.specs.Post.Posts.{Done, Task, goes_at}
+use Rattle.program_law.specs.Post.Senders.{is_on}
 use Rattle.queue_law.specs.Injectors.{IsHeld}
 use Rattle.queue_paths.specs.Names.{split_text}
 use Rattle.send_jobs.specs.declared.attempts.Attempt.{Attempt}

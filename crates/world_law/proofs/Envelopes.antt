@@ -3,7 +3,7 @@ use Rattle.std.proofs.Common.{◌≡◌, ℕ, List, [], ◌∷◌, ◌++◌, tak
 use Rattle.std.specs.Prelude.{All, flat_map}
 use Rattle.std.proofs.lemmas.List.{append-nil, append_assoc, take-append-drop}
 use Rattle.std.proofs.lemmas.List.Elements.{All-head, All-tail, recursion_from_All}
-use Rattle.address_rules.specs.Nuls.{HasNoNul}
+use Rattle.mail_bytes.specs.Texts.{HasNoNul}
 use Rattle.envelope_records.specs.Envelope.{IsAddress, Reading, read_envelope, record_of, records_of}
 use Rattle.envelope_records.specs.Envelope.Reading.{Whole, Broken}
 use Rattle.envelope_records.specs.Envelope.Reading.{Open as OpenReading}

@@ -11,9 +11,9 @@ use Rattle.call_fs.specs.declared.past.NeedData.{NeedData}
 use Rattle.call_fs.specs.declared.past.NeedData.TheVariants as needs
 use Rattle.call_fs.specs.declared.past.Own.{Own}
 use Rattle.call_fs.specs.Survival.{halted}
-use Rattle.channel_law.specs.Tied.{in_hand, is_at}
-use Rattle.channel_law.proofs.Counts.{contained_counts}
-use Rattle.channel_law.proofs.Ties.{at_itself}
+use Rattle.program_law.specs.Channel.Tied.{in_hand, is_at}
+use Rattle.program_law.proofs.Channel.Counts.{contained_counts}
+use Rattle.program_law.proofs.Channel.Ties.{at_itself}
 use Rattle.queue_clean.specs.declared.command.Command.{Command}
 use Rattle.queue_clean.specs.declared.command.Command.TheVariants.{Foop, Todo as Sort}
 use Rattle.queue_clean.specs.declared.row.Row.{Row}
@@ -35,11 +35,11 @@ use Rattle.send_jobs.specs.declared.slots.Slots.{Slots}
 use Rattle.send_jobs.specs.Jobs.{job_of}
 use Rattle.send_jobs.specs.Sending.{lane}
 use Rattle.send_jobs.specs.Slots.{attempt_in}
-use Rattle.sender_law.specs.Control.{AreControls}
-use Rattle.sender_law.specs.Knows.{IsSettledIn, Serves}
-use Rattle.sender_law.specs.Stands.{LaneStands}
-use Rattle.sender_law.specs.Views.{first_at}
-use Rattle.sender_law.proofs.Others.{the_job}
+use Rattle.program_law.specs.Sender.Control.{AreControls}
+use Rattle.program_law.specs.Sender.Knows.{IsSettledIn, Serves}
+use Rattle.program_law.specs.Sender.Stands.{LaneStands}
+use Rattle.program_law.specs.Sender.Views.{first_at}
+use Rattle.program_law.proofs.Sender.Others.{the_job}
 use Rattle.world_events.specs.declared.event.Program.{Program}
 use Rattle.world_events.specs.declared.event.Program.TheVariants.{Injector, Cleaner, Sender, LocalSpawner, RemoteSpawner, Delivery}
 use Rattle.mail_world.specs.History.{Actor, Allowed, ComesOf, Event, Legal, Life, MayBear, State, acted, after, bears, books_after, bouncer_of, disk_after, finished, happens, newborn, next_of, stopped}
@@ -209,7 +209,7 @@ gone_before (Child parent own a program) controls s I L may =
     subst (λ (o : Option Actor). GoneBefore s (bears (acted s parent own 0 o) parent own a program)) (sym may.reads.is) (child_there s parent own a program may)
 gone_before (Generation sender clean lspawn rspawn) controls s I L may = λ x is dead.
     let none : ⊥ = same_life x (newborn sender) (sym (four_sender s.actors sender clean lspawn rspawn) ∙ is) refl dead in absurd none
-gone_before (Report slot letter text) controls s I L may = λ x is dead. record { y = x; is = is; program = refl; past = refl; keeps = λ n h. h }
+gone_before (Report slot output) controls s I L may = λ x is dead. record { y = x; is = is; program = refl; past = refl; keeps = λ n h. h }
 gone_before (End a read ready status) controls s I L may =
     subst (λ (o : Option Actor). GoneBefore s (finished s a (Over status) o)) (sym may.reads.is) (finished_there s a (Over status) may.actor may.reads.is)
 gone_before (Stop a) controls s I L may = subst (λ (o : Option Actor). GoneBefore s (finished s a Stopped o)) (sym may.is) (finished_there s a Stopped may.actor may.is)

@@ -1,8 +1,8 @@
 -- The deliveries that ended with 0 in a slot may be forgotten while nothing is in hand there.
 use Rattle.std.proofs.Common.{◌≡◌, ◌≢◌, ⊎_elim, inl, inr, ℕ, ◌+◌, ◌≤◌, ◌==◌, List, [], ◌∷◌, take, Bool, true, false, if◌then◌else◌, Option, Some, None, refl, sym, ap, ◌∙◌, subst, arith, eq-eqb, ne_eqb}
 use Rattle.call_fs.specs.Disk.{Among}
-use Rattle.post_law.specs.Posts.{AllTell, At, Done, Fares, IsDue, Post, Posted, Tells, WasDoneFor, busy, channel_of, goes_at, in_hand, most, owed_at, reports, told_of, work_of}
-use Rattle.post_law.proofs.Frames.{is_apart}
+use Rattle.program_law.specs.Post.Posts.{AllTell, At, Done, Fares, IsDue, Post, Posted, Tells, WasDoneFor, busy, channel_of, goes_at, in_hand, most, owed_at, reports, told_of, work_of}
+use Rattle.program_law.proofs.Post.Frames.{is_apart}
 use Rattle.send_jobs.specs.declared.attempts.Attempt.{Attempt}
 use Rattle.send_jobs.specs.declared.channels.Channel.{Channel}
 use Rattle.send_jobs.specs.declared.channels.Channel.TheVariants as channel

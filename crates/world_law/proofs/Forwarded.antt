@@ -2,10 +2,10 @@
 use Rattle.std.proofs.Common.{◌≢◌, ℕ, List, [], ◌∷◌}
 use Rattle.call_fs.specs.Disk.{Open}
 use Rattle.call_fs.specs.declared.past.Own.{Own}
-use Rattle.delivery_law.specs.Rests.{DeliveryRests}
-use Rattle.delivery_law.specs.Leaves.{LeavesDrops}
-use Rattle.delivery_law.proofs.Alone.{deliveries_are_left_alone}
-use Rattle.local_steps.specs.declared.arguments.LocalArgs.{LocalArgs}
+use Rattle.program_law.specs.Delivery.Rests.{DeliveryRests}
+use Rattle.program_law.specs.Delivery.Leaves.{LeavesDrops}
+use Rattle.program_law.proofs.Delivery.Alone.{deliveries_are_left_alone}
+use Rattle.local_parts.specs.declared.arguments.LocalArgs.{LocalArgs}
 use Rattle.queue_law.specs.Books.{Books}
 use Rattle.queue_law.specs.Injectors.{IsHeld}
 use Rattle.queue_law.specs.Numbers.{Queue}

@@ -9,9 +9,9 @@ use Rattle.call_fs.specs.declared.past.Own.{Own}
 use Rattle.call_fs.specs.declared.past.NeedData.TheVariants as needs
 use Rattle.call_fs.specs.declared.program.Port.TheVariants as port
 use Rattle.call_fs.specs.declared.program.Ready.{Ready}
-use Rattle.errand_law.specs.Errands.{Awaits, Link, loses}
-use Rattle.errand_law.specs.Errands.Awaits.{Over as Lost}
-use Rattle.errand_law.proofs.Links.{losses_keep}
+use Rattle.program_law.specs.Errand.Errands.{Awaits, Link, loses}
+use Rattle.program_law.specs.Errand.Errands.Awaits.{Over as Lost}
+use Rattle.program_law.proofs.Errand.Links.{losses_keep}
 use Rattle.queue_inject.specs.declared.row.Row.TheVariants as inject
 use Rattle.queue_inject.specs.Table.{row_after}
 use Rattle.queue_clean.specs.Commands.{message_of}
@@ -22,15 +22,15 @@ use Rattle.send_core.specs.declared.row.Row.{Row}
 use Rattle.send_core.specs.declared.row.Row.TheVariants as at
 use Rattle.send_core.specs.Table.{desk_after}
 use Rattle.send_core.specs.Turn.{known_of}
-use Rattle.send_steps.specs.declared.rows.FinishRow.TheVariants as finish
+use Rattle.send_parts.specs.declared.rows.FinishRow.TheVariants as finish
 use Rattle.todo_pass.specs.declared.row.Row.{Row as PassRow}
 use Rattle.todo_pass.specs.declared.row.Row.TheVariants as todo
 use Rattle.todo_pass.specs.Table.{Pass}
-use Rattle.delivery_law.specs.Rests.{DeliveryRests}
-use Rattle.delivery_law.proofs.Stay.{drops_stay}
+use Rattle.program_law.specs.Delivery.Rests.{DeliveryRests}
+use Rattle.program_law.proofs.Delivery.Stay.{drops_stay}
 use Rattle.local_deliver.specs.Carried.{IsCarried}
 use Rattle.local_deliver.proofs.Carrying.{carried_out}
-use Rattle.local_steps.specs.declared.arguments.LocalArgs.{LocalArgs}
+use Rattle.local_parts.specs.declared.arguments.LocalArgs.{LocalArgs}
 use Rattle.queue_law.specs.Books.{Books}
 use Rattle.queue_law.specs.Injectors.{IsHeld}
 use Rattle.queue_law.specs.Numbers.{Queue, About, about, IsPreprocessed}
@@ -41,14 +41,14 @@ use Rattle.queue_law.proofs.Frame.{injector_frame, still_there}
 use Rattle.queue_law.proofs.Injectors.{injector_done, injector_over}
 use Rattle.queue_law.proofs.RestIsKept.{rest_is_kept}
 use Rattle.queue_law.proofs.Tests.{unless_same}
-use Rattle.sender_law.specs.InTodo.{IsExpected}
-use Rattle.sender_law.specs.ControlFiles.{LeavesControls}
-use Rattle.sender_law.specs.Stands.{SparesSorted}
-use Rattle.sender_law.specs.LeftAlone.{LeavesPass, LeavesRow}
-use Rattle.sender_law.proofs.Asking.{texts_keep}
-use Rattle.sender_law.proofs.ControlsRead.{controls_are_read}
-use Rattle.sender_law.proofs.ControlsStay.{controls_stay}
-use Rattle.sender_law.proofs.LeftAlone.{senders_are_left_alone}
+use Rattle.program_law.specs.Sender.InTodo.{IsExpected}
+use Rattle.program_law.specs.Sender.ControlFiles.{LeavesControls}
+use Rattle.program_law.specs.Sender.Stands.{SparesSorted}
+use Rattle.program_law.specs.Sender.LeftAlone.{LeavesPass, LeavesRow}
+use Rattle.program_law.proofs.Sender.Asking.{texts_keep}
+use Rattle.program_law.proofs.Sender.ControlsRead.{controls_are_read}
+use Rattle.program_law.proofs.Sender.ControlsStay.{controls_stay}
+use Rattle.program_law.proofs.Sender.LeftAlone.{senders_are_left_alone}
 use Rattle.world_pipes.specs.Pipework.{Pipe, closed, without_writer, is_writer, writer}
 use Rattle.world_events.specs.declared.event.Program.{Program}
 use Rattle.world_events.specs.declared.event.Program.TheVariants.{Injector, Cleaner, Sender, LocalSpawner, RemoteSpawner, Delivery}

@@ -5,16 +5,16 @@ use Rattle.address_rules.specs.declared.controls.Controls.{Controls}
 use Rattle.call_fs.specs.declared.crash_file_system.Survival.{Survival}
 use Rattle.call_fs.specs.Survival.{AllSurvive}
 use Rattle.call_fs.specs.declared.past.Own.{Own}
-use Rattle.errand_law.specs.Errands.{Awaits, Errand, Link}
-use Rattle.errand_law.specs.Errands.Awaits.{Over as Lost}
-use Rattle.errand_law.proofs.Links.{losses_keep}
+use Rattle.program_law.specs.Errand.Errands.{Awaits, Errand, Link}
+use Rattle.program_law.specs.Errand.Errands.Awaits.{Over as Lost}
+use Rattle.program_law.proofs.Errand.Links.{losses_keep}
 use Rattle.queue_clean.specs.Table.{Place}
 use Rattle.queue_law.specs.Numbers.{Queue}
 use Rattle.queue_law.specs.Steps.{after_halt}
 use Rattle.queue_law.proofs.Halts.{injector_halt, sound_after}
 use Rattle.queue_law.proofs.Looks.{mapped_some}
-use Rattle.sender_law.specs.ControlFiles.{LeavesControls}
-use Rattle.sender_law.proofs.ControlsStay.{controls_stay}
+use Rattle.program_law.specs.Sender.ControlFiles.{LeavesControls}
+use Rattle.program_law.proofs.Sender.ControlsStay.{controls_stay}
 use Rattle.actor_names.specs.MailNames.{members}
 use Rattle.world_events.specs.declared.event.Program.{Program}
 use Rattle.world_events.specs.declared.event.Program.TheVariants.{Injector, Cleaner, Sender, LocalSpawner, RemoteSpawner, Delivery}

@@ -1,19 +1,19 @@
 -- Each event keeps what holds of the whole system, which so holds after each legal history; and each giving to a spawner is an attempt.
-use Rattle.std.proofs.Common.{◌≡◌, inl, inr, ⊎_elim, ℕ, List, [], ◌∷◌, Some, None, refl, sym, ap, ◌∙◌, subst, arith}
+use Rattle.std.proofs.Common.{◌≡◌, ◌≢◌, ◌⊎◌, inl, inr, ⊎_elim, ℕ, List, [], ◌∷◌, map, false, Some, None, refl, sym, ap, ◌∙◌, subst, arith}
+use Rattle.std.specs.Prelude.{slice_get}
 use Rattle.address_rules.specs.declared.controls.Controls.{Controls}
-use Rattle.call_fs.specs.Disk.{Among, Disk}
+use Rattle.call_fs.specs.Disk.{Among, Disk, IsWhole}
 use Rattle.call_fs.specs.declared.calls.CallData.TheVariants.{Link}
 use Rattle.call_fs.specs.declared.past.NeedData.{NeedData}
 use Rattle.call_fs.specs.declared.past.NeedData.TheVariants as needs
 use Rattle.call_fs.specs.declared.past.Own.{Own}
 use Rattle.call_fs.specs.declared.program.Ready.{Ready}
-use Rattle.delivery_law.proofs.Events.{linked_is_whole}
-use Rattle.local_deliver.specs.Deeds.{taken}
+use Rattle.program_law.proofs.Delivery.Events.{linked_is_whole}
+use Rattle.call_fs.specs.Past.{taken}
 use Rattle.local_deliver.specs.Table.{Next as DeliversNext}
-use Rattle.local_steps.specs.declared.arguments.LocalArgs.{LocalArgs}
-use Rattle.local_steps.specs.Inputs.{message_in}
-use Rattle.local_steps.specs.Texts.{maildir_text}
-use Rattle.maildir_drop.specs.Laws.{IsWhole}
+use Rattle.local_parts.specs.declared.arguments.LocalArgs.{LocalArgs}
+use Rattle.local_parts.specs.Inputs.{message_in}
+use Rattle.local_parts.specs.Texts.{maildir_text}
 use Rattle.mail_bytes.specs.Moments.{IsMoment}
 use Rattle.queue_inject.specs.declared.injection.Arguments.{Arguments}
 use Rattle.queue_law.specs.Accounts.{Accounted}
@@ -21,15 +21,27 @@ use Rattle.queue_law.specs.Accounts.Accounted.{Returned}
 use Rattle.queue_law.specs.Books.{IsValid}
 use Rattle.queue_law.specs.Notes.{told_name}
 use Rattle.queue_law.specs.Numbers.{Queue}
-use Rattle.queue_law.specs.Routes.{lane_part}
+use Rattle.queue_law.specs.Routes.{lane_part, sender_of}
 use Rattle.queue_law.proofs.Looks.{not_found}
 use Rattle.queue_paths.specs.Names.{path}
 use Rattle.queue_paths.specs.Names.Name.{Of}
-use Rattle.send_core.specs.Table.{desk_after, due_at, port_of, row_now}
+use Rattle.send_core.specs.Agrees.{has_ended, task_of}
+use Rattle.send_core.specs.Past.{Task, account, first_of}
+use Rattle.send_core.specs.Table.{Next, arrive, desk_after, due_at, port_of, row_now}
+use Rattle.send_core.specs.declared.desk.Desk.{Desk}
+use Rattle.send_core.specs.declared.row.Row.{Row}
+use Rattle.send_core.specs.declared.row.Row.TheVariants as at
+use Rattle.send_core.proofs.Agreed.{lanes_agree}
+use Rattle.send_core.proofs.Runs.{gives_requests}
+use Rattle.send_jobs.specs.declared.attempts.Attempt.{Attempt}
+use Rattle.send_jobs.specs.Sending.{lane}
+use Rattle.send_parts.specs.Requests.{request_of, to_slot}
+use Rattle.call_fs.specs.Past.{IsRunBy}
+use Rattle.world_law.proofs.Ran.{have_run}
 use Rattle.send_jobs.specs.declared.channels.Channel.{Channel}
-use Rattle.sender_law.specs.Control.{AreControls}
-use Rattle.sender_law.proofs.Arrive.{arrived}
-use Rattle.sender_law.proofs.Asking.{requests_are_texts}
+use Rattle.program_law.specs.Sender.Control.{AreControls}
+use Rattle.program_law.proofs.Sender.Arrive.{arrived}
+use Rattle.program_law.proofs.Sender.Asking.{requests_are_texts}
 use Rattle.world_events.specs.declared.event.Program.{Program}
 use Rattle.world_events.specs.declared.event.Program.TheVariants.{Injector, Cleaner, Sender, LocalSpawner, RemoteSpawner, Delivery}
 use Rattle.mail_world.specs.History.{Actor, Event, IsCleaner, IsDelivery, IsLocalSpawner, IsRemoteSpawner, IsSender, Legal, Life, MayDo, MayRun, State, after, happens, next_of}
@@ -39,9 +51,9 @@ use Rattle.mail_world.specs.Untouched.{queue}
 use Rattle.world_law.specs.Bounces.{BouncesAreAccepted, BouncesAreReadLast, IsAddressed, IsBounceOf, IsByBounce, IsNamedInBounce, ReturnedRecipientsAreNamed}
 use Rattle.world_law.specs.Deliveries.{DropsAreWhole}
 use Rattle.world_law.specs.Fares.{DeliveryFares, FaresBy, SenderFares}
-use Rattle.world_law.specs.Headline.{AttemptsAreSound, IsAttempt, Safe}
+use Rattle.world_law.specs.Headline.{AttemptsAreSound, IsAttempt, SafeState}
 use Rattle.world_law.specs.Inv.{Inv}
-use Rattle.world_law.specs.Laws.{Always, IsKeptBy}
+use Rattle.world_law.specs.Laws.{Always, AreAccounted, IsKeptBy}
 use Rattle.world_law.proofs.Begins.{inv_begins}
 use Rattle.world_law.proofs.BounceEnvelopes.{bounce_addressed, not_double}
 use Rattle.world_law.proofs.BouncesLast.{channels_are_gone, opening}
@@ -74,7 +86,7 @@ event_keeps (Start a program) = starts_keep a program
 event_keeps (Act a own wrote) = λ controls s I may. act_keeps a own wrote controls s I may may.actor.program refl
 event_keeps (Child parent own a program) = children_keep parent own a program
 event_keeps (Generation sender clean lspawn rspawn) = generations_keep sender clean lspawn rspawn
-event_keeps (Report slot letter text) = reports_keep slot letter text
+event_keeps (Report slot output) = reports_keep slot output
 event_keeps (End a read ready status) = ends_keep a read ready status
 event_keeps (Stop a) = stops_keep a
 event_keeps (Moment m) = moments_keep m
@@ -85,8 +97,12 @@ always controls d [] has legal = inv_begins controls d has legal
 always controls d (e ∷ before) has legal = event_keeps e controls (after d before) (always controls d before has legal.0) legal.1
 
 -- so each state is safe
-pub safe_always : (controls : Controls) (d : Disk) (before : List Event) → AreControls controls d → Legal d before → Safe controls (after d before)
-safe_always controls d before has legal = inv_is_safe controls (after d before) (always controls d before has legal)
+pub safe_always : (controls : Controls) (d : Disk) (before : List Event) → AreControls controls d → Legal d before → SafeState (after d before)
+safe_always controls d before has legal = (inv_is_safe controls (after d before) (always controls d before has legal)).0
+
+-- and each recipient is accounted for by the ledgers
+pub accounts_always : (controls : Controls) (d : Disk) (before : List Event) → AreControls controls d → Legal d before → AreAccounted controls (after d before)
+accounts_always controls d before has legal = (inv_is_safe controls (after d before) (always controls d before has legal)).1
 
 -- Attempts
 
@@ -101,33 +117,70 @@ due_of : (program : Program) (past : List Own) (read : ℕ) (ready : Ready) (sta
     → due_at (row_now (desk_after None past) read ready) (desk_after None past) ≡ due
 due_of program past read ready start due is next = subst (λ (p : Program). next_of p past read ready ≡ due) is next
 
-module _ (controls : Controls) (s : State) (I : Inv controls s) (a : List ℕ) (own : Own) (wrote : ℕ) (may : MayDo s a own wrote) (start : ℕ) (is : may.actor.program ≡ Sender start) where
+-- a sender that gives hasn't ended
+goes_on : (row : Row) (d : Desk) (now : ℕ) (ready : Ready) (ch : Channel) (text : List ℕ) → due_at (arrive row d now ready) d ≡ needs.Give (port_of ch) text → has_ended row ≡ false
+goes_on (at.Ended status) d now ready ch text e = absurd (cc)
+goes_on row d now ready ch text e = refl
+
+-- the first of those that are left
+first_left : (left : List Attempt) (a : Attempt) (tasks : List Task) → slice_get left 0 ≡ Some a → (left ≡ []) ⊎ (map task_of left ≡ tasks) → (rest : List Task) × (tasks ≡ task_of a ∷ rest)
+first_left [] a tasks first agrees = absurd (cc)
+first_left (b ∷ left) a tasks first agrees =
+    let same : b ≡ a = cc in
+    ⊎_elim
+    (λ (none : b ∷ left ≡ []). absurd (cc))
+    (λ (are : map task_of (b ∷ left) ≡ tasks). (map task_of left, sym are ∙ ap (λ (z : Attempt). task_of z ∷ map task_of left) same))
+    agrees
+
+-- two requests with one text are for one slot
+same_slot : (text : List ℕ) (j k n m : ℕ) (from to of by : List ℕ) → text ≡ to_slot j (request_of n from to) → text ≡ to_slot k (request_of m of by) → j ≡ k
+same_slot text j k n m from to of by one two = sym (ap first_of one) ∙ ap first_of two
+
+text_for : (text : List ℕ) (j k n : ℕ) (from to : List ℕ) → text ≡ to_slot j (request_of n from to) → j ≡ k → text ≡ to_slot k (request_of n from to)
+text_for text j k n from to is same = is ∙ ap (λ (slot : ℕ). to_slot slot (request_of n from to)) same
+
+same_first : (tasks rest more : List Task) (t u : Task) → tasks ≡ t ∷ rest → tasks ≡ u ∷ more → u ≡ t
+same_first tasks rest more t u one two = let both : t ∷ rest ≡ u ∷ more = sym one ∙ two in cc
+
+module _ (controls : Controls) (s : State) (I : Inv controls s) (a : List ℕ) (own : Own) (wrote : ℕ) (may : MayDo s a own wrote) (start : ℕ) (is : may.actor.program ≡ Sender start)
+    (ran : IsRunBy (Next None) may.actor.past) where
   attempted : (ch : Channel) (text : List ℕ) → own.due ≡ needs.Give (port_of ch) text → IsAttempt s may.actor.past ch text
   attempted ch text given =
       let x = may.actor in
+      let d = desk_after None x.past in
       let F = sender_fares controls s.now (queue s I.role) a x.program x.past x.life start is may.reads.alive (I.fares a x may.reads.is) in
       let soon = may.reads.no_later in
       let moment : IsMoment own.read = (let m = I.moment in omega (arith, m, soon)) in
       let due = due_of x.program x.past own.read own.ready start (needs.Give (port_of ch) text) is (may.due ∙ given) in
-      let w = requests_are_texts controls s.now (queue s I.role) a (desk_after None x.past) own.read own.ready ch text soon moment F.stands F.texts due in
+      let w = requests_are_texts controls s.now (queue s I.role) a d own.read own.ready ch text soon moment F.stands F.texts due in
+      let g = gives_requests None x.past own.read own.ready ran ch text due in
+      let agrees = lanes_agree None x.past ran ch (goes_on d.row d own.read own.ready ch text due) in
+      let first = first_left (lane ch d.slots).left w.attempt (account ch x.past).to_give w.next_is agrees.to_give in
+      let task : g.task ≡ task_of w.attempt = same_first (account ch x.past).to_give first.0 g.rest (task_of w.attempt) g.task first.1 g.next in
+      let slot : w.slot ≡ g.slot = same_slot text w.slot g.slot w.attempt.n g.task.n (sender_of w.injection.args) w.attempt.address g.sender g.task.address w.is g.is in
       record {
         attempt = w.attempt;
-        slot = w.slot;
+        rest = first.0;
+        slot = g.slot;
         injection = w.injection;
-        next_is = w.next_is;
+        next_is = first.1;
         reads = w.reads;
         lives = w.lives;
-        free = w.free;
-        text_is = w.is;
-        alone = w.alone;
+        free = g.free;
+        lowest = g.lowest;
+        limited = g.limited;
+        text_is = text_for text w.slot g.slot w.attempt.n (sender_of w.injection.args) w.attempt.address w.is slot;
+        alone = subst (λ (z : Task). (k : ℕ) (t : Task) → (account ch x.past).in_flight k ≡ Some t → t.n ≡ z.n → t.place ≢ z.place) task g.once;
       }
 
 pub attempts_are_sound : AttemptsAreSound
 attempts_are_sound controls d a own wrote before has legal x is start program ch text given =
     let may = legal.1 in
     let same : may.actor ≡ x = some_actor may.actor x (sym may.reads.is ∙ is) in
+    let program_is : may.actor.program ≡ Sender start = ap (λ (y : Actor). y.program) same ∙ program in
+    let ran : IsRunBy (Next None) may.actor.past = subst (λ (p : Program). IsRunBy (next_of p) may.actor.past) program_is (have_run d before legal.0 a may.actor may.reads.is) in
     subst (λ (y : Actor). IsAttempt (after d before) y.past ch text) same
-    (attempted controls (after d before) (always controls d before has legal.0) a own wrote may start (ap (λ (y : Actor). y.program) same ∙ program) ch text given)
+    (attempted controls (after d before) (always controls d before has legal.0) a own wrote may start program_is ran ch text given)
 
 pub bounces_are_accepted : BouncesAreAccepted
 bounces_are_accepted controls d before has legal i h x among =

@@ -4,8 +4,8 @@ use Rattle.call_fs.specs.Disk.{Among}
 use Rattle.call_fs.specs.declared.past.Own.{Own}
 use Rattle.call_fs.specs.declared.program.Port.TheVariants as port
 use Rattle.local_spawn.specs.Table.{place_after as local_after}
-use Rattle.post_law.specs.Posts.{Fares, IsTaskFor, Post, Posted, Task, goes_at, in_hand}
-use Rattle.post_law.specs.Senders.{is_on}
+use Rattle.program_law.specs.Post.Posts.{Fares, IsTaskFor, Post, Posted, Task, goes_at, in_hand}
+use Rattle.program_law.specs.Post.Senders.{is_on}
 use Rattle.send_core.specs.declared.desk.Desk.{Desk}
 use Rattle.send_core.specs.Table.{desk_after}
 use Rattle.send_jobs.specs.declared.attempts.Attempt.{Attempt}

@@ -11,12 +11,12 @@ use Rattle.call_fs.specs.declared.past.Own.{Own}
 use Rattle.queue_inject.specs.declared.injection.Arguments.{Arguments}
 use Rattle.queue_inject.specs.Table.{Next}
 use Rattle.queue_inject.proofs.Acts.{IsAlone, next_alone}
-use Rattle.delivery_law.proofs.Stay.{drops_stay}
+use Rattle.program_law.proofs.Delivery.Stay.{drops_stay}
 use Rattle.queue_law.specs.Numbers.{Queue}
 use Rattle.queue_law.specs.Steps.{queue_after}
 use Rattle.queue_law.proofs.Injectors.{injector_calls}
-use Rattle.sender_law.proofs.ControlsStay.{controls_stay}
-use Rattle.sender_law.proofs.Spares.{others_spare}
+use Rattle.program_law.proofs.Sender.ControlsStay.{controls_stay}
+use Rattle.program_law.proofs.Sender.Spares.{others_spare}
 use Rattle.world_events.specs.declared.event.Program.{Program}
 use Rattle.world_events.specs.declared.event.Program.TheVariants.{Injector}
 use Rattle.mail_world.specs.History.{Actor, ComesOf, Life, MayRead, MayRun, State, acted, next_of}

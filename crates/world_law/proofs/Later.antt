@@ -2,7 +2,7 @@
 use Rattle.std.proofs.Common.{inl, inr, ℕ, ◌≤◌, ◌==◌, List, Bool, true, ◌&&◌, Some, None, refl, bytes_eq, codes}
 use Rattle.address_rules.specs.declared.controls.Controls.{Controls}
 use Rattle.call_fs.specs.declared.past.Own.{Own}
-use Rattle.errand_law.specs.Errands.{Link}
+use Rattle.program_law.specs.Errand.Errands.{Link}
 use Rattle.queue_clean.specs.Commands.{message_of}
 use Rattle.queue_clean.specs.Table.{place_after}
 use Rattle.send_core.specs.Table.{desk_after}
@@ -10,12 +10,12 @@ use Rattle.queue_law.specs.Numbers.{Queue}
 use Rattle.queue_law.proofs.Injectors.{injector_later}
 use Rattle.queue_law.proofs.Rests.{closed_later}
 use Rattle.queue_law.proofs.RestIsKept.{rest_is_kept}
-use Rattle.sender_law.proofs.LeftAlone.{senders_are_left_alone}
+use Rattle.program_law.proofs.Sender.LeftAlone.{senders_are_left_alone}
 use Rattle.world_events.specs.declared.event.Program.{Program}
 use Rattle.world_events.specs.declared.event.Program.TheVariants.{Injector, Cleaner, Sender, LocalSpawner, RemoteSpawner, Delivery}
 use Rattle.world_pipes.specs.Pipework.{Pipework, with_report}
 use Rattle.world_pipes.specs.Pipework.Tenant.{Remote}
-use Rattle.mail_world.specs.History.{Life, happens, report_text}
+use Rattle.mail_world.specs.History.{Life, happens}
 use Rattle.mail_world.specs.History.Event.{Moment, Report}
 use Rattle.mail_world.specs.History.Life.{Alive, Over, Stopped}
 use Rattle.mail_world.specs.Untouched.{queue}
@@ -71,7 +71,7 @@ reported_runs w slot bytes b d t is = slot_put (bytes_eq b (codes "rspawn") && (
 
 -- it is put into a pipe of the remote spawner
 pub reports_keep : ReportsKeep
-reports_keep slot letter text controls s I may = record {
+reports_keep slot output controls s I may = record {
   role = I.role;
   moment = I.moment;
   sound = I.sound;
@@ -81,7 +81,7 @@ reports_keep slot letter text controls s I may = record {
   fares = I.fares;
   control = I.control;
   old = I.old;
-  tenants = tenants_kept s (happens s (Report slot letter text)) (λ a x h. (x, h, refl)) (λ a x h. refl) (reported_runs s.pipework slot (report_text letter text)) I.tenants;
-  child = λ a x h. child_kept s (happens s (Report slot letter text)) (λ a x h. (x, h, refl)) (reported_runs s.pipework slot (report_text letter text)) I.tenants a x.program x.past x.life (I.child a x h);
+  tenants = tenants_kept s (happens s (Report slot output)) (λ a x h. (x, h, refl)) (λ a x h. refl) (reported_runs s.pipework slot output) I.tenants;
+  child = λ a x h. child_kept s (happens s (Report slot output)) (λ a x h. (x, h, refl)) (reported_runs s.pipework slot output) I.tenants a x.program x.past x.life (I.child a x h);
   errands = I.errands;
 }

@@ -12,9 +12,9 @@ use Rattle.call_fs.specs.declared.past.Own.{Own}
 use Rattle.call_fs.specs.declared.program.Port.{Port}
 use Rattle.call_fs.specs.declared.program.Port.TheVariants as port
 use Rattle.mail_bytes.specs.Moments.{IsMoment}
-use Rattle.delivery_law.proofs.Events.{deliveries_keep as rests_keep}
+use Rattle.program_law.proofs.Delivery.Events.{deliveries_keep as rests_keep}
 use Rattle.local_spawn.specs.Table.{place_after as local_after}
-use Rattle.local_steps.specs.declared.arguments.LocalArgs.{LocalArgs}
+use Rattle.local_parts.specs.declared.arguments.LocalArgs.{LocalArgs}
 use Rattle.queue_paths.specs.Names.Name.{Of}
 use Rattle.queue_inject.specs.declared.injection.Arguments.{Arguments}
 use Rattle.queue_law.specs.Books.{Books, Child as Bouncer, Injection, IsInjected, IsLater}
@@ -32,9 +32,9 @@ use Rattle.send_core.specs.Booked.{booked_at}
 use Rattle.send_core.specs.Table.{desk_after, due_at, row_now}
 use Rattle.send_core.specs.declared.desk.Desk.{Desk}
 use Rattle.send_core.specs.declared.row.Row.{Row}
-use Rattle.sender_law.specs.Takings.{booked_queue}
-use Rattle.sender_law.proofs.ControlsRead.{controls_are_read}
-use Rattle.sender_law.proofs.Whole.{senders_keep as sender_keeps}
+use Rattle.program_law.specs.Sender.Takings.{booked_queue}
+use Rattle.program_law.proofs.Sender.ControlsRead.{controls_are_read}
+use Rattle.program_law.proofs.Sender.Whole.{senders_keep as sender_keeps}
 use Rattle.spawner_parts.specs.Table.{row_now as remote_now}
 use Rattle.world_events.specs.declared.event.Program.{Program}
 use Rattle.world_events.specs.declared.event.Program.TheVariants.{Injector, Cleaner, Sender, LocalSpawner, RemoteSpawner, Delivery}
@@ -302,7 +302,7 @@ leaves controls s I (Start a program) may = of_none s (Start a program) refl ref
 leaves controls s I (Act a own wrote) may = of_actor s (Act a own wrote) a (λ o other. other) (act_leaves controls s I a own wrote may)
 leaves controls s I (Child parent own a program) may = of_actor s (Child parent own a program) parent (λ o other. other) (child_leaves s parent own a program may)
 leaves controls s I (Generation sender clean lspawn rspawn) may = of_none s (Generation sender clean lspawn rspawn) refl refl refl refl
-leaves controls s I (Report slot letter text) may = of_none s (Report slot letter text) refl refl refl refl
+leaves controls s I (Report slot output) may = of_none s (Report slot output) refl refl refl refl
 leaves controls s I (End a read ready status) may = of_actor s (End a read ready status) a (λ o other. other) (over_leaves s a (Over status) may.actor may.reads.is)
 leaves controls s I (Stop a) may = of_actor s (Stop a) a (λ o other. other) (over_leaves s a Stopped may.actor may.is)
 leaves controls s I (Moment m) may = of_none s (Moment m) refl refl refl refl

@@ -6,7 +6,7 @@ use Rattle.mail_bytes.specs.Told.{OnTold}
 use Rattle.mail_world.specs.History.{Event, Legal, Opening}
 use Rattle.mail_world.specs.World.{Leads}
 use Rattle.world_events.specs.declared.event.Event.{Event as Kept}
-use Rattle.sender_law.specs.Control.{AreControls}
+use Rattle.program_law.specs.Sender.Control.{AreControls}
 use Rattle.world_law.specs.Headline.{EachPromised, IsSafeBy}
 use Rattle.world_law.proofs.Alone.{stays_safe}
 use Rattle.world_law.proofs.Promise.{headline}

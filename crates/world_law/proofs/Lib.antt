@@ -14,6 +14,12 @@ pub mod Held
 pub mod Gone
 -- a column of the ledgers
 pub mod Columns
+-- the lines of the ledgers, in the lives of message numbers
+pub mod Lives
+-- from the ledgers to what happened
+pub mod Ledger
+-- what a sender hears, by its past
+pub mod Heard
 -- the bounces in ledgers
 pub mod Bounces
 -- texts that end at a mark

@@ -9,8 +9,8 @@ use Rattle.call_fs.specs.declared.calls.Answer.TheVariants as answer
 use Rattle.call_fs.specs.declared.calls.Fd.{Fd}
 use Rattle.call_fs.specs.declared.calls.FsError.TheVariants as why
 use Rattle.call_fs.specs.declared.file_system.TheConstants.{PIECE}
-use Rattle.local_spawn.specs.Deliveries.{netstring}
-use Rattle.post_law.specs.Posts.{Task}
+use Rattle.mail_bytes.specs.Netstring.{netstring}
+use Rattle.program_law.specs.Post.Posts.{Task}
 use Rattle.queue_law.specs.Injectors.{IsHeld}
 use Rattle.spawner_parts.specs.declared.place.Place.{Place}
 use Rattle.spawner_parts.specs.declared.row.Row.TheVariants as at
@@ -142,7 +142,7 @@ module _ (controls : Controls) (s : State) (I : Inv controls s) (n : ℕ) (stays
   has_file =
       let h = taken_by (I.sound.fine n) in
       let it = found q.disk.names q.disk.files (Of Mess n) h.mess h.mess_there in
-      let number : h.mess.number ≡ n = (inv_is_safe controls s I).numbers n h.mess.number it.0 in
+      let number : h.mess.number ≡ n = (inv_is_safe controls s I).0.numbers n h.mess.number it.0 in
       record {
         message = entered h.injection.args;
         is = record { injection = h.injection; lives = h.lives; accepted = h.accepted; text = refl };

@@ -10,11 +10,11 @@ use Rattle.call_fs.specs.declared.past.NeedData.{NeedData}
 use Rattle.call_fs.specs.declared.past.NeedData.TheVariants as needs
 use Rattle.call_fs.specs.declared.past.Own.{Own}
 use Rattle.call_fs.specs.declared.program.Port.TheVariants as port
-use Rattle.sender_law.specs.Control.{AreControls}
+use Rattle.program_law.specs.Sender.Control.{AreControls}
 use Rattle.world_pipes.specs.Pipework.{Pipe, closed, fresh, given, is_member, is_writer, mouth, writer}
 use Rattle.world_pipes.specs.Pipework.Tenant.{Runs}
 use Rattle.world_events.specs.declared.event.Program.{Program}
-use Rattle.mail_world.specs.History.{Actor, Allowed, Event, Legal, Life, State, acted, after, bears, finished, happens, report_text, slot_by}
+use Rattle.mail_world.specs.History.{Actor, Allowed, Event, Legal, Life, State, acted, after, bears, finished, happens, slot_by}
 use Rattle.mail_world.specs.History.Event.{Start, Act, Child, Generation, Report, End, Stop, Moment, Halt}
 use Rattle.mail_world.specs.History.Life.{Over, Stopped}
 use Rattle.mail_world.proofs.Members.{member_contained}
@@ -80,8 +80,8 @@ newcomers_keep (Generation sender clean lspawn rspawn) controls s I N may = λ b
     let u = put_none _ (codes "clean") _ b v.1 in
     let t = put_none s.actors (codes "sender") _ b u.1 in
     fresh_none (is_member b) (s.pipework.pipes b port.Input) (N b t.1 apart)
-newcomers_keep (Report slot letter text) controls s I N may = λ b gone apart.
-    ap (λ (p : Pipe). p.bytes) (away_same s.pipework.pipes (Some (mouth (codes "rspawn") (port.Program slot))) (λ pipe. closed (given (report_text letter text) pipe)) b port.Input refl)
+newcomers_keep (Report slot output) controls s I N may = λ b gone apart.
+    ap (λ (p : Pipe). p.bytes) (away_same s.pipework.pipes (Some (mouth (codes "rspawn") (port.Program slot))) (λ pipe. closed (given output pipe)) b port.Input refl)
     ∙ N b gone apart
 newcomers_keep (End a read ready status) controls s I N may = ends controls s I N a (Over status) (s.actors a) refl
 newcomers_keep (Stop a) controls s I N may = ends controls s I N a Stopped (s.actors a) refl

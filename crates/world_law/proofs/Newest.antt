@@ -134,7 +134,7 @@ module _ (d : Disk) (a : List ℕ) (own : Own) (call : CallData) (asked : own.du
       let c = put_new own one (codes "clean") a clean l.1 in
       let w = put_new own actors (codes "sender") a sender c.1 in
       later (Generation sender clean lspawn rspawn) before (r.0 ∙ (l.0 ∙ (c.0 ∙ w.0))) (was_made before legal.0 w.1)
-  was_made (Report slot letter text ∷ before) legal h = later (Report slot letter text) before refl (was_made before legal.0 h)
+  was_made (Report slot output ∷ before) legal h = later (Report slot output) before refl (was_made before legal.0 h)
   was_made (End b read ready status ∷ before) legal h =
       let s = after d before in
       let w = finished_newest own s b a (Over status) (λ dead. absurd (cc)) (s.actors b) h in

@@ -15,8 +15,8 @@ use Rattle.call_fs.specs.declared.past.NeedData.{NeedData}
 use Rattle.call_fs.specs.declared.past.NeedData.TheVariants as needs
 use Rattle.call_fs.specs.declared.past.Own.{Own}
 use Rattle.call_fs.specs.declared.program.Ready.{Ready}
-use Rattle.errand_law.specs.OldNames.{WasOld}
-use Rattle.errand_law.proofs.OldNames.{old_names_go}
+use Rattle.program_law.specs.Errand.OldNames.{WasOld}
+use Rattle.program_law.proofs.Errand.OldNames.{old_names_go}
 use Rattle.queue_clean.specs.declared.command.Command.{Command}
 use Rattle.queue_clean.specs.declared.command.Command.TheVariants.{Foop, Todo}
 use Rattle.queue_clean.specs.declared.row.Row.{Row}
@@ -37,7 +37,7 @@ use Rattle.queue_paths.specs.Names.{Name, parse, path}
 use Rattle.queue_paths.specs.Names.Name.{Of, Pid}
 use Rattle.queue_paths.specs.Names.Part.{Intd}
 use Rattle.queue_paths.proofs.Paths.{parse-path, path_injective}
-use Rattle.sender_law.proofs.Gone.{file_call}
+use Rattle.program_law.proofs.Sender.Gone.{file_call}
 use Rattle.world_events.specs.declared.event.Program.{Program}
 use Rattle.world_events.specs.declared.event.Program.TheVariants.{Cleaner}
 use Rattle.mail_world.specs.History.{Actor, ComesOf, Event, Legal, Life, State, after, next_of}

@@ -1,6 +1,6 @@
 -- Each delivery was started with words that have no NUL, where they may go into an envelope.
 use Rattle.std.proofs.Common.{◌≡◌, ℕ, List, [], ◌∷◌, Bool, true, false, Option, Some, None, refl, sym, subst, codes, if◌then◌else◌}
-use Rattle.address_rules.specs.Nuls.{HasNoNul}
+use Rattle.mail_bytes.specs.Texts.{HasNoNul}
 use Rattle.call_fs.specs.Disk.{Disk}
 use Rattle.call_fs.specs.Maps.{put_at}
 use Rattle.call_fs.specs.declared.calls.CallData.{CallData}
@@ -21,7 +21,7 @@ use Rattle.local_spawn.specs.declared.place.Place.{Place as LocalPlace}
 use Rattle.local_spawn.specs.declared.row.Row.{Row as LocalRow}
 use Rattle.local_spawn.specs.declared.row.Row.TheVariants as local
 use Rattle.local_spawn.specs.Table.{due_at as local_due, place_after as local_after, program_of as local_asks}
-use Rattle.local_steps.specs.declared.arguments.LocalArgs.{LocalArgs}
+use Rattle.local_parts.specs.declared.arguments.LocalArgs.{LocalArgs}
 use Rattle.maildir_drop.specs.declared.names.DropNames.{DropNames}
 use Rattle.maildir_drop.specs.declared.row.Row.{Row as DropRow}
 use Rattle.maildir_drop.specs.declared.row.Row.TheVariants as drop
@@ -33,7 +33,7 @@ use Rattle.queue_inject.proofs.Acts.{IsAlone, next_alone}
 use Rattle.queue_law.proofs.Looks.{mapped_some}
 use Rattle.remote_spawn.specs.Table.{place_after as remote_after, program_of as remote_asks}
 use Rattle.send_core.specs.Table.{desk_after, row_now as sender_row}
-use Rattle.sender_law.proofs.Programs.{starts_of}
+use Rattle.program_law.proofs.Sender.Programs.{starts_of}
 use Rattle.spawner_parts.specs.Table.{row_now as spawn_now}
 use Rattle.world_events.specs.declared.event.Program.{Program}
 use Rattle.world_events.specs.declared.event.Program.TheVariants.{Injector, Cleaner, Sender, LocalSpawner, RemoteSpawner, Delivery}
@@ -184,7 +184,7 @@ module _ (s : State) (W : ArePlainIn s.actors) where
       (put_plain two (codes "lspawn") (newborn lspawn) (local_plain lspawn may.kinds.2)
       (put_plain one (codes "clean") (newborn cleaner) (cleaner_plain cleaner may.kinds.1)
       (put_plain s.actors (codes "sender") (newborn sender) (sender_plain sender may.kinds.0) W)))
-  event_plain (Report slot letter text) may = W
+  event_plain (Report slot output) may = W
   event_plain (End a read ready status) may = over_plain a (Over status) may.actor may.reads.is
   event_plain (Stop a) may = over_plain a Stopped may.actor may.is
   event_plain (Moment m) may = W

@@ -2,21 +2,21 @@
 use Rattle.std.proofs.Common.{◌≡◌, ℕ, ◌==◌, List, [], ◌∷◌, Bool, true, false, Option, Some, None, refl, subst, if◌then◌else◌}
 use Rattle.std.specs.Prelude.{◌||◌, nat_eq}
 use Rattle.std.specs.List.{cons_option, ends_with, filter_map}
-use Rattle.address_rules.specs.Nuls.{HasNoNul}
 use Rattle.call_fs.specs.declared.past.Own.{Own}
 use Rattle.dot_qmail.specs.declared.choice.Chosen.{Chosen}
 use Rattle.dot_qmail.specs.declared.choice.Chosen.TheVariants as chosen
 use Rattle.dot_qmail.specs.declared.line.Line.{Line}
 use Rattle.dot_qmail.specs.declared.line.Line.TheVariants as line
-use Rattle.dot_qmail.specs.Lines.{begins_blank, line_of, lines, path_line, plan_of, said, said_by, trimmed, until_nul}
+use Rattle.dot_qmail.specs.Lines.{begins_blank, line_of, lines, path_line, plan_of, said, said_by, until_nul}
+use Rattle.mail_bytes.specs.Texts.{trimmed, HasNoNul}
 use Rattle.local_deliver.specs.Carried.{Reaches, instructions, of_choice, of_file}
 use Rattle.local_deliver.specs.Carried.Reaches.{AtEnd, AtStop, PastCommand, PastForward, PastMaildir}
 use Rattle.local_deliver.specs.Deeds.{Exited, bytes_read, told_names}
-use Rattle.local_steps.specs.declared.arguments.LocalArgs.{LocalArgs}
-use Rattle.local_steps.specs.Choosing.{chosen_by}
-use Rattle.local_steps.specs.Course.{default_text}
-use Rattle.local_steps.specs.Forwarding.{forwards}
-use Rattle.post_law.proofs.Told.{first_plain}
+use Rattle.local_parts.specs.declared.arguments.LocalArgs.{LocalArgs}
+use Rattle.local_parts.specs.Choosing.{chosen_by}
+use Rattle.local_parts.specs.Course.{default_text}
+use Rattle.local_parts.specs.Forwarding.{forwards}
+use Rattle.program_law.proofs.Post.Told.{first_plain}
 use Rattle.world_law.proofs.Envelopes.{ArePlain}
 
 abbrev IsPlainLine : Line → Type 0

@@ -19,9 +19,9 @@ use Rattle.local_spawn.specs.declared.place.Place.{Place as LocalPlace}
 use Rattle.local_spawn.specs.declared.row.Row.{Row as LocalRow}
 use Rattle.local_spawn.specs.declared.row.Row.TheVariants as local
 use Rattle.local_spawn.specs.Table.{due_at as local_due, place_after as local_after, program_of}
-use Rattle.post_law.specs.Posts.{Posted}
-use Rattle.post_law.specs.Senders.{IsFirst}
-use Rattle.post_law.proofs.Asks.{losses_keep}
+use Rattle.program_law.specs.Post.Posts.{Posted}
+use Rattle.program_law.specs.Post.Senders.{IsFirst}
+use Rattle.program_law.proofs.Post.Asks.{losses_keep}
 use Rattle.queue_clean.specs.declared.row.Row.{Row as CleanRow}
 use Rattle.queue_clean.specs.declared.row.Row.TheVariants as clean
 use Rattle.queue_clean.specs.Table.{due_at as clean_due, is_old, pid_path, place_after as clean_after, search_after}

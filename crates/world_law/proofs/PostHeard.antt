@@ -8,12 +8,12 @@ use Rattle.call_fs.specs.declared.past.NeedData.TheVariants as needs
 use Rattle.call_fs.specs.declared.past.Own.{Own}
 use Rattle.call_fs.specs.declared.program.Port.TheVariants as port
 use Rattle.call_fs.specs.declared.program.Ready.{Ready}
-use Rattle.post_law.specs.Laws.{AreHeard}
-use Rattle.post_law.specs.Posts.{Post}
-use Rattle.post_law.specs.Senders.{IsFirst, IsQuiet, heard_at, is_on}
-use Rattle.post_law.proofs.Asks.{greets_keep}
-use Rattle.post_law.proofs.Aways.{IsAway, control_away, row_away, start_away}
-use Rattle.post_law.proofs.Hears.{hears_keep}
+use Rattle.program_law.specs.Post.Laws.{AreHeard}
+use Rattle.program_law.specs.Post.Posts.{Post}
+use Rattle.program_law.specs.Post.Senders.{IsFirst, IsQuiet, heard_at, is_on}
+use Rattle.program_law.proofs.Post.Asks.{greets_keep}
+use Rattle.program_law.proofs.Post.Aways.{IsAway, control_away, row_away, start_away}
+use Rattle.program_law.proofs.Post.Hears.{hears_keep}
 use Rattle.send_core.specs.declared.desk.Desk.{Desk}
 use Rattle.send_core.specs.declared.row.Row.{Row}
 use Rattle.send_core.specs.declared.row.Row.TheVariants as at
@@ -21,11 +21,11 @@ use Rattle.send_core.specs.Desk.{link, with_reader}
 use Rattle.send_core.specs.Table.{arrive, desk_after, due_at, row_now}
 use Rattle.send_jobs.specs.declared.channels.Channel.TheVariants.{Local, Remote}
 use Rattle.send_jobs.specs.Sending.{lane}
-use Rattle.send_steps.specs.declared.rows.StartRow.{StartRow}
-use Rattle.send_steps.specs.declared.rows.StartRow.TheVariants as start
+use Rattle.send_parts.specs.declared.rows.StartRow.{StartRow}
+use Rattle.send_parts.specs.declared.rows.StartRow.TheVariants as start
 use Rattle.spawn_protocol.specs.declared.report.Report.{Report}
 use Rattle.spawn_protocol.specs.Report.{Reader, read_on}
-use Rattle.sender_law.proofs.Awaits.{Begins, point_begins}
+use Rattle.program_law.proofs.Sender.Awaits.{Begins, point_begins}
 use Rattle.world_pipes.specs.Pipework.{Yields}
 use Rattle.world_events.specs.declared.event.Program.{Program}
 use Rattle.world_events.specs.declared.event.Program.TheVariants.{Sender}

@@ -13,15 +13,15 @@ use Rattle.call_fs.specs.declared.past.Own.{Own}
 use Rattle.call_fs.specs.declared.program.Port.TheVariants as port
 use Rattle.actor_names.specs.MailNames.{members}
 use Rattle.local_spawn.specs.Table.{begun as spawner_begun}
-use Rattle.post_law.specs.Posts.{Done, Posted}
-use Rattle.post_law.specs.Senders.{IsFirst, is_on}
-use Rattle.post_law.proofs.Asks.{losses_keep, starts_posted}
-use Rattle.post_law.proofs.Senders.{senders_keep}
+use Rattle.program_law.specs.Post.Posts.{Done, Posted}
+use Rattle.program_law.specs.Post.Senders.{IsFirst, is_on}
+use Rattle.program_law.proofs.Post.Asks.{losses_keep, starts_posted}
+use Rattle.program_law.proofs.Post.Senders.{senders_keep}
 use Rattle.queue_inject.proofs.Acts.{IsAlone, next_alone}
 use Rattle.send_core.specs.declared.desk.Desk.{Desk}
 use Rattle.send_core.specs.Table.{begun}
 use Rattle.send_jobs.specs.declared.channels.Channel.TheVariants as channel
-use Rattle.sender_law.specs.Control.{AreControls}
+use Rattle.program_law.specs.Sender.Control.{AreControls}
 use Rattle.world_pipes.specs.Pipework.{no_pipework, with_child}
 use Rattle.world_pipes.specs.Pipework.Tenant.{Runs}
 use Rattle.world_events.specs.declared.event.Program.{Program}
@@ -261,8 +261,8 @@ posts_keep (Act a own wrote) controls s I P may =
     subst (λ (o : Option Actor). PostsStand (acted s a own wrote o)) (sym may.reads.is) (act_by controls s I P a own wrote may may.actor.program refl)
 posts_keep (Child parent own a program) controls s I P may = children_stand controls s I P parent own a program may
 posts_keep (Generation sender clean lspawn rspawn) controls s I P may = generations_stand controls s I P sender clean lspawn rspawn may
-posts_keep (Report slot letter text) controls s I P may =
-    posts_left s (happens s (Report slot letter text)) (record { view = refl; keeps = λ a x is. (x, is, refl, λ h. h); homes = λ a x is. refl; slots = λ d. refl }) P
+posts_keep (Report slot output) controls s I P may =
+    posts_left s (happens s (Report slot output)) (record { view = refl; keeps = λ a x is. (x, is, refl, λ h. h); homes = λ a x is. refl; slots = λ d. refl }) P
 posts_keep (End a read ready status) controls s I P may = ends_leave controls s I P a may.actor may.reads.is may.reads.alive (Over status) refl
 posts_keep (Stop a) controls s I P may = ends_leave controls s I P a may.actor may.is may.alive Stopped refl
 posts_keep (Moment m) controls s I P may = posts_left s (happens s (Moment m)) (record { view = refl; keeps = λ a x is. (x, is, refl, λ h. h); homes = λ a x is. refl; slots = λ d. refl }) P

@@ -8,8 +8,8 @@ use Rattle.call_fs.specs.declared.past.NeedData.TheVariants as needs
 use Rattle.call_fs.specs.declared.program.Port.{Port}
 use Rattle.call_fs.specs.declared.program.Port.TheVariants as port
 use Rattle.queue_law.proofs.Tests.{other_text, same_text}
-use Rattle.post_law.specs.Posts.{asked_by, told_by}
-use Rattle.post_law.specs.Senders.{asked_on, told_on}
+use Rattle.program_law.specs.Post.Posts.{asked_by, told_by}
+use Rattle.program_law.specs.Post.Senders.{asked_on, told_on}
 use Rattle.send_jobs.specs.declared.channels.Channel.{Channel}
 use Rattle.send_jobs.specs.declared.channels.Channel.TheVariants as channel
 use Rattle.send_jobs.specs.Channels.{port_of}

@@ -10,16 +10,16 @@ use Rattle.call_fs.specs.declared.past.NeedData.TheVariants as needs
 use Rattle.call_fs.specs.declared.past.Own.{Own}
 use Rattle.call_fs.specs.declared.program.Port.TheVariants as port
 use Rattle.call_fs.specs.Program.{MayCome}
-use Rattle.channel_law.specs.Files.{IsOpen}
+use Rattle.program_law.specs.Channel.Files.{IsOpen}
 use Rattle.envelope_records.specs.declared.channel.Record.{Record}
 use Rattle.envelope_records.specs.Envelope.{Reading, read_envelope}
 use Rattle.envelope_records.specs.Envelope.Reading.{Whole, Open, Broken}
-use Rattle.envelope_records.specs.Records.{HasNoNul}
+use Rattle.mail_bytes.specs.Texts.{HasNoNul}
 use Rattle.envelope_records.proofs.Envelopes.{Sound, read_sound}
 use Rattle.mail_bytes.specs.Moments.{IsMoment}
-use Rattle.post_law.specs.Posts.{Post, Posted}
-use Rattle.post_law.specs.Senders.{AsksFor, IsFirst, IsLate, IsSome, Sends, asked_on, told_on, with_desk}
-use Rattle.post_law.proofs.Senders.{senders_keep}
+use Rattle.program_law.specs.Post.Posts.{Post, Posted}
+use Rattle.program_law.specs.Post.Senders.{AsksFor, IsFirst, IsLate, IsSome, Sends, asked_on, told_on, with_desk}
+use Rattle.program_law.proofs.Post.Senders.{senders_keep}
 use Rattle.queue_inject.specs.declared.injection.Arguments.{Arguments}
 use Rattle.queue_inject.specs.declared.injection.InputEnd.{InputEnd}
 use Rattle.queue_inject.specs.Texts.{envelope_of, envelope_text, intd_text, limit}
@@ -34,14 +34,14 @@ use Rattle.send_core.specs.Table.{arrive, desk_after, due_at, from_point, moved,
 use Rattle.send_jobs.specs.declared.attempts.Attempt.{Attempt}
 use Rattle.send_jobs.specs.declared.channels.Channel.{Channel}
 use Rattle.send_jobs.specs.declared.channels.Channel.TheVariants.{Local, Remote}
-use Rattle.send_steps.specs.declared.rows.FinishRow.TheVariants as finish
-use Rattle.send_steps.specs.declared.rows.SweepRow.TheVariants as sweep
-use Rattle.send_steps.specs.Files.{records_of}
-use Rattle.sender_law.specs.Asking.{IsRequestFor}
-use Rattle.sender_law.specs.Views.{files_of, records_at}
-use Rattle.sender_law.proofs.Asking.{requests_are_texts}
-use Rattle.sender_law.proofs.Awaits.{Begins, point_begins}
-use Rattle.sender_law.proofs.Texts.{they_are}
+use Rattle.send_parts.specs.declared.rows.FinishRow.TheVariants as finish
+use Rattle.send_parts.specs.declared.rows.SweepRow.TheVariants as sweep
+use Rattle.send_parts.specs.Files.{records_of}
+use Rattle.program_law.specs.Sender.Asking.{IsRequestFor}
+use Rattle.program_law.specs.Sender.Views.{files_of, records_at}
+use Rattle.program_law.proofs.Sender.Asking.{requests_are_texts}
+use Rattle.program_law.proofs.Sender.Awaits.{Begins, point_begins}
+use Rattle.program_law.proofs.Sender.Texts.{they_are}
 use Rattle.world_pipes.specs.Pipework.{Pipe, Yields}
 use Rattle.world_events.specs.declared.event.Program.{Program}
 use Rattle.world_events.specs.declared.event.Program.TheVariants.{Sender}

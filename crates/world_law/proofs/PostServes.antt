@@ -19,10 +19,10 @@ use Rattle.local_spawn.specs.declared.place.Place.{Place}
 use Rattle.local_spawn.specs.declared.row.Row.{Row}
 use Rattle.local_spawn.specs.declared.row.Row.TheVariants as at
 use Rattle.local_spawn.specs.Table.{due_at, due_by, due_from, moved, place_after}
-use Rattle.local_steps.specs.Arguments.{local_args}
-use Rattle.post_law.specs.Posts.{Done, IsOffered, Post, Posted, Task, asked_by, done_by, entered, task_of, tasks_by, told_by, works}
-use Rattle.post_law.specs.Senders.{IsFirst}
-use Rattle.post_law.proofs.Spawners.{spawners_keep}
+use Rattle.local_parts.specs.Arguments.{local_args}
+use Rattle.program_law.specs.Post.Posts.{Done, IsOffered, Post, Posted, Task, asked_by, done_by, entered, task_of, tasks_by, told_by, works}
+use Rattle.program_law.specs.Post.Senders.{IsFirst}
+use Rattle.program_law.proofs.Post.Spawners.{spawners_keep}
 use Rattle.send_jobs.specs.declared.channels.Channel.TheVariants as channel
 use Rattle.spawner_parts.specs.declared.row.Row.{Row as WorkRow}
 use Rattle.spawner_parts.specs.declared.row.Row.TheVariants as work_at

@@ -4,8 +4,8 @@ use Rattle.call_fs.specs.Maps.{put_at}
 use Rattle.call_fs.specs.declared.program.Port.TheVariants as port
 use Rattle.call_fs.proofs.Maps.{put_at_cases, put_at_other}
 use Rattle.local_spawn.specs.declared.place.Place.{Place}
-use Rattle.post_law.specs.Posts.{Done, Posted, Task}
-use Rattle.post_law.specs.Senders.{IsFirst}
+use Rattle.program_law.specs.Post.Posts.{Done, Posted, Task}
+use Rattle.program_law.specs.Post.Senders.{IsFirst}
 use Rattle.send_core.specs.declared.desk.Desk.{Desk}
 use Rattle.world_pipes.specs.Pipework.{Pipework}
 use Rattle.mail_world.specs.History.{Actor, State}

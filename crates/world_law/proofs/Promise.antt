@@ -1,25 +1,32 @@
 -- The promise holds of each prefix of a legal history.
-use Rattle.std.proofs.Common.{◌≡◌, ℕ, List, [], ◌∷◌, true, Option, Some, None, IsSomeAnd, refl, sym, ap, ◌∙◌, subst, codes}
+use Rattle.std.proofs.Common.{◌≡◌, ℕ, List, [], ◌∷◌, true, Option, Some, None, option_map, IsSomeAnd, refl, sym, ap, ◌∙◌, subst, codes}
 use Rattle.address_rules.specs.declared.controls.Controls.{Controls}
 use Rattle.call_fs.specs.Disk.{Disk}
+use Rattle.call_fs.specs.Past.{IsRunBy}
 use Rattle.call_fs.specs.declared.past.Own.{Own}
-use Rattle.local_deliver.specs.Deeds.{taken}
-use Rattle.local_steps.specs.Inputs.{message_in}
+use Rattle.call_fs.specs.Past.{taken}
+use Rattle.local_parts.specs.Inputs.{message_in}
 use Rattle.queue_inject.specs.Texts.{entered}
-use Rattle.queue_law.specs.Routes.{routed}
-use Rattle.post_law.specs.Laws.{AreHeard, IsHeard, WasDelivered}
-use Rattle.post_law.specs.Posts.{freed}
-use Rattle.post_law.proofs.Desks.{desks_tell, was_in}
+use Rattle.queue_law.specs.Routes.{routed, spot_of}
+use Rattle.program_law.specs.Post.Laws.{AreHeard, IsHeard, WasDelivered}
+use Rattle.program_law.specs.Post.Posts.{freed}
+use Rattle.program_law.proofs.Post.Desks.{desks_tell, was_in}
 use Rattle.send_core.specs.declared.desk.Desk.{Desk}
+use Rattle.send_core.specs.Agrees.{task_of}
 use Rattle.send_core.specs.Desk.{told}
+use Rattle.send_core.specs.Past.{Account, Task, account, settle, settle_by}
+use Rattle.send_core.specs.Table.{Next}
+use Rattle.send_runs.proofs.Reports.{Flies, flies_told}
 use Rattle.send_jobs.specs.declared.attempts.Attempt.{Attempt}
 use Rattle.send_jobs.specs.declared.channels.Channel.TheVariants.{Local}
 use Rattle.send_jobs.specs.Sending.{lane}
 use Rattle.send_jobs.specs.Slots.{attempt_in}
 use Rattle.spawn_protocol.specs.declared.report.Report.{Report}
-use Rattle.sender_law.specs.Control.{AreControls}
+use Rattle.program_law.specs.Sender.Control.{AreControls}
 use Rattle.world_events.specs.declared.event.Event.{Event as Kept}
-use Rattle.mail_world.specs.History.{Event, Legal, State, after}
+use Rattle.world_events.specs.declared.event.Program.{Program}
+use Rattle.world_events.specs.declared.event.Program.TheVariants.{Sender}
+use Rattle.mail_world.specs.History.{Actor, Event, Legal, State, after, next_of}
 use Rattle.mail_world.specs.History.Life.{Over}
 use Rattle.mail_world.specs.History.Event.{Act}
 use Rattle.mail_world.specs.World.{IsHistory}
@@ -32,8 +39,13 @@ use Rattle.world_law.proofs.Addressed.{deliveries_are_carried}
 use Rattle.world_law.proofs.DeliveredDone.{done_for, took_message}
 use Rattle.world_law.proofs.Entered.{given_in, messages_always, took_entered}
 use Rattle.world_law.proofs.EnteredStands.{MessagesStand, sends_on}
-use Rattle.world_law.proofs.Histories.{always, attempts_are_sound, returned_recipients_are_named, safe_always}
+use Rattle.world_law.proofs.Histories.{accounts_always, always, attempts_are_sound, safe_always}
+use Rattle.world_law.proofs.Ledger.{accounted_by}
+use Rattle.world_law.proofs.Reported.{ledgers_are_of_reports}
+use Rattle.world_law.proofs.Heard.{flies_now, reports_now}
 use Rattle.world_law.proofs.PostHeard.{takes_reports}
+use Rattle.world_law.proofs.Ran.{have_run}
+use Rattle.world_law.proofs.Tenants.{some_actor}
 
 -- A delivery that ended with 0 was carried out, for the message that it took
 
@@ -73,7 +85,7 @@ module _ (controls : Controls) (d : Disk) (h : List Event) (has : AreControls co
     abbrev slots : List (Option Attempt)
     slots = (lane Local (desk_in (s.actors (codes "sender"))).slots).slots
 
-    carried_in : (slot : ℕ) (t : Attempt) → attempt_in slots slot ≡ Some t → WasDelivered M.posts.done slot t.address → WasCarriedFor d h slot t
+    carried_in : (slot : ℕ) (t : Attempt) → attempt_in slots slot ≡ Some t → WasDelivered M.posts.done slot t.address → WasCarriedFor d h slot (task_of t)
     unfolding carried_for
     carried_in slot t flies w =
         let was = M.posts.was w.it w.among in
@@ -86,26 +98,35 @@ module _ (controls : Controls) (d : Disk) (h : List Event) (has : AreControls co
           in_slot = was.in_slot ∙ ap (λ (n : ℕ). Some (record { parent = codes "lspawn"; number = n })) w.slot_is;
         }
 
-    true_of : (r : Report) (o : Option Attempt) → ((t : Attempt) → o ≡ Some t → attempt_in slots r.slot ≡ Some t) → IsHeard Local M.posts.done r o → IsTrue d h r o
+    true_of : (r : Report) (o : Option Attempt) → ((t : Attempt) → o ≡ Some t → attempt_in slots r.slot ≡ Some t) → IsHeard Local M.posts.done r o → IsTrue d h r (option_map task_of o)
     true_of r None flies heard = heard
     true_of r (Some t) flies heard = λ success. carried_in r.slot t (flies t refl) (heard success)
 
     -- one report after the other
-    all_true : (rs : List Report) (left : List (Option Attempt)) (z : Desk) → (lane Local z.slots).slots ≡ left
-        → ((slot : ℕ) (t : Attempt) → attempt_in left slot ≡ Some t → attempt_in slots slot ≡ Some t) → AreHeard Local M.posts.done rs left → AreTrue d h rs z
-    all_true [] left z same old heard = tt
-    all_true (r ∷ rs) left z same old heard = (
-      true_of r (attempt_in (lane Local z.slots).slots r.slot) (λ t is. old r.slot t (ap (λ (o : List (Option Attempt)). attempt_in o r.slot) (sym same) ∙ is))
-          (subst (λ (o : List (Option Attempt)). IsHeard Local M.posts.done r (attempt_in o r.slot)) (sym same) heard.0),
-      all_true rs (freed r left) (told Local r z) (desks_tell.one Local r z ∙ ap (freed r) same) (λ slot t is. old slot t (was_in left r slot t is)) heard.1,
-    )
+    all_true : (rs : List Report) (left : List (Option Attempt)) (z : Desk) (a : Account) → Flies Local a z → (lane Local z.slots).slots ≡ left
+        → ((slot : ℕ) (t : Attempt) → attempt_in left slot ≡ Some t → attempt_in slots slot ≡ Some t) → AreHeard Local M.posts.done rs left → AreTrue d h rs a
+    all_true [] left z a flies same old heard = tt
+    all_true (r ∷ rs) left z a flies same old heard =
+        let o : Option Attempt = attempt_in (lane Local z.slots).slots r.slot in
+        let later : Flies Local (settle r a) (told Local r z) = subst (λ (t : Option Task). Flies Local (settle_by t r a) (told Local r z)) (flies r.slot) (flies_told Local a r o z refl flies) in (
+          subst (IsTrue d h r) (flies r.slot)
+              (true_of r o (λ t is. old r.slot t (ap (λ (o : List (Option Attempt)). attempt_in o r.slot) (sym same) ∙ is))
+              (subst (λ (o : List (Option Attempt)). IsHeard Local M.posts.done r (attempt_in o r.slot)) (sym same) heard.0)),
+          all_true rs (freed r left) (told Local r z) (settle r a) later (desks_tell.one Local r z ∙ ap (freed r) same) (λ slot t is. old slot t (was_in left r slot t is)) heard.1,
+        )
 
 pub k_reports_are_carried : KReportsAreCarried
 k_reports_are_carried controls d a own wrote before has legal x is start program taking bytes came =
-    takes_reports controls (after d before) (always controls d before has legal.0) (messages_always controls d before has legal.0).posts (AreTrue d before) (λ z. tt)
-    (λ on rs z same heard. all_true controls d before has legal.0 on rs (lane Local z.slots).slots z refl
-    (λ slot t flies. ap (λ (l : List (Option Attempt)). attempt_in l slot) (sym same) ∙ flies) heard)
-    a own wrote legal.1 x is start program taking bytes came
+    let due : next_of (Sender start) x.past own.read own.ready ≡ own.due =
+    subst (λ (p : Program). next_of p x.past own.read own.ready ≡ own.due) program
+    (let may = legal.1 in let same : may.actor ≡ x = some_actor may.actor x (sym may.reads.is ∙ is) in subst (λ (y : Actor). next_of y.program y.past own.read own.ready ≡ own.due) same may.due) in
+    let run : IsRunBy (Next None) x.past = subst (λ (p : Program). IsRunBy (next_of p) x.past) program (have_run d before legal.0 a x is) in
+    let all = takes_reports controls (after d before) (always controls d before has legal.0) (messages_always controls d before has legal.0).posts
+    (λ rs z. (y : Account) → Flies Local y z → AreTrue d before rs y) (λ z y flies. tt)
+    (λ on rs z same heard y flies. all_true controls d before has legal.0 on rs (lane Local z.slots).slots z y flies refl
+    (λ slot t there. ap (λ (l : List (Option Attempt)). attempt_in l slot) (sym same) ∙ there) heard)
+    a own wrote legal.1 x is start program taking bytes came in
+    reports_now x.past run own due taking bytes came (λ rs. AreTrue d before rs (account Local x.past)) tt (all (account Local x.past) (flies_now x.past run own due taking))
 
 -- and whom ledgers have as delivered
 pub delivered_are_carried : DeliveredAreCarried
@@ -117,9 +138,11 @@ delivered_are_carried controls d before has legal i here r on among =
 
 promised : (controls : Controls) (d : Disk) (h : List Event) → AreControls controls d → Legal d h → Promise controls d h
 promised controls d h has legal = record {
-  safe = safe_always controls d h has legal;
-  named = λ i here r account says. returned_recipients_are_named controls d h has legal i here r account says;
-  delivered = λ i here r on among. delivered_are_carried controls d h has legal i here r on among;
+  safe = record {
+    state = safe_always controls d h has legal;
+    accounted = λ i here accepted r. accounted_by controls d h legal i here has r (accounts_always controls d h has legal i here accepted r);
+  };
+  delivered = λ i here r on was. delivered_are_carried controls d h has legal i here r on ((ledgers_are_of_reports d h legal i here (spot_of controls i.args r)).0.1 was);
   attempts = λ own before it ch text due. attempts_are_sound controls d it.name own it.wrote before has (legal_at own before it) it.sender it.is it.start it.program ch text due;
   reports = λ own before it due bytes came. k_reports_are_carried controls d it.name own it.wrote before has (legal_at own before it) it.sender it.is it.start it.program due bytes came;
   carried = λ name x is start args program over. deliveries_are_carried controls d h has legal name x is start args program over;

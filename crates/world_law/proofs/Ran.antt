@@ -58,7 +58,7 @@ run_keep (Child parent own a program) s R may =
     (put_run (acted s parent own 0 (Some may.actor)).actors a (newborn program) (acts_run s R parent own 0 may.actor may.reads.is may.due (born_comes s parent own a program may)) tt)
 run_keep (Generation sender clean lspawn rspawn) s R may =
     put_run _ _ (newborn rspawn) (put_run _ _ (newborn lspawn) (put_run _ _ (newborn clean) (put_run _ _ (newborn sender) R tt) tt) tt) tt
-run_keep (Report slot letter text) s R may = R
+run_keep (Report slot output) s R may = R
 run_keep (End a read ready status) s R may = ends_run s R a (Over status) (s.actors a) refl
 run_keep (Stop a) s R may = ends_run s R a Stopped (s.actors a) refl
 run_keep (Moment m) s R may = R

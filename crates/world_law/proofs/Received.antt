@@ -17,9 +17,9 @@ use Rattle.call_fs.specs.declared.past.Own.{Own}
 use Rattle.call_fs.specs.declared.program.Port.{Port}
 use Rattle.call_fs.specs.declared.program.Port.TheVariants as port
 use Rattle.call_fs.specs.declared.program.Ready.{Ready}
-use Rattle.local_deliver.specs.Deeds.{taken, taken_by}
-use Rattle.local_steps.specs.declared.arguments.LocalArgs.{LocalArgs}
-use Rattle.post_law.specs.Posts.{Task}
+use Rattle.call_fs.specs.Past.{taken, taken_by}
+use Rattle.local_parts.specs.declared.arguments.LocalArgs.{LocalArgs}
+use Rattle.program_law.specs.Post.Posts.{Task}
 use Rattle.queue_law.specs.Books.{Books, Child}
 use Rattle.queue_law.proofs.Tests.{same_text}
 use Rattle.world_pipes.specs.Pipework.{Pipe, Pipework, Yields, fresh, is_member, is_writer, mouth, pipes_after, taken as without, writer}

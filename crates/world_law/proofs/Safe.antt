@@ -21,8 +21,8 @@ use Rattle.world_events.specs.declared.event.Program.{Program}
 use Rattle.world_events.specs.declared.event.Program.TheVariants.{Delivery, Injector}
 use Rattle.world_law.specs.Crew.{is_well}
 use Rattle.world_law.specs.Fares.{FaresBy}
-use Rattle.world_law.specs.Headline.{EndsWell, Safe}
-use Rattle.world_law.specs.Laws.{InvIsSafe}
+use Rattle.world_law.specs.Headline.{EndsWell, SafeState}
+use Rattle.world_law.specs.Laws.{AreAccounted, InvIsSafe}
 use Rattle.world_law.proofs.DeliveryEnds.{forwarded_in}
 
 fourth : (mess intd todo info local remote bounce : Bool) → mess ≡ true → todo ≡ true → bounce ≡ false → state_by mess intd todo info local remote bounce ≢ Other
@@ -82,19 +82,20 @@ well controls now q a other past life F over = tt
 -- what holds of the queue says that the state is safe, if its actors have ended as they say
 pub safe_by : (controls : Controls) (s : State) (role : ℕ → Role) → Sound controls (queue s role)
     → ((a : List ℕ) (x : Actor) → s.actors a ≡ Some x → IsBooked s.books a x.program x.past)
-    → ((a : List ℕ) (x : Actor) → s.actors a ≡ Some x → x.life ≡ Over 0 → EndsWell s.books a x.program x.past) → Safe controls s
+    → ((a : List ℕ) (x : Actor) → s.actors a ≡ Some x → x.life ≡ Over 0 → EndsWell s.books a x.program x.past) → SafeState s × AreAccounted controls s
 safe_by controls s role sound queued ends =
     let q = queue s role in
-    let S = sound_is_safe controls q sound in
-    record {
-      states = λ n. state_in q n (S.states n);
-      numbers = λ n i h. S.numbers n (entry s.disk.files i) (find_some s.disk.names s.disk.files (Of Mess n) i h);
-      messages = λ i file lives accepted h. S.messages i (entry s.disk.files file) lives accepted (find_some s.disk.names s.disk.files (Of Mess i.number) file h);
-      valid = S.valid;
-      accounted = all_accounted controls q sound;
-      queued = queued;
-      ends = ends;
-    }
+    let S = sound_is_safe controls q sound in (
+      record {
+        states = λ n. state_in q n (S.states n);
+        numbers = λ n i h. S.numbers n (entry s.disk.files i) (find_some s.disk.names s.disk.files (Of Mess n) i h);
+        messages = λ i file lives accepted h. S.messages i (entry s.disk.files file) lives accepted (find_some s.disk.names s.disk.files (Of Mess i.number) file h);
+        valid = S.valid;
+        queued = queued;
+        ends = ends;
+      },
+      all_accounted controls q sound,
+    )
 
 pub inv_is_safe : InvIsSafe
 inv_is_safe controls s I =

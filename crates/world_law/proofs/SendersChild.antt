@@ -18,13 +18,13 @@ use Rattle.send_core.specs.declared.desk.Desk.{Desk}
 use Rattle.send_core.specs.declared.row.Row.{Row}
 use Rattle.send_core.specs.declared.row.Row.TheVariants as at
 use Rattle.send_core.specs.Table.{Next, desk_after, row_now}
-use Rattle.send_steps.specs.declared.rows.FinishRow.TheVariants as finish
+use Rattle.send_parts.specs.declared.rows.FinishRow.TheVariants as finish
 use Rattle.send_known.specs.Known.{sender_of}
 use Rattle.queue_law.specs.Numbers.{about}
-use Rattle.sender_law.specs.Rows.{HasMade, ReturnHolds, ReturnStands}
-use Rattle.sender_law.specs.Stands.{StandsAt}
-use Rattle.sender_law.proofs.Given.{AwaitsAt, AwaitsIn, last_gave, return_arrived}
-use Rattle.sender_law.proofs.Returns.{made_input}
+use Rattle.program_law.specs.Sender.Rows.{HasMade, ReturnHolds, ReturnStands}
+use Rattle.program_law.specs.Sender.Stands.{StandsAt}
+use Rattle.program_law.proofs.Sender.Given.{AwaitsAt, AwaitsIn, last_gave, return_arrived}
+use Rattle.program_law.proofs.Sender.Returns.{made_input}
 use Rattle.world_events.specs.declared.event.Program.{Program}
 use Rattle.world_events.specs.declared.event.Program.TheVariants.{Injector, Sender}
 use Rattle.world_pipes.specs.Pipework.{Pipe, Tenant, Yields}

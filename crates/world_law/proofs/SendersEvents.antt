@@ -17,9 +17,9 @@ use Rattle.call_fs.specs.declared.past.NeedData.TheVariants as needs
 use Rattle.call_fs.specs.declared.past.Own.{Own}
 use Rattle.call_fs.specs.declared.program.Port.{Port}
 use Rattle.call_fs.specs.declared.program.Port.TheVariants as port
-use Rattle.errand_law.specs.Errands.{Awaits}
-use Rattle.errand_law.specs.Errands.Awaits.{Nothing, Answer}
-use Rattle.delivery_law.proofs.Stay.{drops_stay}
+use Rattle.program_law.specs.Errand.Errands.{Awaits}
+use Rattle.program_law.specs.Errand.Errands.Awaits.{Nothing, Answer}
+use Rattle.program_law.proofs.Delivery.Stay.{drops_stay}
 use Rattle.mail_bytes.specs.Moments.{IsMoment}
 use Rattle.queue_clean.specs.Commands.{ended, text_of}
 use Rattle.queue_law.specs.Books.{Child as Bouncer, HasQueued}
@@ -33,22 +33,22 @@ use Rattle.send_core.specs.declared.row.Row.TheVariants as at
 use Rattle.send_core.specs.Table.{desk_after, due_at, moved_by, row_now}
 use Rattle.send_jobs.specs.Bookings.Booking.{Returned}
 use Rattle.send_jobs.specs.declared.channels.Channel.TheVariants.{Local, Remote}
-use Rattle.send_steps.specs.declared.rows.FinishRow.TheVariants as finish
-use Rattle.sender_law.specs.ControlFiles.{IsOnLink, LeavesControls}
-use Rattle.sender_law.specs.Stands.{StandsAt}
-use Rattle.sender_law.specs.Points.{HasChild}
-use Rattle.sender_law.specs.Takings.{booked_queue}
-use Rattle.sender_law.specs.Waits.{IsFree, awaits, awaits_at}
-use Rattle.sender_law.specs.Whole.{IsTold, SenderTakes}
-use Rattle.sender_law.proofs.Arrive.{arrived}
-use Rattle.sender_law.proofs.Asking.{texts_keep}
-use Rattle.sender_law.proofs.Awaits.{arrives, gives, lost, takes}
-use Rattle.sender_law.proofs.ControlsRead.{controls_are_read}
-use Rattle.sender_law.proofs.ControlsStay.{controls_stay}
-use Rattle.sender_law.proofs.Frees.{free}
-use Rattle.sender_law.proofs.NoteDue.{note_takes, return_takes}
-use Rattle.sender_law.proofs.Programs.{runs_none, starts_of}
-use Rattle.sender_law.proofs.Whole.{senders_keep as sender_keeps}
+use Rattle.send_parts.specs.declared.rows.FinishRow.TheVariants as finish
+use Rattle.program_law.specs.Sender.ControlFiles.{IsOnLink, LeavesControls}
+use Rattle.program_law.specs.Sender.Stands.{StandsAt}
+use Rattle.program_law.specs.Sender.Points.{HasChild}
+use Rattle.program_law.specs.Sender.Takings.{booked_queue}
+use Rattle.program_law.specs.Sender.Waits.{IsFree, awaits, awaits_at}
+use Rattle.program_law.specs.Sender.Whole.{IsTold, SenderTakes}
+use Rattle.program_law.proofs.Sender.Arrive.{arrived}
+use Rattle.program_law.proofs.Sender.Asking.{texts_keep}
+use Rattle.program_law.proofs.Sender.Awaits.{arrives, gives, lost, takes}
+use Rattle.program_law.proofs.Sender.ControlsRead.{controls_are_read}
+use Rattle.program_law.proofs.Sender.ControlsStay.{controls_stay}
+use Rattle.program_law.proofs.Sender.Frees.{free}
+use Rattle.program_law.proofs.Sender.NoteDue.{note_takes, return_takes}
+use Rattle.program_law.proofs.Sender.Programs.{runs_none, starts_of}
+use Rattle.program_law.proofs.Sender.Whole.{senders_keep as sender_keeps}
 use Rattle.todo_pass.specs.declared.row.Row.{Row as PassRow}
 use Rattle.todo_pass.specs.declared.row.Row.TheVariants as todo
 use Rattle.todo_pass.specs.Table.{Pass, due_at as due_in}

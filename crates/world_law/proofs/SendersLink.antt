@@ -8,10 +8,10 @@ use Rattle.call_fs.specs.declared.past.GotData.TheVariants as got
 use Rattle.call_fs.specs.declared.past.NeedData.{NeedData}
 use Rattle.call_fs.specs.declared.past.NeedData.TheVariants as needs
 use Rattle.call_fs.specs.declared.program.Port.TheVariants as port
-use Rattle.errand_law.specs.Errands.{Awaits, Errand, Link, SaysWell, asks, asks_in_part, count, at_work, most, GivesWhole, heard, takes_up, texts_of}
-use Rattle.errand_law.specs.Errands.Awaits.{Nothing, Answer, Over}
-use Rattle.errand_law.specs.Laws.{AnswersAreOfErrands}
-use Rattle.errand_law.proofs.Links.{asks_keep, idle_is, losses_keep, none_waits}
+use Rattle.program_law.specs.Errand.Errands.{Awaits, Errand, Link, SaysWell, asks, asks_in_part, count, at_work, most, GivesWhole, heard, takes_up, texts_of}
+use Rattle.program_law.specs.Errand.Errands.Awaits.{Nothing, Answer, Over}
+use Rattle.program_law.specs.Errand.Laws.{AnswersAreOfErrands}
+use Rattle.program_law.proofs.Errand.Links.{asks_keep, idle_is, losses_keep, none_waits}
 use Rattle.queue_clean.specs.declared.command.Command.{Command}
 use Rattle.queue_clean.specs.declared.command.Command.TheVariants.{Todo}
 use Rattle.queue_clean.specs.Commands.{message_of}
@@ -23,17 +23,17 @@ use Rattle.send_core.specs.declared.desk.Desk.{Desk}
 use Rattle.send_core.specs.declared.row.Row.{Row}
 use Rattle.send_core.specs.declared.row.Row.TheVariants as at
 use Rattle.send_core.specs.Table.{due_at}
-use Rattle.send_steps.specs.declared.rows.FinishRow.TheVariants as finish
-use Rattle.send_steps.specs.declared.rows.SweepRow.TheVariants as sweep
-use Rattle.sender_law.specs.Commands.{RestsFor, WaitsAtRest}
-use Rattle.sender_law.specs.InTodo.{TodoStands}
-use Rattle.sender_law.specs.Stands.{StandsAt}
-use Rattle.sender_law.specs.Waits.{IsFree, IsGive, IsPassGive, awaits_at, awaits_in}
-use Rattle.sender_law.specs.Whole.{IsTold}
-use Rattle.sender_law.proofs.Awaits.{waits}
-use Rattle.sender_law.proofs.NoteDue.{return_takes}
-use Rattle.sender_law.proofs.Passing.{passes_give}
-use Rattle.sender_law.proofs.Points.{chores_stand}
+use Rattle.send_parts.specs.declared.rows.FinishRow.TheVariants as finish
+use Rattle.send_parts.specs.declared.rows.SweepRow.TheVariants as sweep
+use Rattle.program_law.specs.Sender.Commands.{RestsFor, WaitsAtRest}
+use Rattle.program_law.specs.Sender.InTodo.{TodoStands}
+use Rattle.program_law.specs.Sender.Stands.{StandsAt}
+use Rattle.program_law.specs.Sender.Waits.{IsFree, IsGive, IsPassGive, awaits_at, awaits_in}
+use Rattle.program_law.specs.Sender.Whole.{IsTold}
+use Rattle.program_law.proofs.Sender.Awaits.{waits}
+use Rattle.program_law.proofs.Sender.NoteDue.{return_takes}
+use Rattle.program_law.proofs.Sender.Passing.{passes_give}
+use Rattle.program_law.proofs.Sender.Points.{chores_stand}
 use Rattle.todo_pass.specs.declared.row.Why.TheVariants as left
 use Rattle.todo_pass.specs.declared.row.Row.{Row as PassRow}
 use Rattle.todo_pass.specs.declared.row.Row.TheVariants as todo

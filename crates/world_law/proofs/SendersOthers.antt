@@ -5,8 +5,8 @@ use Rattle.call_fs.specs.declared.past.Own.{Own}
 use Rattle.queue_clean.specs.Table.{place_after}
 use Rattle.local_spawn.specs.Table.{place_after as local_after}
 use Rattle.remote_spawn.specs.Table.{place_after as spawn_after}
-use Rattle.delivery_law.specs.Leaves.{LeavesDrops}
-use Rattle.delivery_law.proofs.Stay.{drops_stay}
+use Rattle.program_law.specs.Delivery.Leaves.{LeavesDrops}
+use Rattle.program_law.proofs.Delivery.Stay.{drops_stay}
 use Rattle.queue_law.specs.Books.{Books, Injection, IsInjected, IsLater}
 use Rattle.queue_law.specs.Cleaners.{IsBeside}
 use Rattle.queue_law.specs.Numbers.{NamesSuit, Queue, Sound}
@@ -15,8 +15,8 @@ use Rattle.queue_law.specs.Steps.{Elsewhere}
 use Rattle.queue_law.proofs.Frame.{injector_frame, still_there}
 use Rattle.queue_law.proofs.Growth.{grown_on}
 use Rattle.queue_law.proofs.RestIsKept.{rest_is_kept}
-use Rattle.sender_law.specs.Takings.{LeadsThrough}
-use Rattle.sender_law.specs.Takings.LeadsThrough.{Goes, Stays}
+use Rattle.program_law.specs.Sender.Takings.{LeadsThrough}
+use Rattle.program_law.specs.Sender.Takings.LeadsThrough.{Goes, Stays}
 use Rattle.world_events.specs.declared.event.Program.{Program}
 use Rattle.world_events.specs.declared.event.Program.TheVariants.{Injector, Cleaner, Sender, LocalSpawner, RemoteSpawner, Delivery}
 use Rattle.mail_world.specs.History.{Life}

@@ -3,7 +3,7 @@ use Rattle.std.proofs.Common.{◌≡◌, ◌≢◌, inl, ℕ, List, [], ◌∷�
 use Rattle.address_rules.specs.declared.controls.Controls.{Controls}
 use Rattle.call_fs.specs.declared.past.Own.{Own}
 use Rattle.call_fs.specs.Maps.{put_at}
-use Rattle.errand_law.specs.Errands.Awaits.{Nothing}
+use Rattle.program_law.specs.Errand.Errands.Awaits.{Nothing}
 use Rattle.queue_clean.specs.Table.{Place}
 use Rattle.queue_law.specs.Books.{Child as Bouncer, line_said, notes_read}
 use Rattle.queue_law.specs.Cleaners.{IsBeside}
@@ -16,12 +16,12 @@ use Rattle.send_jobs.specs.declared.attempts.Attempt.{Attempt}
 use Rattle.send_jobs.specs.Bookings.{Booking}
 use Rattle.send_jobs.specs.Bookings.Booking.{Dropped, Noted, ReadNotes, Reported, Returned}
 use Rattle.send_jobs.specs.Sending.{lane}
-use Rattle.sender_law.specs.Asking.{AreTextsFor, IsTextFor, TextsStand}
-use Rattle.sender_law.specs.ControlFiles.{LeavesControls}
-use Rattle.sender_law.specs.Takings.{booked_queue, one_more}
-use Rattle.sender_law.proofs.Asking.{texts_keep}
-use Rattle.sender_law.proofs.ControlsStay.{controls_stay}
-use Rattle.sender_law.proofs.Goes.{cleaners_go_on}
+use Rattle.program_law.specs.Sender.Asking.{AreTextsFor, IsTextFor, TextsStand}
+use Rattle.program_law.specs.Sender.ControlFiles.{LeavesControls}
+use Rattle.program_law.specs.Sender.Takings.{booked_queue, one_more}
+use Rattle.program_law.proofs.Sender.Asking.{texts_keep}
+use Rattle.program_law.proofs.Sender.ControlsStay.{controls_stay}
+use Rattle.program_law.proofs.Sender.Goes.{cleaners_go_on}
 use Rattle.world_events.specs.declared.event.Program.{Program}
 use Rattle.world_events.specs.declared.event.Program.TheVariants.{Cleaner, Sender}
 use Rattle.world_pipes.specs.Pipework.{Pipework, Slot}

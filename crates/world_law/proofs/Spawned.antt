@@ -13,10 +13,10 @@ use Rattle.call_fs.specs.declared.past.NeedData.TheVariants as needs
 use Rattle.call_fs.specs.declared.past.Own.{Own}
 use Rattle.call_fs.specs.declared.program.Port.TheVariants as port
 use Rattle.local_spawn.specs.Table.{place_after as local_after}
-use Rattle.post_law.specs.Posts.{IsOffered, Post, Spawner, work_of}
-use Rattle.post_law.specs.Posts.Spawner.{Local as LocalAt, Remote as RemoteAt}
-use Rattle.post_law.specs.Senders.{IsSome}
-use Rattle.post_law.proofs.Senders.{senders_keep}
+use Rattle.program_law.specs.Post.Posts.{IsOffered, Post, Spawner, work_of}
+use Rattle.program_law.specs.Post.Posts.Spawner.{Local as LocalAt, Remote as RemoteAt}
+use Rattle.program_law.specs.Post.Senders.{IsSome}
+use Rattle.program_law.proofs.Post.Senders.{senders_keep}
 use Rattle.queue_states.specs.declared.state.State.TheVariants.{S5}
 use Rattle.queue_states.specs.States.{state_of}
 use Rattle.remote_spawn.specs.Table.{place_after as remote_after}
@@ -26,7 +26,7 @@ use Rattle.send_jobs.specs.declared.channels.Channel.{Channel}
 use Rattle.send_jobs.specs.declared.channels.Channel.TheVariants as channel
 use Rattle.send_jobs.specs.Sending.{lane}
 use Rattle.send_jobs.specs.Slots.{attempt_in}
-use Rattle.sender_law.specs.Control.{AreControls}
+use Rattle.program_law.specs.Sender.Control.{AreControls}
 use Rattle.spawn_protocol.specs.declared.request.Request.{Request}
 use Rattle.spawner_parts.specs.declared.place.Place.{Place}
 use Rattle.spawner_parts.specs.declared.row.Row.{Row}
@@ -193,9 +193,9 @@ halts_stand c s t are =
 
 -- Each event
 
-report_stands : (c : Channel) (s : State) → StandsIn c s → (slot letter : ℕ) (text : List ℕ) → StandsIn c (happens s (Report slot letter text))
-report_stands channel.Local s S slot letter text = S
-report_stands channel.Remote s S slot letter text = S
+report_stands : (c : Channel) (s : State) → StandsIn c s → (slot : ℕ) (output : List ℕ) → StandsIn c (happens s (Report slot output))
+report_stands channel.Local s S slot output = S
+report_stands channel.Remote s S slot output = S
 
 stands_keep : (e : Event) (controls : Controls) (s : State) → Inv controls s → (c : Channel) → StandsIn c s → Allowed s e → StandsIn c (happens s e)
 stands_keep (Start a program) controls s I c S may = begins_stand c s S a program (run_other c program may.runs) may.new s.pipework refl refl
@@ -203,7 +203,7 @@ stands_keep (Act a own wrote) controls s I c S may =
     subst (λ (o : Option Actor). StandsIn c (acted s a own wrote o)) (sym may.reads.is) (acts_by controls s I c S a own wrote may may.actor.program refl)
 stands_keep (Child parent own a program) controls s I c S may = children_stand controls s I parent own a program may c S
 stands_keep (Generation sender clean lspawn rspawn) controls s I c S may = generations_stand c s sender clean lspawn rspawn may
-stands_keep (Report slot letter text) controls s I c S may = report_stands c s S slot letter text
+stands_keep (Report slot output) controls s I c S may = report_stands c s S slot output
 stands_keep (End a read ready status) controls s I c S may = ends_stand controls s I c S a may.actor may.reads.is (Over status) refl
 stands_keep (Stop a) controls s I c S may = ends_stand controls s I c S a may.actor may.is Stopped refl
 stands_keep (Moment m) controls s I c S may = S

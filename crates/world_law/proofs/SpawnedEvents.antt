@@ -8,13 +8,13 @@ use Rattle.call_fs.specs.declared.past.NeedData.TheVariants as needs
 use Rattle.call_fs.specs.declared.past.Own.{Own}
 use Rattle.call_fs.specs.declared.program.Port.TheVariants as port
 use Rattle.mail_bytes.specs.Moments.{IsMoment}
-use Rattle.post_law.specs.Posts.{IsOffered, due_of}
-use Rattle.post_law.specs.Senders.{AsksFor, IsSome}
+use Rattle.program_law.specs.Post.Posts.{IsOffered, due_of}
+use Rattle.program_law.specs.Post.Senders.{AsksFor, IsSome}
 use Rattle.send_core.specs.declared.desk.Desk.{Desk}
 use Rattle.send_core.specs.Table.{desk_after, due_at, port_of, row_now}
 use Rattle.send_jobs.specs.declared.channels.Channel.{Channel}
 use Rattle.send_jobs.specs.declared.channels.Channel.TheVariants as channel
-use Rattle.sender_law.proofs.Asking.{requests_are_texts}
+use Rattle.program_law.proofs.Sender.Asking.{requests_are_texts}
 use Rattle.world_pipes.specs.Pipework.{Pipework, is_writer, with_child, writer}
 use Rattle.world_events.specs.declared.event.Program.{Program}
 use Rattle.world_events.specs.declared.event.Program.TheVariants.{Sender, LocalSpawner, RemoteSpawner}

@@ -1,6 +1,6 @@
 -- What a spawner has in hand, as far as the attempts stand that are in flight in the slots.
 use Rattle.std.proofs.Common.{◌≡◌, ℕ, List, ◌++◌, Bool, true, Option, Some, None, refl, sym, ap, ◌∙◌}
-use Rattle.post_law.specs.Posts.{IsAskedFor, Post, Posted, goes_at, work_of}
+use Rattle.program_law.specs.Post.Posts.{IsAskedFor, Post, Posted, goes_at, work_of}
 use Rattle.queue_states.specs.declared.state.State.TheVariants.{S5}
 use Rattle.queue_states.specs.States.{state_of}
 use Rattle.send_jobs.specs.declared.attempts.Attempt.{Attempt}

@@ -23,13 +23,13 @@ use Rattle.local_spawn.specs.declared.row.Row.{Row as LocalRow}
 use Rattle.local_spawn.specs.declared.row.Row.TheVariants as local
 use Rattle.local_spawn.specs.Deliveries.{delivery_for, refusal}
 use Rattle.local_spawn.specs.Table.{delivery_after, local_kind, program_of, readied_by, users_closed, users_opened, users_read}
-use Rattle.post_law.specs.Posts.{AllTell, Fares, IsDue, Post, Posted, Spawner, Tells, Waits, asked_by, busy, due_of, goes_at, most, moved, owed_at, reports, told_by, told_of, work_of}
-use Rattle.post_law.specs.Posts.Spawner.{Local, Remote}
-use Rattle.post_law.proofs.Frames.{told_on}
-use Rattle.post_law.proofs.Readings.{report_more, tell_append, told_push}
-use Rattle.post_law.proofs.Rows.{respawned}
-use Rattle.post_law.proofs.Sums.{own_one}
-use Rattle.post_law.proofs.Works.{arrives}
+use Rattle.program_law.specs.Post.Posts.{AllTell, Fares, IsDue, Post, Posted, Spawner, Tells, Waits, asked_by, busy, due_of, goes_at, most, moved, owed_at, reports, told_by, told_of, work_of}
+use Rattle.program_law.specs.Post.Posts.Spawner.{Local, Remote}
+use Rattle.program_law.proofs.Post.Frames.{told_on}
+use Rattle.program_law.proofs.Post.Readings.{report_more, tell_append, told_push}
+use Rattle.program_law.proofs.Post.Rows.{respawned}
+use Rattle.program_law.proofs.Post.Sums.{own_one}
+use Rattle.program_law.proofs.Post.Works.{arrives}
 use Rattle.remote_spawn.specs.Table.{program_of as remote_program, remote}
 use Rattle.send_jobs.specs.declared.channels.Channel.{Channel}
 use Rattle.send_jobs.specs.declared.channels.Channel.TheVariants as channel

@@ -21,10 +21,10 @@ use Rattle.local_spawn.specs.declared.row.Row.{Row as LocalRow}
 use Rattle.local_spawn.specs.declared.row.Row.TheVariants as local
 use Rattle.local_spawn.specs.Deliveries.{delivery_for, refusal}
 use Rattle.local_spawn.specs.Table.{local_kind, program_of, readied_by, users_closed, users_opened, users_opened_by, users_read, users_read_by}
-use Rattle.post_law.specs.Posts.{At, IsAskedFor, Post, Posted, Spawner, channel_of, due_of, goes_at, moved, work_of}
-use Rattle.post_law.specs.Posts.Spawner.{Local, Remote}
-use Rattle.post_law.proofs.Sums.{not_running}
-use Rattle.post_law.proofs.Works.{arrives}
+use Rattle.program_law.specs.Post.Posts.{At, IsAskedFor, Post, Posted, Spawner, channel_of, due_of, goes_at, moved, work_of}
+use Rattle.program_law.specs.Post.Posts.Spawner.{Local, Remote}
+use Rattle.program_law.proofs.Post.Sums.{not_running}
+use Rattle.program_law.proofs.Post.Works.{arrives}
 use Rattle.remote_spawn.specs.Table.{program_of as remote_program, remote}
 use Rattle.send_jobs.specs.declared.attempts.Attempt.{Attempt}
 use Rattle.send_jobs.specs.Slots.{attempt_in}

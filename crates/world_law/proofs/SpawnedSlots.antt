@@ -11,11 +11,11 @@ use Rattle.call_fs.specs.declared.past.Own.{Own}
 use Rattle.call_fs.specs.declared.program.Port.TheVariants as port
 use Rattle.call_fs.specs.declared.program.Ready.{Ready}
 use Rattle.call_fs.specs.Program.{MayCome}
-use Rattle.post_law.specs.Posts.{freed, freed_all}
-use Rattle.post_law.specs.Senders.{AsksFor, IsFirst, IsLate, asked_on, is_early, is_on}
-use Rattle.post_law.proofs.Aways.{IsAway, away_asked, control_away, row_away, start_away}
-use Rattle.post_law.proofs.Desks.{desks_tell, was_in}
-use Rattle.post_law.proofs.Leaves.{Halves, IsStill, Same, act_goes}
+use Rattle.program_law.specs.Post.Posts.{freed, freed_all}
+use Rattle.program_law.specs.Post.Senders.{AsksFor, IsFirst, IsLate, asked_on, is_early, is_on}
+use Rattle.program_law.proofs.Post.Aways.{IsAway, away_asked, control_away, row_away, start_away}
+use Rattle.program_law.proofs.Post.Desks.{desks_tell, was_in}
+use Rattle.program_law.proofs.Post.Leaves.{Halves, IsStill, Same, act_goes}
 use Rattle.send_core.specs.declared.desk.Desk.{Desk}
 use Rattle.send_core.specs.declared.row.Point.TheVariants as point
 use Rattle.send_core.specs.declared.row.Row.{Row}
@@ -30,11 +30,11 @@ use Rattle.send_jobs.specs.declared.slots.Slots.{Slots}
 use Rattle.send_jobs.specs.Lanes.{next, sent_in}
 use Rattle.send_jobs.specs.Sending.{lane, next_delivery, sent_as, sent_on}
 use Rattle.send_jobs.specs.Slots.{attempt_in, lowest}
-use Rattle.send_steps.specs.declared.rows.StartRow.{StartRow}
-use Rattle.send_steps.specs.declared.rows.StartRow.TheVariants as start
-use Rattle.send_steps.specs.Replies.{said}
-use Rattle.send_steps.specs.Requests.{first_text}
-use Rattle.send_steps.specs.Start.{remote_limit}
+use Rattle.send_parts.specs.declared.rows.StartRow.{StartRow}
+use Rattle.send_parts.specs.declared.rows.StartRow.TheVariants as start
+use Rattle.send_parts.specs.Replies.{said}
+use Rattle.send_parts.specs.Requests.{first_text}
+use Rattle.send_parts.specs.Start.{remote_limit}
 use Rattle.spawn_protocol.specs.declared.report.Report.{Report}
 use Rattle.spawn_protocol.specs.Report.{read_on}
 use Rattle.world_law.proofs.PostSends.{stays_late}

@@ -14,15 +14,15 @@ use Rattle.call_fs.specs.declared.past.NeedData.TheVariants as needs
 use Rattle.call_fs.specs.declared.past.Own.{Own}
 use Rattle.call_fs.specs.declared.program.Port.TheVariants as port
 use Rattle.local_spawn.specs.Table.{begun as local_begun, place_after as local_after}
-use Rattle.post_law.specs.Laws.{request_for}
-use Rattle.post_law.specs.Posts.{Done, IsAskedFor, IsOffered, Post, Posted, Spawner, Task, asked_by, asks_for, done_by, due_of, goes_at, moved as works_on, tasks_by, told_by, work_of}
-use Rattle.post_law.specs.Posts.Spawner.{Local as LocalAt, Remote as RemoteAt}
-use Rattle.post_law.specs.Senders.{AsksFor, IsFirst, IsLate, IsSome, Sends, asked_on, heard_at, is_early, is_on, told_on}
-use Rattle.post_law.proofs.Asks.{asks_keep, starts_posted}
-use Rattle.post_law.proofs.Plains.{requests_are_plain}
-use Rattle.post_law.proofs.Senders.{senders_keep}
-use Rattle.post_law.proofs.Spawners.{spawners_keep}
-use Rattle.post_law.proofs.TakesIn.{drop_past}
+use Rattle.program_law.specs.Post.Laws.{request_for}
+use Rattle.program_law.specs.Post.Posts.{Done, IsAskedFor, IsOffered, Post, Posted, Spawner, Task, asked_by, asks_for, done_by, due_of, goes_at, moved as works_on, tasks_by, told_by, work_of}
+use Rattle.program_law.specs.Post.Posts.Spawner.{Local as LocalAt, Remote as RemoteAt}
+use Rattle.program_law.specs.Post.Senders.{AsksFor, IsFirst, IsLate, IsSome, Sends, asked_on, heard_at, is_early, is_on, told_on}
+use Rattle.program_law.proofs.Post.Asks.{asks_keep, starts_posted}
+use Rattle.program_law.proofs.Post.Plains.{requests_are_plain}
+use Rattle.program_law.proofs.Post.Senders.{senders_keep}
+use Rattle.program_law.proofs.Post.Spawners.{spawners_keep}
+use Rattle.program_law.proofs.Post.TakesIn.{drop_past}
 use Rattle.remote_spawn.specs.Table.{place_after as remote_after}
 use Rattle.send_core.specs.declared.desk.Desk.{Desk}
 use Rattle.send_core.specs.declared.row.Row.{Row}
@@ -36,9 +36,9 @@ use Rattle.send_jobs.specs.declared.lane.Lane.{Lane}
 use Rattle.send_jobs.specs.Sending.{lane}
 use Rattle.send_jobs.specs.Slots.{IsLeastFree, attempt_in, lowest}
 use Rattle.send_jobs.proofs.SlotLemmas.{lowest_is_least}
-use Rattle.send_steps.specs.declared.rows.StartRow.{StartRow}
-use Rattle.send_steps.specs.declared.rows.StartRow.TheVariants as start
-use Rattle.sender_law.proofs.Heads.{first_in}
+use Rattle.send_parts.specs.declared.rows.StartRow.{StartRow}
+use Rattle.send_parts.specs.declared.rows.StartRow.TheVariants as start
+use Rattle.program_law.proofs.Sender.Heads.{first_in}
 use Rattle.spawn_protocol.specs.declared.request.Request.{Request}
 use Rattle.spawn_protocol.specs.Report.{Reader}
 use Rattle.spawn_protocol.specs.Request.{request_text}

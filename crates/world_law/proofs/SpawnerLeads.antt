@@ -18,11 +18,11 @@ use Rattle.local_spawn.specs.declared.delivery.Delivery.{Delivery}
 use Rattle.local_spawn.specs.declared.place.Place.{Place as LocalPlace}
 use Rattle.local_spawn.specs.declared.row.Row.{Row as LocalRow}
 use Rattle.local_spawn.specs.declared.row.Row.TheVariants as local
-use Rattle.local_spawn.specs.Deliveries.{netstring}
+use Rattle.mail_bytes.specs.Netstring.{netstring}
 use Rattle.local_spawn.specs.Table.{due_at as local_due_at, due_from, readied_by}
-use Rattle.post_law.specs.Posts.{Task}
-use Rattle.post_law.proofs.Sums.{not_running}
-use Rattle.post_law.proofs.Works.{arrives}
+use Rattle.program_law.specs.Post.Posts.{Task}
+use Rattle.program_law.proofs.Post.Sums.{not_running}
+use Rattle.program_law.proofs.Post.Works.{arrives}
 use Rattle.queue_law.specs.Injectors.{IsHeld}
 use Rattle.queue_paths.specs.Names.{split_text}
 use Rattle.queue_states.specs.declared.state.State.TheVariants.{S5}

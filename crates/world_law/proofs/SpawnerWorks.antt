@@ -23,7 +23,7 @@ use Rattle.local_spawn.specs.declared.row.Row.{Row as LocalRow}
 use Rattle.local_spawn.specs.declared.row.Row.TheVariants as local
 use Rattle.local_spawn.specs.Deliveries.{crashed, delivery_for, local_report, refusal}
 use Rattle.local_spawn.specs.Table.{act as local_act, due_at as local_due_at, due_by, due_from, local_kind, moved, place_after, program_of, readied_by, users_closed, users_opened, users_read}
-use Rattle.post_law.specs.Posts.{Task, goes_at, tasks_by}
+use Rattle.program_law.specs.Post.Posts.{Task, goes_at, tasks_by}
 use Rattle.queue_inject.specs.Texts.{entered}
 use Rattle.queue_law.specs.Books.{Books, Injection}
 use Rattle.queue_law.specs.Injectors.{IsHeld}

@@ -36,14 +36,14 @@ use Rattle.spawner_parts.specs.Asked.{is_bad, runs_in}
 use Rattle.spawner_parts.specs.Table.{IsKind, IsReadied, Kind, act, arrive, bad_request, closed, due_at, ended_by, gave, greeting}
 use Rattle.spawner_parts.specs.Table.{heeded, is_asked, launched, next_request, none_runs, opened_by, opens, printed, read_by, reports, resting, row_now, took, turning}
 use Rattle.spawner_parts.specs.Table.IsReadied.{IsAnswered, IsGiven}
-use Rattle.delivery_law.proofs.Stay.{drops_stay}
+use Rattle.program_law.proofs.Delivery.Stay.{drops_stay}
 use Rattle.queue_law.specs.Numbers.{Queue}
 use Rattle.queue_law.specs.Senders.{OnlyReads, called_queue}
 use Rattle.queue_law.proofs.Opens.{opened_held}
 use Rattle.queue_law.proofs.RestIsKept.{rest_is_kept}
 use Rattle.queue_law.proofs.Sends.{reads_keep}
-use Rattle.sender_law.proofs.ControlsStay.{controls_stay}
-use Rattle.sender_law.proofs.Spares.{others_spare}
+use Rattle.program_law.proofs.Sender.ControlsStay.{controls_stay}
+use Rattle.program_law.proofs.Sender.Spares.{others_spare}
 use Rattle.world_pipes.specs.Pipework.{Pipe, Pipework, Tenant, closed as closed_pipe, given as given_pipe, gives, mouth, pipework_after, programs_after, put_pipe, taken}
 use Rattle.world_pipes.specs.Pipework.Tenant.{Runs, Remote}
 use Rattle.world_events.specs.declared.event.Program.{Program}

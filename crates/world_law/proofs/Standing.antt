@@ -11,10 +11,10 @@ use Rattle.call_fs.specs.declared.past.NeedData.{NeedData}
 use Rattle.call_fs.specs.declared.past.NeedData.TheVariants as needs
 use Rattle.call_fs.specs.declared.past.Own.{Own}
 use Rattle.call_fs.specs.declared.program.Ready.{Ready}
-use Rattle.channel_law.specs.Files.{IsOpen}
-use Rattle.channel_law.specs.Tied.{in_hand, is_at, is_slot_at}
-use Rattle.channel_law.proofs.Counts.{contained_counts, counted_cons}
-use Rattle.channel_law.proofs.Ties.{at_itself, at_same}
+use Rattle.program_law.specs.Channel.Files.{IsOpen}
+use Rattle.program_law.specs.Channel.Tied.{in_hand, is_at, is_slot_at}
+use Rattle.program_law.proofs.Channel.Counts.{contained_counts, counted_cons}
+use Rattle.program_law.proofs.Channel.Ties.{at_itself, at_same}
 use Rattle.queue_inject.specs.declared.injection.Arguments.{Arguments}
 use Rattle.queue_inject.specs.declared.row.Row.{Row}
 use Rattle.queue_inject.specs.declared.row.Row.TheVariants as at
@@ -43,10 +43,10 @@ use Rattle.send_jobs.specs.declared.channels.Channel.TheVariants as channel
 use Rattle.send_jobs.specs.Jobs.{job_of}
 use Rattle.send_jobs.specs.Sending.{lane}
 use Rattle.send_jobs.specs.Slots.{attempt_in}
-use Rattle.sender_law.specs.Knows.{IsSettledIn, Serves}
-use Rattle.sender_law.specs.Views.{files_of, first_at}
-use Rattle.sender_law.proofs.Others.{the_job}
-use Rattle.sender_law.proofs.Texts.{they_are}
+use Rattle.program_law.specs.Sender.Knows.{IsSettledIn, Serves}
+use Rattle.program_law.specs.Sender.Views.{files_of, first_at}
+use Rattle.program_law.proofs.Sender.Others.{the_job}
+use Rattle.program_law.proofs.Sender.Texts.{they_are}
 use Rattle.world_events.specs.declared.event.Program.{Program}
 use Rattle.world_events.specs.declared.event.Program.TheVariants.{Injector, Sender}
 use Rattle.mail_world.specs.History.{Actor, Life, State, after, next_of}

@@ -5,9 +5,9 @@ use Rattle.address_rules.specs.declared.controls.Controls.{Controls}
 use Rattle.call_fs.specs.Maps.{put_at}
 use Rattle.call_fs.specs.declared.past.Own.{Own}
 use Rattle.queue_law.proofs.Injectors.{injector_start}
-use Rattle.sender_law.proofs.Asking.{texts_keep}
-use Rattle.sender_law.proofs.Begins.{begins as sender_begins}
-use Rattle.sender_law.proofs.ControlsRead.{controls_are_read}
+use Rattle.program_law.proofs.Sender.Asking.{texts_keep}
+use Rattle.program_law.proofs.Sender.Begins.{begins as sender_begins}
+use Rattle.program_law.proofs.Sender.ControlsRead.{controls_are_read}
 use Rattle.actor_names.specs.MailNames.{members}
 use Rattle.world_pipes.specs.Pipework.{Tenant, is_member}
 use Rattle.world_pipes.specs.Pipework.Tenant.{Remote, Runs}

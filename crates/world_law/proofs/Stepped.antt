@@ -3,8 +3,8 @@ use Rattle.std.proofs.Common.{◌≡◌, ◌≢◌, inl, ℕ, List, Option, Some
 use Rattle.address_rules.specs.declared.controls.Controls.{Controls}
 use Rattle.call_fs.specs.declared.past.Own.{Own}
 use Rattle.call_fs.specs.Maps.{put_at}
-use Rattle.delivery_law.specs.Leaves.{LeavesDrops}
-use Rattle.errand_law.specs.Errands.Awaits.{Answer}
+use Rattle.program_law.specs.Delivery.Leaves.{LeavesDrops}
+use Rattle.program_law.specs.Errand.Errands.Awaits.{Answer}
 use Rattle.queue_clean.specs.declared.command.Command.TheVariants.{Todo}
 use Rattle.queue_clean.specs.Table.{Place, place_after}
 use Rattle.local_spawn.specs.Table.{place_after as local_after}
@@ -14,8 +14,8 @@ use Rattle.send_core.specs.declared.row.Row.TheVariants as at
 use Rattle.send_core.specs.Table.{desk_after}
 use Rattle.send_core.specs.Turn.{known_of}
 use Rattle.send_jobs.specs.declared.slots.Slots.{Slots}
-use Rattle.send_steps.specs.declared.book.Book.{Book}
-use Rattle.send_steps.specs.declared.rows.FinishRow.TheVariants as finish
+use Rattle.send_parts.specs.declared.book.Book.{Book}
+use Rattle.send_parts.specs.declared.rows.FinishRow.TheVariants as finish
 use Rattle.todo_pass.specs.declared.row.Row.{Row as PassRow}
 use Rattle.todo_pass.specs.declared.row.Row.TheVariants as todo
 use Rattle.todo_pass.specs.Disks.{HoldsTodo}
@@ -26,16 +26,16 @@ use Rattle.queue_law.specs.Rests.{IsClosed, Spares, SparesNames}
 use Rattle.queue_law.specs.Steps.{Elsewhere}
 use Rattle.queue_law.proofs.Frame.{injector_frame}
 use Rattle.queue_law.proofs.RestIsKept.{rest_is_kept}
-use Rattle.sender_law.specs.ControlFiles.{LeavesControls}
-use Rattle.sender_law.specs.InTodo.{IsExpected, PassGoesOn, TodoStands}
-use Rattle.sender_law.specs.LeftAlone.{LeavesPass, LeavesRow}
-use Rattle.sender_law.specs.Rows.{RowStands, Works, works}
-use Rattle.sender_law.specs.Stands.{SenderStands, SparesSorted}
-use Rattle.sender_law.specs.Waits.{awaits_at, awaits_in as awaits_in_pass}
-use Rattle.sender_law.proofs.Asking.{texts_keep}
-use Rattle.sender_law.proofs.ControlsRead.{controls_are_read}
-use Rattle.sender_law.proofs.ControlsStay.{controls_stay}
-use Rattle.sender_law.proofs.LeftAlone.{senders_are_left_alone}
+use Rattle.program_law.specs.Sender.ControlFiles.{LeavesControls}
+use Rattle.program_law.specs.Sender.InTodo.{IsExpected, PassGoesOn, TodoStands}
+use Rattle.program_law.specs.Sender.LeftAlone.{LeavesPass, LeavesRow}
+use Rattle.program_law.specs.Sender.Rows.{RowStands, Works, works}
+use Rattle.program_law.specs.Sender.Stands.{SenderStands, SparesSorted}
+use Rattle.program_law.specs.Sender.Waits.{awaits_at, awaits_in as awaits_in_pass}
+use Rattle.program_law.proofs.Sender.Asking.{texts_keep}
+use Rattle.program_law.proofs.Sender.ControlsRead.{controls_are_read}
+use Rattle.program_law.proofs.Sender.ControlsStay.{controls_stay}
+use Rattle.program_law.proofs.Sender.LeftAlone.{senders_are_left_alone}
 use Rattle.world_events.specs.declared.event.Program.{Program}
 use Rattle.world_events.specs.declared.event.Program.TheVariants.{Injector, Cleaner, Sender, LocalSpawner, RemoteSpawner, Delivery}
 use Rattle.mail_world.specs.History.{Actor, Life, State}

@@ -9,10 +9,10 @@ use Rattle.send_core.specs.declared.desk.Desk.{Desk}
 use Rattle.send_core.specs.declared.row.Row.{Row}
 use Rattle.send_core.specs.declared.row.Row.TheVariants.{Sweep}
 use Rattle.send_core.specs.Table.{desk_after, row_now}
-use Rattle.send_steps.specs.declared.rows.SweepRow.TheVariants.{Give}
-use Rattle.sender_law.specs.Rows.{IsAged}
-use Rattle.sender_law.specs.Stands.{StandsAt}
-use Rattle.sender_law.proofs.Arrive.{arrived}
+use Rattle.send_parts.specs.declared.rows.SweepRow.TheVariants.{Give}
+use Rattle.program_law.specs.Sender.Rows.{IsAged}
+use Rattle.program_law.specs.Sender.Stands.{StandsAt}
+use Rattle.program_law.proofs.Sender.Arrive.{arrived}
 use Rattle.world_events.specs.declared.event.Program.TheVariants.{Sender}
 use Rattle.mail_world.specs.History.{Actor, MayDo, State, after}
 use Rattle.mail_world.specs.Untouched.{queue}

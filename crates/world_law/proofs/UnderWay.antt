@@ -3,8 +3,8 @@ use Rattle.std.proofs.Common.{◌≡◌, inl, inr, ℕ, List, true, Option, Some
 use Rattle.address_rules.specs.declared.controls.Controls.{Controls}
 use Rattle.call_fs.specs.Disk.{Among}
 use Rattle.call_fs.specs.declared.past.Own.{Own}
-use Rattle.errand_law.specs.Errands.{texts_of, waiting, work_at}
-use Rattle.errand_law.proofs.Texts.{same_text}
+use Rattle.program_law.specs.Errand.Errands.{texts_of, waiting, work_at}
+use Rattle.program_law.proofs.Errand.Texts.{same_text}
 use Rattle.queue_clean.specs.declared.command.Command.{Command}
 use Rattle.queue_clean.specs.declared.row.Row.{Row}
 use Rattle.queue_clean.specs.declared.row.Row.TheVariants as at
@@ -23,7 +23,7 @@ use Rattle.queue_law.specs.Rests.{IsAccepted, IsClosed, IsOverdue}
 use Rattle.queue_law.proofs.Looks.{found}
 use Rattle.queue_paths.specs.Names.Name.{Of}
 use Rattle.queue_paths.specs.Names.Part.{Mess}
-use Rattle.sender_law.specs.Commands.{RestsFor}
+use Rattle.program_law.specs.Sender.Commands.{RestsFor}
 use Rattle.world_events.specs.declared.event.Program.{Program}
 use Rattle.world_events.specs.declared.event.Program.TheVariants.{Cleaner}
 use Rattle.mail_world.specs.History.{Actor, Life, State, after}

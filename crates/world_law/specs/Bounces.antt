@@ -25,7 +25,7 @@ use Rattle.queue_paths.specs.Names.Name.{Of}
 use Rattle.queue_paths.specs.Names.Part.{Bounce as BounceFile}
 use Rattle.send_jobs.specs.declared.channels.Channel.{Channel}
 use Rattle.received_line.specs.declared.line.Invoked.TheVariants as invoking
-use Rattle.sender_law.specs.Control.{AreControls}
+use Rattle.program_law.specs.Sender.Control.{AreControls}
 use Rattle.mail_world.specs.History.{Actor, Event, Legal, after}
 use Rattle.mail_world.specs.History.Event.{Act}
 use Rattle.world_events.specs.declared.event.Program.TheVariants.{Sender}

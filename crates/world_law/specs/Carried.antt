@@ -2,7 +2,7 @@
 -- reported.
 use Rattle.std.specs.Prelude.{◌≡◌, ℕ, List, [], ◌∷◌, ◌++◌, map, Option, Some, None, bytes_eq, codes, if◌then◌else◌}
 use Rattle.address_rules.specs.declared.controls.Controls.{Controls}
-use Rattle.call_fs.specs.Disk.{Among, Disk}
+use Rattle.call_fs.specs.Disk.{Among, Disk, IsWhole}
 use Rattle.call_fs.specs.declared.calls.Answer.{Answer}
 use Rattle.call_fs.specs.declared.calls.Answer.TheVariants as answer
 use Rattle.call_fs.specs.declared.calls.CallData.{CallData}
@@ -16,25 +16,21 @@ use Rattle.call_fs.specs.declared.past.Own.{Own}
 use Rattle.call_fs.specs.declared.program.Port.TheVariants as port
 use Rattle.dot_qmail.specs.declared.line.Line.{Line}
 use Rattle.local_deliver.specs.Carried.{AreDrops, Reaches, instructions}
-use Rattle.local_deliver.specs.Deeds.{LinkMade, exits, feeds, host_read, starts, statuses, taken}
-use Rattle.local_steps.specs.declared.arguments.LocalArgs.{LocalArgs}
-use Rattle.local_steps.specs.Forwarding.{forwards}
-use Rattle.local_steps.specs.Inputs.{message_in}
-use Rattle.local_steps.specs.Texts.{maildir_text}
-use Rattle.maildir_drop.specs.Laws.{IsWhole}
+use Rattle.local_deliver.specs.Deeds.{LinkMade, exits, feeds, host_read, starts, statuses}
+use Rattle.call_fs.specs.Past.{taken}
+use Rattle.local_parts.specs.declared.arguments.LocalArgs.{LocalArgs}
+use Rattle.local_parts.specs.Forwarding.{forwards}
+use Rattle.local_parts.specs.Inputs.{message_in}
+use Rattle.local_parts.specs.Texts.{maildir_text}
 use Rattle.queue_inject.specs.Texts.{entered}
 use Rattle.queue_law.specs.Books.{Books, Injection, IsInjected}
 use Rattle.queue_law.specs.Routes.{Recipient, routed, spot_of}
-use Rattle.send_core.specs.declared.desk.Desk.{Desk}
-use Rattle.send_core.specs.Desk.{link, told, with_reader}
-use Rattle.send_core.specs.Table.{desk_after}
-use Rattle.send_jobs.specs.declared.attempts.Attempt.{Attempt}
+use Rattle.send_core.specs.Past.{Account, Task, account, settle}
 use Rattle.send_jobs.specs.declared.channels.Channel.TheVariants.{Local}
-use Rattle.send_jobs.specs.Sending.{lane}
-use Rattle.send_jobs.specs.Slots.{attempt_in}
 use Rattle.spawn_protocol.specs.declared.report.Report.{Report}
-use Rattle.spawn_protocol.specs.Report.{counted, read_on}
-use Rattle.sender_law.specs.Control.{AreControls}
+use Rattle.spawn_protocol.specs.Report.{counted}
+use Rattle.send_runs.specs.Reports.{reports_at}
+use Rattle.program_law.specs.Sender.Control.{AreControls}
 use Rattle.world_events.specs.declared.event.Program.TheVariants.{Delivery, Sender}
 use Rattle.mail_world.specs.History.{Actor, Event, Legal, after, netstring}
 use Rattle.mail_world.specs.History.Event.{Act}
@@ -114,34 +110,33 @@ pub record WasCarried (d : Disk) (h : List Event) (address message : List ℕ) :
   pub recipient : address ≡ args.local ++ 64 ∷ args.domain
   pub carried : Carried d h name args delivery.past message
 
--- There is one for this attempt: in its slot of the local spawner, for its recipient, and of the message that the accepted injection of its
--- number entered.
-pub record WasCarriedFor (d : Disk) (h : List Event) (slot : ℕ) (t : Attempt) : Type 0 where
+-- There is one for the attempt at this record in this slot of the local spawner: for its recipient, and of the message that the accepted injection of
+-- its number entered.
+pub record WasCarriedFor (d : Disk) (h : List Event) (slot : ℕ) (t : Task) : Type 0 where
   pub message : List ℕ
   pub entered : IsEntered (after d h) t.n message
   pub it : WasCarried d h t.address message
   pub in_slot : (after d h).pipework.slots it.name ≡ Some (record { parent = codes "lspawn"; number = slot })
 
 -- A report is of the attempt in flight in its slot, and if it tells of a success, there is such a delivery.
-abbrev pub IsTrue : Disk → List Event → Report → Option Attempt → Type 0
+abbrev pub IsTrue : Disk → List Event → Report → Option Task → Type 0
 IsTrue d h r None = ⊥
 IsTrue d h r (Some t) = counted r.letter ≡ 75 → WasCarriedFor d h r.slot t
 
--- so is each of these, which the sender with this desk takes one after the other
-abbrev pub AreTrue : Disk → List Event → List Report → Desk → Type 0
-AreTrue d h [] desk = Unit {0}
-AreTrue d h (r ∷ rs) desk = IsTrue d h r (attempt_in (lane Local desk.slots).slots r.slot) × AreTrue d h rs (told Local r desk)
+-- so is each of these, which a sender takes one after the other, by what its past says of the channel
+abbrev pub AreTrue : Disk → List Event → List Report → Account → Type 0
+AreTrue d h [] a = Unit {0}
+AreTrue d h (r ∷ rs) a = IsTrue d h r (a.in_flight r.slot) × AreTrue d h rs (settle r a)
 
--- what a sender with this past hears of the local spawner with these bytes
-abbrev pub HearsTrue : Disk → List Event → List Own → List ℕ → Type 0
-HearsTrue d h past bytes =
-    let desk = desk_after None past in let it = read_on (link Local desk).reader bytes in AreTrue d h it.0 (with_reader Local it.1 desk)
+-- what a sender with this past hears of the local spawner with this event
+abbrev pub HearsTrue : Disk → List Event → List Own → Own → Type 0
+HearsTrue d h past own = AreTrue d h (reports_at Local past own) (account Local past)
 
 -- Each report that a sender takes of the local spawner is of an attempt in flight, and a K report comes of such a delivery.
 abbrev pub KReportsAreCarried : Type 0
 KReportsAreCarried = (controls : Controls) (d : Disk) (a : List ℕ) (own : Own) (wrote : ℕ) (before : List Event) → AreControls controls d
     → Legal d (Act a own wrote ∷ before) → (x : Actor) → (after d before).actors a ≡ Some x → (start : ℕ) → x.program ≡ Sender start
-    → own.due ≡ needs.Take port.Lspawn → (bytes : List ℕ) → own.came ≡ came.Took bytes → HearsTrue d before x.past bytes
+    → own.due ≡ needs.Take port.Lspawn → (bytes : List ℕ) → own.came ≡ came.Took bytes → HearsTrue d before x.past own
 
 -- Each recipient of a local address that is accounted for as delivered has a delivery for its routed address, of the message as entered.
 abbrev pub DeliveredAreCarried : Type 0

@@ -7,9 +7,9 @@ use Rattle.queue_clean.specs.Table.{Place, start, place_after}
 use Rattle.send_core.specs.Table.{desk_after}
 use Rattle.world_events.specs.declared.event.Program.{Program}
 use Rattle.world_events.specs.declared.event.Program.TheVariants.{Injector, Cleaner, Sender, LocalSpawner, RemoteSpawner, Delivery}
-use Rattle.errand_law.specs.Errands.{Awaits, Link}
-use Rattle.errand_law.specs.Errands.Awaits.{Over}
-use Rattle.sender_law.specs.Waits.{awaits}
+use Rattle.program_law.specs.Errand.Errands.{Awaits, Link}
+use Rattle.program_law.specs.Errand.Errands.Awaits.{Over}
+use Rattle.program_law.specs.Sender.Waits.{awaits}
 use Rattle.mail_world.specs.Pipework.{Pipework}
 use Rattle.mail_world.specs.History.{Actor, Life, State}
 use Rattle.mail_world.specs.History.Life.{Alive, Over as Ended, Stopped}

@@ -2,7 +2,7 @@
 -- files they make links.
 use Rattle.std.specs.Prelude.{◌≡◌, ℕ, List, [], ◌∷◌, ◌++◌, Some}
 use Rattle.address_rules.specs.declared.controls.Controls.{Controls}
-use Rattle.call_fs.specs.Disk.{Disk}
+use Rattle.call_fs.specs.Disk.{Disk, IsWhole}
 use Rattle.call_fs.specs.declared.calls.CallData.TheVariants.{Link}
 use Rattle.call_fs.specs.declared.past.GotData.TheVariants as got
 use Rattle.call_fs.specs.declared.past.NeedData.TheVariants as needs
@@ -14,17 +14,17 @@ use Rattle.queue_inject.specs.Texts.{recipients_of}
 use Rattle.queue_law.specs.Books.{Books, HasQueued}
 use Rattle.queue_law.specs.Routes.{sender_of}
 use Rattle.local_deliver.specs.Carried.{IsCarried}
-use Rattle.local_deliver.specs.Deeds.{feeds, statuses, taken, told_names}
+use Rattle.local_deliver.specs.Deeds.{feeds, statuses, told_names}
+use Rattle.call_fs.specs.Past.{taken}
 use Rattle.local_deliver.specs.Forwards.{HasGiven}
-use Rattle.local_steps.specs.declared.arguments.LocalArgs.{LocalArgs}
-use Rattle.local_steps.specs.Forwarding.{forward_sender, forwards}
-use Rattle.local_steps.specs.Inputs.{message_in}
-use Rattle.local_steps.specs.Texts.{forward_text, maildir_text}
-use Rattle.maildir_drop.specs.Laws.{IsWhole}
+use Rattle.local_parts.specs.declared.arguments.LocalArgs.{LocalArgs}
+use Rattle.local_parts.specs.Forwarding.{forward_sender, forwards}
+use Rattle.local_parts.specs.Inputs.{message_in}
+use Rattle.local_parts.specs.Texts.{forward_text, maildir_text}
 use Rattle.mail_world.specs.History.{Actor, Event, Legal, after, netstring}
 use Rattle.mail_world.specs.History.Event.{Act}
 use Rattle.mail_world.specs.History.Life.{Over}
-use Rattle.sender_law.specs.Control.{AreControls}
+use Rattle.program_law.specs.Sender.Control.{AreControls}
 use Rattle.world_events.specs.declared.event.Program.TheVariants.{Delivery}
 
 -- An injection was accepted whose message and envelope are just this input: `3:abc,` and the envelope as a netstring are that of `abc`.

@@ -13,16 +13,16 @@ use Rattle.local_spawn.specs.declared.row.Row.{Row as LocalRow}
 use Rattle.local_spawn.specs.declared.row.Row.TheVariants as local
 use Rattle.local_spawn.specs.Table.{place_after as local_after}
 use Rattle.remote_spawn.specs.Table.{place_after as spawn_after}
-use Rattle.delivery_law.specs.Rests.{DeliveryRests}
+use Rattle.program_law.specs.Delivery.Rests.{DeliveryRests}
 use Rattle.local_deliver.specs.Carried.{IsCarried}
-use Rattle.local_steps.specs.declared.arguments.LocalArgs.{LocalArgs}
+use Rattle.local_parts.specs.declared.arguments.LocalArgs.{LocalArgs}
 use Rattle.queue_law.specs.Cleaners.{CleanerStands}
 use Rattle.queue_law.specs.Injectors.{InjectorFares}
 use Rattle.queue_law.specs.Numbers.{Queue}
 use Rattle.queue_law.specs.Passes.{HasOpen}
-use Rattle.sender_law.specs.Asking.{TextsStand}
-use Rattle.sender_law.specs.ControlFiles.{ControlStands}
-use Rattle.sender_law.specs.Stands.{SenderStands}
+use Rattle.program_law.specs.Sender.Asking.{TextsStand}
+use Rattle.program_law.specs.Sender.ControlFiles.{ControlStands}
+use Rattle.program_law.specs.Sender.Stands.{SenderStands}
 use Rattle.world_events.specs.declared.event.Program.{Program}
 use Rattle.world_events.specs.declared.event.Program.TheVariants.{Injector, Cleaner, Sender, LocalSpawner, RemoteSpawner, Delivery}
 use Rattle.mail_world.specs.History.{Life}

@@ -13,13 +13,13 @@ use Rattle.mail_bytes.specs.Moments.{IsMoment}
 use Rattle.received_line.specs.declared.line.Invoked.TheVariants as invoking
 use Rattle.queue_clean.specs.declared.command.Command.{Command}
 use Rattle.queue_clean.specs.declared.command.Command.TheVariants.{Todo}
-use Rattle.errand_law.specs.Errands.{Link, Errand, SaysWell}
-use Rattle.errand_law.specs.Errands.Awaits.{Answer}
+use Rattle.program_law.specs.Errand.Errands.{Link, Errand, SaysWell}
+use Rattle.program_law.specs.Errand.Errands.Awaits.{Answer}
 use Rattle.queue_law.specs.Numbers.{Role, Queue, IsPreprocessed, Sound}
 use Rattle.queue_law.specs.Rests.{IsClosed, RestsAs}
 use Rattle.local_deliver.specs.Table.{Next as DeliversNext}
 use Rattle.send_core.specs.Table.{Next}
-use Rattle.sender_law.specs.Commands.{WaitsAtRest}
+use Rattle.program_law.specs.Sender.Commands.{WaitsAtRest}
 use Rattle.world_pipes.specs.Pipework.{Tenant}
 use Rattle.world_pipes.specs.Pipework.Tenant.{Remote, Runs}
 use Rattle.world_events.specs.declared.event.Program.{Program}
@@ -28,8 +28,8 @@ use Rattle.actor_names.specs.MailNames.{members}
 use Rattle.mail_world.specs.History.{Actor, IsFed, Life, MayRun, State}
 use Rattle.mail_world.specs.History.Life.{Alive}
 use Rattle.mail_world.specs.Untouched.{queue}
-use Rattle.sender_law.specs.Control.{AreControls}
-use Rattle.sender_law.specs.ControlFiles.{AreOld}
+use Rattle.program_law.specs.Sender.Control.{AreControls}
+use Rattle.program_law.specs.Sender.ControlFiles.{AreOld}
 use Rattle.world_law.specs.Bounces.{BouncesAreQueued}
 use Rattle.world_law.specs.Crew.{IsNamed, lives_in, link_in}
 use Rattle.world_law.specs.Fares.{FaresBy}

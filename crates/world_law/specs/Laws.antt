@@ -1,5 +1,5 @@
 -- What keeps the invariant: each event. So it holds after each legal history.
-use Rattle.std.specs.Prelude.{ℕ, List}
+use Rattle.std.specs.Prelude.{◌≡◌, ℕ, List, true}
 use Rattle.address_rules.specs.declared.controls.Controls.{Controls}
 use Rattle.call_fs.specs.declared.crash_file_system.Survival.{Survival}
 use Rattle.call_fs.specs.Disk.{Disk}
@@ -8,17 +8,24 @@ use Rattle.call_fs.specs.declared.program.Ready.{Ready}
 use Rattle.world_events.specs.declared.event.Program.{Program}
 use Rattle.mail_world.specs.History.{Event, State, Allowed, IsCleaner, IsDelivery, IsLocalSpawner, IsRemoteSpawner, IsSender, Legal, MayDo, MayRun, Opening, after, happens, opening}
 use Rattle.mail_world.specs.History.Event.{Start, Act, Child, Generation, Report, End, Stop, Moment, Halt}
-use Rattle.sender_law.specs.Control.{AreControls}
-use Rattle.world_law.specs.Headline.{Safe}
+use Rattle.program_law.specs.Sender.Control.{AreControls}
+use Rattle.queue_law.specs.Accounts.{Accounted}
+use Rattle.queue_law.specs.Books.{Injection, IsInjected}
+use Rattle.queue_law.specs.Routes.{Recipient}
+use Rattle.world_law.specs.Headline.{SafeState}
 use Rattle.world_law.specs.Inv.{Inv}
 
 -- it holds at the start
 abbrev pub InvBegins : Type 0
 InvBegins = (controls : Controls) (d : Disk) → AreControls controls d → Opening d → Inv controls (opening d)
 
+-- by the ledgers each recipient of each accepted injection is accounted for
+abbrev pub AreAccounted : Controls → State → Type 0
+AreAccounted controls s = (q : Injection) → IsInjected s.books q → q.accepted ≡ true → (r : Recipient q.args) → Accounted controls s.disk s.books q r
+
 -- it says that the state is safe
 abbrev pub InvIsSafe : Type 0
-InvIsSafe = (controls : Controls) (s : State) → Inv controls s → Safe controls s
+InvIsSafe = (controls : Controls) (s : State) → Inv controls s → SafeState s × AreAccounted controls s
 
 -- an event that may happen keeps it
 abbrev pub IsKeptBy : Event → Type 0
@@ -27,8 +34,9 @@ IsKeptBy e = (controls : Controls) (s : State) → Inv controls s → Allowed s 
 abbrev pub MomentsKeep : Type 0
 MomentsKeep = (m : ℕ) → IsKeptBy (Moment m)
 
+-- whatever a remote program wrote
 abbrev pub ReportsKeep : Type 0
-ReportsKeep = (slot letter : ℕ) (text : List ℕ) → IsKeptBy (Report slot letter text)
+ReportsKeep = (slot : ℕ) (output : List ℕ) → IsKeptBy (Report slot output)
 
 abbrev pub StopsKeep : Type 0
 StopsKeep = (a : List ℕ) → IsKeptBy (Stop a)

@@ -2,7 +2,7 @@
 use Rattle.std.specs.Prelude.{◌≡◌, ℕ, List, ◌∷◌, true, false, Option, Some}
 use Rattle.address_rules.specs.declared.controls.Controls.{Controls}
 use Rattle.call_fs.specs.Disk.{Disk, Open}
-use Rattle.delivery_law.specs.Leaves.{LeavesButDrops}
+use Rattle.program_law.specs.Delivery.Leaves.{LeavesButDrops}
 use Rattle.queue_law.specs.Books.{Injection, IsInjected, IsLater}
 use Rattle.queue_law.specs.Cleaners.{LeavesButPid}
 use Rattle.queue_law.specs.Injectors.{IsHeld}
@@ -12,7 +12,7 @@ use Rattle.world_events.specs.declared.event.Program.{Program}
 use Rattle.world_events.specs.declared.event.Program.TheVariants.{Cleaner, Delivery, Sender}
 use Rattle.mail_world.specs.History.{Event, Legal, State, after, happens}
 use Rattle.mail_world.specs.Untouched.{IsOther, about_in, doer, is_halt}
-use Rattle.sender_law.specs.Control.{AreControls}
+use Rattle.program_law.specs.Sender.Control.{AreControls}
 
 -- what an event of a program leaves of what isn't the queue's: all, except that a cleaner takes old names in `pid` away, and that a delivery
 -- puts files into maildirs

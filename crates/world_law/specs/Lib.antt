@@ -20,8 +20,12 @@ pub mod PidNames
 pub mod UnderWay
 -- what lies between the sender and the local spawner
 pub mod Posts
--- of which reports the ledgers have recipients as delivered
+-- of which reports the ledgers have recipients as delivered, and as failed
 pub mod Reported
+-- the lives of message numbers
+pub mod Lives
+-- how recipients are accounted for, by what happened
+pub mod Ledger
 -- what else holds in each state
 pub mod Standing
 -- what a spawner has in hand

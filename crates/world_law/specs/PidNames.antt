@@ -13,7 +13,7 @@ use Rattle.queue_inject.specs.Table.{row_after}
 use Rattle.queue_law.specs.Injectors.{InTime}
 use Rattle.queue_paths.specs.Names.{path}
 use Rattle.queue_paths.specs.Names.Name.{Pid}
-use Rattle.sender_law.specs.Control.{AreControls}
+use Rattle.program_law.specs.Sender.Control.{AreControls}
 use Rattle.world_events.specs.declared.event.Program.TheVariants.{Cleaner, Injector}
 use Rattle.mail_world.specs.History.{Actor, Event, Legal, State, after}
 use Rattle.mail_world.specs.History.Event.{Act}

@@ -5,16 +5,16 @@ use Rattle.call_fs.specs.declared.past.Own.{Own}
 use Rattle.call_fs.specs.declared.program.Port.TheVariants as port
 use Rattle.local_spawn.specs.declared.place.Place.{Place}
 use Rattle.local_spawn.specs.Table.{begun as spawner_begun, place_after}
-use Rattle.local_steps.specs.declared.arguments.LocalArgs.{LocalArgs}
+use Rattle.local_parts.specs.declared.arguments.LocalArgs.{LocalArgs}
 use Rattle.send_core.specs.declared.desk.Desk.{Desk}
-use Rattle.send_core.specs.Desk.{link, told}
+use Rattle.send_core.specs.Desk.{link}
 use Rattle.send_core.specs.Table.{begun, desk_after}
 use Rattle.send_jobs.specs.declared.channels.Channel.TheVariants.{Local}
 use Rattle.send_jobs.specs.Sending.{lane}
 use Rattle.spawn_protocol.specs.declared.request.Request.{Request}
-use Rattle.post_law.specs.Posts.{Done, Post, Posted, Task}
-use Rattle.post_law.specs.Posts.Spawner.{Local as LocalAt}
-use Rattle.post_law.specs.Senders.{IsFirst, heard_at, is_on}
+use Rattle.program_law.specs.Post.Posts.{Done, Post, Posted, Task}
+use Rattle.program_law.specs.Post.Posts.Spawner.{Local as LocalAt}
+use Rattle.program_law.specs.Post.Senders.{IsFirst, heard_at, is_on}
 use Rattle.world_pipes.specs.Pipework.{Pipework}
 use Rattle.world_pipes.specs.Pipework.Tenant.{Runs}
 use Rattle.world_events.specs.declared.event.Program.{Program}

@@ -7,12 +7,12 @@ use Rattle.call_fs.specs.declared.calls.CallData.TheVariants.{Link}
 use Rattle.call_fs.specs.declared.past.NeedData.TheVariants as needs
 use Rattle.call_fs.specs.declared.past.Own.{Own}
 use Rattle.call_fs.specs.declared.program.Port.TheVariants as port
-use Rattle.channel_law.specs.Files.{IsOpen}
+use Rattle.program_law.specs.Channel.Files.{IsOpen}
 use Rattle.envelope_records.specs.declared.channel.Record.{Record}
 use Rattle.local_spawn.specs.Table.{place_after as local_after}
-use Rattle.local_steps.specs.declared.arguments.LocalArgs.{LocalArgs}
-use Rattle.post_law.specs.Posts.{HasPlainFields}
-use Rattle.post_law.specs.Senders.{is_on}
+use Rattle.local_parts.specs.declared.arguments.LocalArgs.{LocalArgs}
+use Rattle.program_law.specs.Post.Posts.{HasPlainFields}
+use Rattle.program_law.specs.Post.Senders.{is_on}
 use Rattle.queue_inject.specs.declared.injection.Arguments.{Arguments}
 use Rattle.queue_inject.specs.declared.row.Row.{Row}
 use Rattle.queue_inject.specs.declared.row.Row.TheVariants as at
@@ -38,10 +38,10 @@ use Rattle.send_jobs.specs.declared.channels.Channel.{Channel}
 use Rattle.send_jobs.specs.declared.channels.Channel.TheVariants as channel
 use Rattle.send_jobs.specs.Sending.{lane}
 use Rattle.send_jobs.specs.Slots.{attempt_in}
-use Rattle.send_steps.specs.Files.{records_of}
-use Rattle.send_steps.specs.declared.rows.SweepRow.TheVariants.{Give}
-use Rattle.sender_law.specs.Control.{AreControls}
-use Rattle.sender_law.specs.Rows.{IsAged}
+use Rattle.send_parts.specs.Files.{records_of}
+use Rattle.send_parts.specs.declared.rows.SweepRow.TheVariants.{Give}
+use Rattle.program_law.specs.Sender.Control.{AreControls}
+use Rattle.program_law.specs.Sender.Rows.{IsAged}
 use Rattle.spawn_protocol.specs.declared.inbox.Intake.TheVariants as intake
 use Rattle.spawn_protocol.specs.declared.request.Request.{Request}
 use Rattle.spawn_protocol.specs.Request.{request_text}
@@ -49,7 +49,7 @@ use Rattle.spawner_parts.specs.declared.place.Place.{Place}
 use Rattle.spawner_parts.specs.declared.row.Row.{Row as SpawnRow}
 use Rattle.spawner_parts.specs.declared.row.Row.TheVariants as spawn
 use Rattle.spawner_parts.specs.Asked.{runs_in}
-use Rattle.sender_law.specs.Views.{files_of}
+use Rattle.program_law.specs.Sender.Views.{files_of}
 use Rattle.world_events.specs.declared.event.Program.TheVariants.{Delivery, Injector, LocalSpawner, Sender}
 use Rattle.world_pipes.specs.Pipework.Tenant.{Runs}
 use Rattle.mail_world.specs.History.{Actor, Event, Legal, State, after}

@@ -8,8 +8,8 @@ use Rattle.queue_law.specs.Cleaners.{Needs}
 use Rattle.queue_paths.specs.Names.{path}
 use Rattle.queue_paths.specs.Names.Name.{Of}
 use Rattle.queue_paths.specs.Names.Part.{Mess}
-use Rattle.errand_law.specs.Errands.{Link, waiting, work_at}
-use Rattle.sender_law.specs.Control.{AreControls}
+use Rattle.program_law.specs.Errand.Errands.{Link, waiting, work_at}
+use Rattle.program_law.specs.Sender.Control.{AreControls}
 use Rattle.mail_world.specs.History.{Event, Legal, State, after}
 use Rattle.mail_world.specs.Untouched.{about_in}
 use Rattle.world_law.specs.Crew.{link_in, lives_in}

@@ -1,4 +1,5 @@
 // Laws of the whole system. Each is the contract of a function that does nothing.
+ghost use Rattle.std.specs.Prelude.{false, true};
 ghost use Rattle.world_law.specs.Bounces.{BouncesAreAccepted, BouncesAreReadLast, ReturnedRecipientsAreNamed};
 ghost use Rattle.world_law.specs.Carried.{DeliveredAreCarried, KReportsAreCarried};
 ghost use Rattle.world_law.specs.Deliveries.{DropsAreWhole, ForwardsAreAddressed};
@@ -6,7 +7,7 @@ ghost use Rattle.world_law.specs.Headline.{AttemptsAreSound, Headline, SafeWitho
 ghost use Rattle.world_law.specs.Leaves.{EventsLeave};
 ghost use Rattle.world_law.specs.Laws.{Always, ChildrenKeep, CleanersKeep, DeliveriesKeep, EndsKeep, GenerationsKeep, HaltsKeep, InjectorsKeep, InvBegins, InvIsSafe, LocalsKeep, MomentsKeep, RemotesKeep, ReportsKeep, SendersKeep, StartsKeep, StopsKeep};
 ghost use Rattle.world_law.specs.PidNames.{PidsAreOld};
-ghost use Rattle.world_law.specs.Reported.{DeliveredWereTaken, TakenAreDelivered};
+ghost use Rattle.world_law.specs.Reported.{LedgersAreOfReports, TakenAreEntered, WereTaken};
 ghost use Rattle.world_law.specs.Spawned.{RequestsStand};
 ghost use Rattle.world_law.specs.Standing.{FlightsStand, HandsAlwaysStand, InjectionsAreApart, InjectionsAreInTime, LinksAreOfWholeFiles, RecordsAreRouted, RequestsAreOfFlights, SweepsAreOld};
 ghost use Rattle.world_law.specs.UnderWay.{CommandsRest};
@@ -159,12 +160,27 @@ pub fn delivered_are_carried()
 /// A ledger has a recipient as delivered only if a sender took a K report of it: in the life of that message the sender had given a request
 /// for the recipient's record in a slot, and the next report of that slot that it took said K.
 pub fn delivered_were_taken()
-    ensures { DeliveredWereTaken }
+    ensures { WereTaken true }
+{}
+
+/// It has one as failed only if a sender took such a report that said D, or any letter but K in a pass that began after the message's lifetime.
+pub fn failed_were_taken()
+    ensures { WereTaken false }
 {}
 
 /// And whenever a sender takes such a report, the ledger of the message has the recipient as delivered from then on.
 pub fn taken_are_delivered()
-    ensures { TakenAreDelivered }
+    ensures { TakenAreEntered true }
+{}
+
+/// So it is of a report that says that the recipient failed.
+pub fn taken_have_failed()
+    ensures { TakenAreEntered false }
+{}
+
+/// So what the ledger of a message has of its recipients is just what the reports say that senders took in the life of the message.
+pub fn ledgers_are_of_reports()
+    ensures { LedgersAreOfReports }
 {}
 
 /// Of a local delivery that ended with 0 the injection of its forwards was accepted: it is from whom the delivery forwards, to just

@@ -6,7 +6,7 @@ ghost use Rattle.call_fs.specs.Disk.{Disk};
 ghost use Rattle.mail_world.specs.History.{Opening, Legal, Event as Happening};
 ghost use Rattle.mail_world.specs.Waiting.{EachWaiting, HasNoGeneration};
 ghost use Rattle.mail_world.specs.World.{Leads, Happened};
-ghost use Rattle.sender_law.specs.Control.{AreControls};
+ghost use Rattle.program_law.specs.Sender.Control.{AreControls};
 ghost use Rattle.world_law.specs.Headline.{EachPromised, EachSafe, IsSafeBy};
 
 use call_fs::CallFs;

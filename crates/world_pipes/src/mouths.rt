@@ -59,7 +59,7 @@ impl Slot {
         self.output.clear();
     }
 
-    /// Whether a remote program is in it whose report came, or, if so asked, one whose report didn't come yet.
+    /// Whether a remote program runs in it with its report, or, with `reported` false, one without.
     fn runs(&self, reported: bool) -> bool
         ensures { result ≡ is_remote reported (runs_in (Some self.now)) }
     {
@@ -114,6 +114,7 @@ pub struct Mouths {
 
 impl Mouths {
     /// Of an actor with so many slots: nothing lies in any pipe, and no program is in a slot.
+    /// The error: out of memory.
     pub fn new(alloc: Global, slots: u16) -> Result<Mouths, Memory>
         ensures pipes { IfOk result (λ m. (port : Gate) → pipe_of m port ≡ fresh) }
         ensures tenants { IfOk result (λ m. (d : ℕ) → tenant_of m d ≡ None) }
@@ -146,7 +147,7 @@ impl Mouths {
         }
     }
 
-    /// Whether a remote program is in this slot whose report came, or, if so asked, one whose report didn't come yet.
+    /// Whether a remote program runs in this slot with its report, or, with `reported` false, one without.
     pub fn runs(&self, slot: u8, reported: bool) -> bool
         ensures { result ≡ is_remote reported (tenant_of self.now slot) }
     {
@@ -156,8 +157,7 @@ impl Mouths {
         }
     }
 
-    /// The lowest slot from this one on with a remote program whose report came, or, if so asked, with one whose report didn't come
-    /// yet.
+    /// The lowest slot from this one on that has a remote program with its report, or, with `reported` false, one without.
     pub fn lowest(&self, from: u8, reported: bool) -> Option<u8>
         ensures { IsLowest (λ d. is_remote reported (tenant_of self.now d)) from result }
     {
@@ -200,6 +200,7 @@ impl Mouths {
     }
 
     /// Makes room for so many bytes more in the pipe by this port. The condition: there is one.
+    /// The error: out of memory.
     pub fn make_room(&mut self, port: Port, more: usize) -> Result<(), Memory>
         requires { HasPipe self.old port }
         ensures pipes { (at : Gate) → pipe_of self.new at ≡ pipe_of self.old at }

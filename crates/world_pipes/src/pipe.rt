@@ -42,7 +42,7 @@ impl Pipe {
         !self.bytes.is_empty() || self.shut
     }
 
-    /// Makes room for so many bytes more.
+    /// Makes room for so many bytes more. The error: out of memory.
     pub fn make_room(&mut self, more: usize) -> Result<(), Memory>
         ensures same { lies self.new ≡ lies self.old }
         ensures room { OnOk result (HasRoom self.new more) }

@@ -8,6 +8,7 @@ use mail_bytes::Memory;
 use std::alloc::Global;
 
 /// The remote program in this slot ends with the output that its report stands for. The condition: there is such a slot.
+/// The error: out of memory.
 pub fn put_report(
     alloc: Global,
     mouths: &mut Mouths,

@@ -1,6 +1,7 @@
 use Rattle.std.proofs.Common.{◌∷◌, ◌++◌, [], codes, ap, ◌∙◌}
 use Rattle.std.specs.List.{concat}
-use Rattle.bounce_record.specs.Bounces.{line, returned, double_text}
+use Rattle.bounce_record.specs.Bounces.{returned, double_text}
+use Rattle.mail_bytes.specs.Texts.{line}
 use Rattle.bounce_record.proofs.Pieces.{two}
 use Rattle.bounce_record.proofs.bounces.double_text.Goals as goal
 

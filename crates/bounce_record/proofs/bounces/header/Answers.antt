@@ -2,7 +2,8 @@ use Rattle.std.proofs.Common.{◌∷◌, ◌++◌, [], codes, ap, ◌∙◌}
 use Rattle.std.specs.List.{concat}
 use Rattle.std.proofs.lemmas.List.{append-nil}
 use Rattle.received_line.specs.Received.{date_text}
-use Rattle.bounce_record.specs.Bounces.{line, user_at}
+use Rattle.bounce_record.specs.Bounces.{user_at}
+use Rattle.mail_bytes.specs.Texts.{line}
 use Rattle.bounce_record.proofs.Pieces.{six}
 use Rattle.bounce_record.proofs.bounces.header.Goals as goal
 

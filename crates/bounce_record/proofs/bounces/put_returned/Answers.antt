@@ -1,5 +1,5 @@
 use Rattle.std.proofs.Common.{[], ◌++◌, codes}
-use Rattle.bounce_record.specs.Bounces.{line}
+use Rattle.mail_bytes.specs.Texts.{line}
 use Rattle.bounce_record.proofs.Pieces.{six}
 use Rattle.bounce_record.proofs.bounces.put_returned.Goals as goal
 

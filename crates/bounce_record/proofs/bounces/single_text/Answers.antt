@@ -1,6 +1,7 @@
 use Rattle.std.proofs.Common.{◌∷◌, ◌++◌, [], codes, ap, ◌∙◌}
 use Rattle.std.specs.List.{concat}
-use Rattle.bounce_record.specs.Bounces.{line, header, returned, single_text}
+use Rattle.bounce_record.specs.Bounces.{header, returned, single_text}
+use Rattle.mail_bytes.specs.Texts.{line}
 use Rattle.bounce_record.proofs.Pieces.{three}
 use Rattle.bounce_record.proofs.bounces.single_text.Goals as goal
 

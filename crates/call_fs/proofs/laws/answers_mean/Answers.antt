@@ -1,5 +1,9 @@
+use Rattle.call_fs.proofs.Coming.{means_kind}
 use Rattle.call_fs.proofs.Meanings.{means_missing, means_taken, means_unchanged, means_fault, means_look}
 use Rattle.call_fs.proofs.laws.answers_mean.Goals as goal
+
+pub returns-clause-kind : goal.returns-clause-kind
+returns-clause-kind c = means_kind
 
 pub returns-clause-not_there : goal.returns-clause-not_there
 returns-clause-not_there c = means_missing

@@ -1,6 +1,6 @@
 use Rattle.std.proofs.Common.{refl, sym, ◌∙◌, []}
 use Rattle.std.proofs.lemmas.List.{append-nil}
-use Rattle.fed_injector.specs.Texts.{netstring}
+use Rattle.mail_bytes.specs.Netstring.{netstring}
 use Rattle.fed_injector.proofs.Cutting.{same_rest, not_empty}
 use Rattle.fed_injector.proofs.texts.texts_of.Goals as goal
 

@@ -2,11 +2,11 @@ use Rattle.std.proofs.Common.{refl}
 use Rattle.address_rules.specs.Files.{controls_of, first_fault}
 use Rattle.dot_qmail.specs.Choice.{chosen}
 use Rattle.dot_qmail.specs.Lines.{plan_of}
-use Rattle.local_steps.specs.Course.{course_of}
-use Rattle.local_steps.specs.Forwarding.{injection_of}
-use Rattle.local_steps.specs.Host.{host_in}
-use Rattle.local_steps.specs.Inputs.{message_in}
-use Rattle.local_steps.specs.Looping.{is_looping}
+use Rattle.local_parts.specs.Course.{course_of}
+use Rattle.local_parts.specs.Forwarding.{injection_of}
+use Rattle.local_parts.specs.Host.{host_in}
+use Rattle.local_parts.specs.Inputs.{message_in}
+use Rattle.local_parts.specs.Looping.{is_looping}
 use Rattle.mail_bytes.specs.Decimal.{digits, number_of, value}
 use Rattle.maildir_drop.specs.Names.{is_name}
 use Rattle.local_deliver.proofs.laws.worked_runs.Goals as goal

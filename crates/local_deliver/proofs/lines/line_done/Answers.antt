@@ -1,5 +1,5 @@
 use Rattle.std.proofs.Common.{ap, ◌∙◌}
-use Rattle.local_steps.specs.Course.{after_work, work_of}
+use Rattle.local_parts.specs.Course.{after_work, work_of}
 use Rattle.local_deliver.specs.declared.place.Place.{Place}
 use Rattle.local_deliver.specs.Table.{step_of, takes}
 use Rattle.local_deliver.proofs.LineSteps.{line_done_is}

@@ -10,8 +10,8 @@ use Rattle.world_events.specs.declared.event.Event.{Event as Kept}
 use Rattle.mail_world.specs.Wired.{AreWholeGivings}
 use Rattle.mail_world.specs.World.{Seen}
 use Rattle.script_words.specs.declared.entry.Entry.{Entry}
-use Rattle.play_lines.specs.declared.line.Line.{Line}
-use Rattle.play_lines.specs.Contents.{HaveEntryPaths}
+use Rattle.script_lines.specs.declared.line.Line.{Line}
+use Rattle.script_lines.specs.Contents.{HaveEntryPaths}
 use Rattle.scenario.specs.Deeds.{TellsDeed}
 use Rattle.scenario.specs.Fates.{IsFedSo}
 use Rattle.scenario.specs.FirstDisk.{IsFirstDisk}

@@ -2,8 +2,8 @@ use Rattle.std.proofs.Common.{◌≡◌, ◌∙◌, ◌++◌, ap}
 use Rattle.std.proofs.lemmas.Result.{on_ok_weaker}
 use Rattle.mem_fs.specs.MemDisk.{bytes_at}
 use Rattle.crash_fs.specs.Crash.{Crash, crash_disk}
-use Rattle.play_lines.specs.declared.line.Line.TheVariants as line
-use Rattle.play_lines.specs.declared.keyword.OfWord.TheVariants as of_word
+use Rattle.script_lines.specs.declared.line.Line.TheVariants as line
+use Rattle.script_lines.specs.declared.keyword.OfWord.TheVariants as of_word
 use Rattle.scenario.specs.Played.{cat_line}
 use Rattle.scenario.proofs.ScriptLines.{cat_played, only_cat}
 use Rattle.scenario.proofs.playing.play_line.Goals as goal

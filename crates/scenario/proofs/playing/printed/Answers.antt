@@ -1,7 +1,7 @@
 use Rattle.std.proofs.Common.{◌≡◌, ◌++◌, length, drop, ap, ◌∙◌, subst}
 use Rattle.std.specs.Prelude.{flat_map}
 use Rattle.scenario.specs.Playing.{HasPlayed}
-use Rattle.trace_lines.specs.Events.{kept_line}
+use Rattle.script_traces.specs.Events.{kept_line}
 use Rattle.scenario.proofs.Tracings.{traced_lines}
 use Rattle.scenario.proofs.playing.printed.Goals as goal
 

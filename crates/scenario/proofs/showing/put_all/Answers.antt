@@ -3,7 +3,7 @@ use Rattle.std.proofs.lemmas.Result.{on_ok_weaker}
 use Rattle.std.specs.List.{zip}
 use Rattle.std.specs.Prelude.{flat_map}
 use Rattle.crash_fs.specs.Crash.{crash_disk}
-use Rattle.disk_numbers.specs.Controls.{controls_on}
+use Rattle.script_disks.specs.Controls.{controls_on}
 use Rattle.world_events.specs.Books.{books_of}
 use Rattle.world_events.specs.Inputs.{with_inputs}
 use Rattle.world_events.specs.declared.books.Entry.{Entry}

@@ -1,7 +1,7 @@
 use Rattle.std.proofs.Common.{sym, ap, ◌∙◌}
 use Rattle.std.proofs.lemmas.Result.{on_ok_weaker}
 use Rattle.crash_fs.specs.Crash.{Crash, crash_disk}
-use Rattle.disk_numbers.specs.Controls.{controls_on}
+use Rattle.script_disks.specs.Controls.{controls_on}
 use Rattle.scenario.proofs.showing.put_fated.Goals as goal
 
 pub returns : goal.returns

@@ -1,6 +1,6 @@
 use Rattle.std.proofs.Common.{◌≡◌, ◌++◌, take}
 use Rattle.std.specs.Prelude.{flat_map}
-use Rattle.trace_lines.specs.Events.{kept_line}
+use Rattle.script_traces.specs.Events.{kept_line}
 use Rattle.scenario.proofs.tracing.put_events.Given as goal
 
 abbrev pub invariant-loop-event : goal.invariant-loop-event

@@ -2,7 +2,7 @@ use Rattle.std.proofs.Common.{◌++◌, sym, ap, ◌∙◌}
 use Rattle.std.specs.Prelude.{flat_map}
 use Rattle.std.proofs.lemmas.List.{append-nil}
 use Rattle.std.proofs.lemmas.Result.{on_ok_weaker}
-use Rattle.trace_lines.specs.Events.{kept_line}
+use Rattle.script_traces.specs.Events.{kept_line}
 use Rattle.scenario.proofs.Tracings.{to_the_end, past_the_end}
 use Rattle.scenario.proofs.tracing.put_events_after.Goals as goal
 

@@ -7,4 +7,4 @@ use Rattle.send_runs.proofs.laws.worked_reports.Goals as goal
 
 pub returns : goal.returns
 unfolding digits value number_of path parse put controls_of first_fault
-returns c = record { delivered = refl; deferred = refl; both = refl; again = refl; later = refl }
+returns c = record { delivered = refl; deferred = refl; both = refl; again = refl; later = refl; logged = refl }

@@ -1,5 +1,6 @@
-use Rattle.world_law.proofs.Reported.{delivered_were_taken}
+use Rattle.std.proofs.Common.{true}
+use Rattle.world_law.proofs.Reported.{were_taken}
 use Rattle.world_law.proofs.laws.delivered_were_taken.Goals as goal
 
 pub returns : goal.returns
-returns c = delivered_were_taken
+returns c = were_taken true

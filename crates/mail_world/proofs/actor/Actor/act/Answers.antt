@@ -13,7 +13,7 @@ use Rattle.mail_world.specs.declared.world.Did.{Did}
 use Rattle.call_fs.specs.Disk.{Disk}
 use Rattle.mail_world.specs.History.{next_of}
 use Rattle.mail_world.specs.Acting.{IsAct, IsMade, IsUntouched, IsNoAct, IsSeated, IsStated, IsReadAt, SuitsPlace, HasStepped, is_due_of_child, has_actor, due_by, opened_by, shut}
-use Rattle.crew_pipes.proofs.Shuts.{shuts_after}
+use Rattle.world_pipes.proofs.Shuts.{shuts_after}
 use Rattle.mail_world.proofs.Machines.{own_is, call_kind, call_within}
 use Rattle.mail_world.proofs.Passes.{only_waits, gives_no_actor}
 use Rattle.mail_world.proofs.Acts.{shut_of}
@@ -124,27 +124,27 @@ asked_of g c =
       stays = asked.stays;
     }
 
-pub pass-requires-clause-seat : goal.pass-requires-clause-seat
-pass-requires-clause-seat g c = subst (λ (o : Option ℕ). IsSeated o c.args.mouths.now.items) (sym c.in_ok-own.ensures.stays.wire) c.requires.seat
+pub pass-did-requires-clause-seat : goal.pass-did-requires-clause-seat
+pass-did-requires-clause-seat g c = subst (λ (o : Option ℕ). IsSeated o c.args.mouths.now.items) (sym c.in_ok-own.ensures.stays.wire) c.requires.seat
 
 -- what is due is next
 next_is : (g : _) (c : In-Due g) → next_of c.requires.may.asks.program c.requires.may.asks.past c.args.at.now c.args.at.ready ≡ c.in-Due.due
 next_is g c = let may = c.requires.may.asks in c.in_ok-own.ensures.due may.program may.past may.follows ∙ ap due_by c.in-Due.is
 
-pub pass-requires-clause-waits : goal.pass-requires-clause-waits
-pass-requires-clause-waits g c =
-    let next = next_is g (goal.at.pass-requires-clause-waits g c).In-Due in
+pub pass-did-requires-clause-waits : goal.pass-did-requires-clause-waits
+pass-did-requires-clause-waits g c =
+    let next = next_is g (goal.at.pass-did-requires-clause-waits g c).In-Due in
     λ none. only_waits c.in-Due.due (subst IsAct next (c.requires.may.acts (sym c.in_ok-own.ensures.stays.wire ∙ none))) (subst IsStated c.in-Due.is c.in_ok-own.ensures.stated)
 
-pub pass-requires-clause-suits : goal.pass-requires-clause-suits
-pass-requires-clause-suits g c =
-    let next = next_is g (goal.at.pass-requires-clause-suits g c).In-Due in
+pub pass-did-requires-clause-suits : goal.pass-did-requires-clause-suits
+pass-did-requires-clause-suits g c =
+    let next = next_is g (goal.at.pass-did-requires-clause-suits g c).In-Due in
     λ i wire. subst (SuitsPlace i) next (c.requires.may.suits i (sym c.in_ok-own.ensures.stays.wire ∙ wire))
 
 -- nothing of a child is due
-pub pass-requires-clause-alone : goal.pass-requires-clause-alone
-pass-requires-clause-alone g c =
-    let next = next_is g (goal.at.pass-requires-clause-alone g c).In-Due in
+pub pass-did-requires-clause-alone : goal.pass-did-requires-clause-alone
+pass-did-requires-clause-alone g c =
+    let next = next_is g (goal.at.pass-did-requires-clause-alone g c).In-Due in
     let mouths = c.args.mouths.now.items in
     λ i wire. gives_no_actor mouths c.args.self.now.wire i c.in-Due.due (sym c.in_ok-own.ensures.stays.wire ∙ wire)
     (subst (λ (due : NeedData). is_due_of_child (has_actor mouths c.args.self.now.wire) due ≡ false) next c.requires.may.own)
@@ -157,20 +157,20 @@ returns-in-Due-clause-acted g c =
     let asked = c.in_ok-own.ensures in
     let none : IsNoAct c.in-Due.due = subst IsStated c.in-Due.is asked.stated in
     let still : g.D.CallFs.disk c.ask.new.disk ≡ old = subst (λ (came : Came). IsMade came at.now old (g.D.CallFs.disk c.ask.new.disk)) c.in-Due.is asked.made in
-    subst (λ (t : Option Disk). IfOk c.pass.result (λ did. HasStepped did old t c.args.mouths.now.items c.pass.new.mouths.items at.pid c.args.self.now c.pass.new.self before c.pass.new.history.events.items at.now at.ready)) (sym still)
-    (passed_result old c.args.mouths.now.items c.pass.new.mouths.items at.pid c.args.self.now c.ask.new.self c.pass.new.self before c.pass.new.history.events.items at.now at.ready c.in-Due.due
-    (asked_of g (goal.at.returns-in-Due-clause-acted g c).In-Due) none (length before) c.pass.new.history c.args.history.now c.pass.result c.pass.ensures.passed c.pass.ensures.waits c.pass.ensures.at)
+    subst (λ (t : Option Disk). IfOk c.pass-did.result (λ did. HasStepped did old t c.args.mouths.now.items c.pass-did.new.mouths.items at.pid c.args.self.now c.pass-did.new.self before c.pass-did.new.history.events.items at.now at.ready)) (sym still)
+    (passed_result old c.args.mouths.now.items c.pass-did.new.mouths.items at.pid c.args.self.now c.ask.new.self c.pass-did.new.self before c.pass-did.new.history.events.items at.now at.ready c.in-Due.due
+    (asked_of g (goal.at.returns-in-Due-clause-acted g c).In-Due) none (length before) c.pass-did.new.history c.args.history.now c.pass-did.result c.pass-did.ensures.passed c.pass-did.ensures.waits c.pass-did.ensures.at)
 
 -- the disk is untouched then
 pub returns-in-Due-clause-waits : goal.returns-in-Due-clause-waits
 returns-in-Due-clause-waits g c =
     let still : c.ask.new.disk ≡ c.args.disk.now = subst (λ (came : Came). IsUntouched came c.args.disk.now c.ask.new.disk) c.in-Due.is c.in_ok-own.ensures.still in
-    if_waits c.args.disk.now c.ask.new.disk c.args.history.now c.pass.new.history c.ask.new.self c.pass.new.self c.pass.result still c.pass.ensures.waits
+    if_waits c.args.disk.now c.ask.new.disk c.args.history.now c.pass-did.new.history c.ask.new.self c.pass-did.new.self c.pass-did.result still c.pass-did.ensures.waits
 
 pub returns-in-Due-clause-err : goal.returns-in-Due-clause-err
 returns-in-Due-clause-err g c =
     let still : c.ask.new.disk ≡ c.args.disk.now = subst (λ (came : Came). IsUntouched came c.args.disk.now c.ask.new.disk) c.in-Due.is c.in_ok-own.ensures.still in
-    if_err c.pass.result still
+    if_err c.pass-did.result still
 
 pub returns-in-Ended-clause-acted : goal.returns-in-Ended-clause-acted
 returns-in-Ended-clause-acted g c =

@@ -44,12 +44,12 @@ pub kept_read-bytes-requires-clause-few : goal.kept_read-bytes-requires-clause-f
 kept_read-bytes-requires-clause-few g c =
     let at = (goal.at.kept_read-bytes-requires-clause-few g c).After-need in
     let room = has_room (held c.requires.may.past) (data_of c.in-File.call) (subst (UsesHeld (held c.requires.may.past)) (ap due_of c.in-File.is) (asks_held g at)) in
-    rw (c.in_ok-room-in-File.ensures.room, c.in_ok-owned-in-File.ensures) (keeps_few (data_of c.in-File.call) c.perform-answer.result room c.perform-answer.ensures.kind)
+    rw (c.in_ok-room-in-File.ensures.room) (keeps_few (data_of c.in-File.call) c.perform-answer.result room c.perform-answer.ensures.kind)
 
 pub returns-in_ok-need_data-in_default-clause-stated : goal.returns-in_ok-need_data-in_default-clause-stated
 returns-in_ok-need_data-in_default-clause-stated g c = rw (c.in_ok-need_data-in_default.ensures) (no_act c.need.result c.in_default.not-File c.in_default.not-Ended)
 
-pub returns-in_ok-room-in-File-clause-made : goal.returns-in_ok-room-in-File-clause-made
-returns-in_ok-room-in-File-clause-made g c =
+pub returns-in_ok-owned-in-File-clause-made : goal.returns-in_ok-owned-in-File-clause-made
+returns-in_ok-owned-in-File-clause-made g c =
     rw (c.in_ok-owned-in-File.ensures) (read_made (g.D.CallFs.disk c.args.disk.now) (g.D.CallFs.disk c.perform-answer.new.disk) c.args.at.now (data_of c.in-File.call) c.perform-answer.result
     c.perform-answer.new.into c.kept_read-bytes.result c.kept_read-bytes.ensures c.perform-answer.ensures.told c.perform-answer.ensures.read)

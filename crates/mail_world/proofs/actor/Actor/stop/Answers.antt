@@ -1,7 +1,7 @@
 use Rattle.std.proofs.Common.{◌≡◌, [], ◌∷◌, ◌++◌, Some, ap, ◌∙◌}
 use Rattle.world_events.specs.declared.event.Event.{Event as Kept}
 use Rattle.world_events.specs.declared.event.Event.TheVariants as kept
-use Rattle.crew_pipes.proofs.Shuts.{shuts_after}
+use Rattle.world_pipes.proofs.Shuts.{shuts_after}
 use Rattle.mail_world.proofs.Acts.{shut_of}
 use Rattle.mail_world.proofs.actor.Actor.stop.Goals as goal
 

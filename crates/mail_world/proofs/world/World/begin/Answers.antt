@@ -99,6 +99,50 @@ invariant_of-self-in_err-make_room-2 g c =
       rw (c.in_ok-reserve.ensures.same) (same_starts i.starts c.make_room-2.new.self i.crew (place_of i.places) (starts_of (reverse i.history.events.items)) c.in_err-make_room-2.ensures.same c.self.invariant.4),
     )
 
+pub invariant_of-self-in_err-arguments : goal.invariant_of-self-in_err-arguments
+invariant_of-self-in_err-arguments g c =
+    let i = c.self.inside in
+    let items = c.in_ok-reserve-2.ensures.items in (
+      rw (items, c.in_ok-reserve.ensures.same) c.self.invariant.0,
+      rw (items) (c.in_ok-reserve.ensures.stays (living i.actors.items) c.self.invariant.1),
+      rw (items, c.in_ok-reserve.ensures.same, c.in_ok-make_room.ensures.same) c.self.invariant.2,
+      rw (items, c.in_ok-reserve.ensures.same) c.self.invariant.3,
+      rw (c.in_ok-reserve.ensures.same) (same_starts i.starts c.make_room-2.new.self i.crew (place_of i.places) (starts_of (reverse i.history.events.items)) c.in_ok-make_room-2.ensures.same c.self.invariant.4),
+    )
+
+pub invariant_of-self-in_err-message : goal.invariant_of-self-in_err-message
+invariant_of-self-in_err-message g c =
+    let i = c.self.inside in
+    let items = c.in_ok-reserve-2.ensures.items in (
+      rw (items, c.in_ok-reserve.ensures.same) c.self.invariant.0,
+      rw (items) (c.in_ok-reserve.ensures.stays (living i.actors.items) c.self.invariant.1),
+      rw (items, c.in_ok-reserve.ensures.same, c.in_ok-make_room.ensures.same) c.self.invariant.2,
+      rw (items, c.in_ok-reserve.ensures.same) c.self.invariant.3,
+      rw (c.in_ok-reserve.ensures.same) (same_starts i.starts c.make_room-2.new.self i.crew (place_of i.places) (starts_of (reverse i.history.events.items)) c.in_ok-make_room-2.ensures.same c.self.invariant.4),
+    )
+
+pub invariant_of-self-in_err-envelope : goal.invariant_of-self-in_err-envelope
+invariant_of-self-in_err-envelope g c =
+    let i = c.self.inside in
+    let items = c.in_ok-reserve-2.ensures.items in (
+      rw (items, c.in_ok-reserve.ensures.same) c.self.invariant.0,
+      rw (items) (c.in_ok-reserve.ensures.stays (living i.actors.items) c.self.invariant.1),
+      rw (items, c.in_ok-reserve.ensures.same, c.in_ok-make_room.ensures.same) c.self.invariant.2,
+      rw (items, c.in_ok-reserve.ensures.same) c.self.invariant.3,
+      rw (c.in_ok-reserve.ensures.same) (same_starts i.starts c.make_room-2.new.self i.crew (place_of i.places) (starts_of (reverse i.history.events.items)) c.in_ok-make_room-2.ensures.same c.self.invariant.4),
+    )
+
+pub invariant_of-self-in_err-injector : goal.invariant_of-self-in_err-injector
+invariant_of-self-in_err-injector g c =
+    let i = c.self.inside in
+    let items = c.in_ok-reserve-2.ensures.items in (
+      rw (items, c.in_ok-reserve.ensures.same) c.self.invariant.0,
+      rw (items) (c.in_ok-reserve.ensures.stays (living i.actors.items) c.self.invariant.1),
+      rw (items, c.in_ok-reserve.ensures.same, c.in_ok-make_room.ensures.same) c.self.invariant.2,
+      rw (items, c.in_ok-reserve.ensures.same) c.self.invariant.3,
+      rw (c.in_ok-reserve.ensures.same) (same_starts i.starts c.make_room-2.new.self i.crew (place_of i.places) (starts_of (reverse i.history.events.items)) c.in_ok-make_room-2.ensures.same c.self.invariant.4),
+    )
+
 pub invariant_of-self-in_err-add : goal.invariant_of-self-in_err-add
 invariant_of-self-in_err-add g c =
     let i = c.self.inside in
@@ -141,7 +185,7 @@ invariant_of-self-2 g c =
     let entry : c.add-2.new.self.entries.items ≡ i.books.entries.items ++ new_entry a args ∷ [] =
     c.add-2.ensures ∙ ap (λ (l : List Entry). l ++ new_entry a c.in_ok-arguments.arguments ∷ []) c.in_ok-make_room.ensures.same
     ∙ ap (λ (w : Arguments). i.books.entries.items ++ new_entry a w ∷ []) c.in_ok-arguments.ensures in
-    let texts : with_input c.in_ok-message.message c.in_ok-from_slice.field-0 (unfed i.next_pid i.present) ≡ args = with_texts_is i.next_pid i.present _ _ _ _ c.in_ok-message.ensures c.in_ok-from_slice.ensures in
+    let texts : with_input c.in_ok-message.message c.in_ok-envelope.envelope (unfed i.next_pid i.present) ≡ args = with_texts_is i.next_pid i.present _ _ _ _ c.in_ok-message.ensures c.in_ok-envelope.ensures in
     let waits = c.in_ok-injector.ensures.stands (unfed i.next_pid i.present) (record { uid_is = refl; pid_is = refl; invoked_is = refl; start_is = refl })
     (record { message_is = refl; message_end = refl; envelope_is = refl; envelope_end = refl }) in
     let fed : FedStands c.give.new.self args [] = subst (λ (args : Arguments). FedStands c.give.new.self args []) texts (c.give.ensures.stands (unfed i.next_pid i.present) [] waits) in

@@ -18,8 +18,8 @@ use Rattle.world_events.specs.declared.event.Event.{Event as Kept}
 use Rattle.world_events.specs.declared.event.Event.TheVariants as kept
 use Rattle.world_pipes.specs.declared.mouths.Mouths.{Mouths}
 use Rattle.world_pipes.specs.Pipework.{slot_of}
-use Rattle.crew_pipes.specs.Seating.{HasPipesFor, HasPlaceAfter, due_slot}
-use Rattle.crew_pipes.specs.Wired.{MayRunIn}
+use Rattle.world_pipes.specs.Seating.{HasPipesFor, HasPlaceAfter, due_slot}
+use Rattle.world_pipes.specs.Wired.{MayRunIn}
 use Rattle.mail_world.specs.declared.actor.Actor.{Actor as Held}
 use Rattle.mail_world.specs.declared.any_machine.AnyMachine.{AnyMachine}
 use Rattle.mail_world.specs.Books.{entries_of}
@@ -43,11 +43,11 @@ use Rattle.mail_world.proofs.world.World.start_child.Goals.{After-setting-at, Af
 
 -- what is due, and where
 due_here : (g : _) (c : After-setting-at g) →
-    IsBearing c.self.inside.crew (place_of c.self.inside.places) c.self.inside.mouths.items c.self.inside.actors.items c.self.inside.history.events.items c.self.inside.present (counted c.self.inside.bounces c.self.inside.deliveries) c.args.actor.now c.args.due
+    IsBearing c.self.inside.crew (place_of c.self.inside.places) c.self.inside.mouths.items c.self.inside.actors.items c.self.inside.history.events.items c.self.inside.present (counted c.self.inside.bounces c.self.inside.deliveries) c.args.actor.now c.args.due.now
 due_here g c =
     let i = c.self.inside in
-    bearing i.disk (g.D.CallFs.disk i.disk) i.crew (place_of i.places) i.actors.items i.mouths.items i.history.events.items i.present i.next_pid (counted i.bounces i.deliveries) c.args.actor.now c.args.due c.self.invariant.0 c.self.invariant.3
-    (subst (λ (w : Seen _). IsDueOfChild w c.args.actor.now c.args.due) (sym c.self.view_is) c.requires.due) c.requires.start
+    bearing i.disk (g.D.CallFs.disk i.disk) i.crew (place_of i.places) i.actors.items i.mouths.items i.history.events.items i.present i.next_pid (counted i.bounces i.deliveries) c.args.actor.now c.args.due.now c.self.invariant.0 c.self.invariant.3
+    (subst (λ (w : Seen _). IsDueOfChild w c.args.actor.now c.args.due.now) (sym c.self.view_is) c.requires.due) c.requires.start
 
 pub setting-at-requires : goal.setting-at-requires
 setting-at-requires g c =
@@ -171,11 +171,11 @@ invariant_of-self-in_err-add g c =
     )
 
 -- what is due, and comes
-own_is : (g : _) (c : After-own_at-own g) (asked : ChildData) → c.args.due ≡ needs.Start asked → c.setting-at.result.now ≡ c.self.inside.present → c.setting-at.result.ready ≡ found_in (known c.self.inside.history.events.items) c.args.actor.now
+own_is : (g : _) (c : After-own_at-own g) (asked : ChildData) → c.args.due.now ≡ needs.Start asked → c.setting-at.result.now ≡ c.self.inside.present → c.setting-at.result.ready ≡ found_in (known c.self.inside.history.events.items) c.args.actor.now
     → c.own_at-own.result ≡ bear_own c.self.inside.history.events.items c.self.inside.present c.args.actor.now c.setting-at.result.pid asked
 own_is g c asked due at ready =
     let i = c.self.inside in
-    at_setting c.setting-at.result.now i.present c.setting-at.result.ready (found_in (known i.history.events.items) c.args.actor.now) c.args.due (needs.Start asked) (got.Started c.setting-at.result.pid) c.own_at-own.result
+    at_setting c.setting-at.result.now i.present c.setting-at.result.ready (found_in (known i.history.events.items) c.args.actor.now) c.args.due.now (needs.Start asked) (got.Started c.setting-at.result.pid) c.own_at-own.result
     c.own_at-own.ensures at ready due
 
 pub take_in-did-requires-clause-may : goal.take_in-did-requires-clause-may
@@ -205,7 +205,7 @@ index_mut-requires g c =
     omega (arith, low, wire, same, c.room_for_one.new.mouths.ok.0)
 
 -- its slot
-slot_is : (g : _) (c : After-due_slot-number g) (asked : ChildData) → c.args.due ≡ needs.Start asked → c.due_slot-number.result ≡ slot_of asked
+slot_is : (g : _) (c : After-due_slot-number g) (asked : ChildData) → c.args.due.now ≡ needs.Start asked → c.due_slot-number.result ≡ slot_of asked
 slot_is g c asked due = c.due_slot-number.ensures ∙ ap due_slot due
 
 -- the pipes and slots of the parent
@@ -228,7 +228,7 @@ start_actor-requires g c =
 
 -- What is born
 
-asked_is : (g : _) (c : In_ok-born g) (asked : ChildData) → c.args.due ≡ needs.Start asked → c.in-Start.asked ≡ asked
+asked_is : (g : _) (c : In_ok-born g) (asked : ChildData) → c.args.due.now ≡ needs.Start asked → c.in-Start.asked ≡ asked
 asked_is g c asked due = let both : ◌≡◌ {A = NeedData} (needs.Start c.in-Start.asked) (needs.Start asked) = sym c.in-Start.is ∙ due in cc
 
 born_is : (g : _) (c : In_ok-born g) (asked : ChildData) → c.in-Start.asked ≡ asked → c.setting-at.result.now ≡ c.self.inside.present

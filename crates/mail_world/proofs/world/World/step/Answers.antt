@@ -35,7 +35,7 @@ use Rattle.mail_world.proofs.Refusals.{no_end, not_gone, gone_exactly, memory_ot
 use Rattle.mail_world.proofs.Served.{other_error, if_ok, if_err, either_way, waits_or, step_waits, step_planned}
 use Rattle.mail_world.proofs.Steps.{AreKept, StandsReady, paid_stands, looked_stands, next_by, asks_child, is_seated, paid_turned, looked_turned, turned_keeps, may_find, may_step, acted_leads, acted_keeps, acted_step, acted_waits, waited_waits, acted_idle, no_living_waits}
 use Rattle.mail_world.proofs.world.World.step.Goals as goal
-use Rattle.mail_world.proofs.world.World.step.Goals.{After-index_mut-acting, After-child_at-child, After-ready_at, In_ok-due, In-Some, In_default, After-serve, In_ok-did}
+use Rattle.mail_world.proofs.world.World.step.Goals.{After-index_mut-acting, After-child_at-child, After-ready_at, In_ok-due, In-Some, In_default, After-serve-did, In_ok-did}
 
 -- what the world keeps
 keeps : (g : _) (c : After-index_mut-acting g) →
@@ -278,79 +278,79 @@ due_of_child g c r q =
     (next_by (g.D.CallFs.disk i.disk) i.crew (place_of i.places) i.actors.items i.mouths.items i.books.entries.items events i.present i.next_pid (counted i.bounces i.deliveries) place c.args.actor.now c.ready_at.result
     (λ d. d ≡ due) z v r q c.in_ok-due.ensures.looked.name next))
 
-pub serve-requires : goal.serve-requires
-serve-requires g c =
+pub serve-did-requires : goal.serve-did-requires
+serve-did-requires g c =
     let i = c.self.inside in
-    let here = (goal.at.serve-requires g c).After-index_mut-acting in
-    let r = ready g (goal.at.serve-requires g c).After-ready_at (keeps g here) (acting g here) in
-    let q = asked g (goal.at.serve-requires g c).In_ok-due r in
+    let here = (goal.at.serve-did-requires g c).After-index_mut-acting in
+    let r = ready g (goal.at.serve-did-requires g c).After-ready_at (keeps g here) (acting g here) in
+    let q = asked g (goal.at.serve-did-requires g c).In_ok-due r in
     subst (λ (l : List Kept). IsDueOfChild (record { disk = i.disk; events = l; present = i.present }) c.args.actor.now c.in-Some.due) (sym c.in_ok-reserve.ensures.same)
-    (due_of_child g (goal.at.serve-requires g c).In-Some r q)
+    (due_of_child g (goal.at.serve-did-requires g c).In-Some r q)
 
 -- what the world did for it
-served : (g : _) (c : After-serve g) →
-    IfOk c.serve.result (λ did. Serves g.D.CallFs.disk c.args.actor.now (record { disk = c.self.inside.disk; events = c.self.inside.history.events.items; present = c.self.inside.present }) c.serve.new.self did)
+served : (g : _) (c : After-serve-did g) →
+    IfOk c.serve-did.result (λ did. Serves g.D.CallFs.disk c.args.actor.now (record { disk = c.self.inside.disk; events = c.self.inside.history.events.items; present = c.self.inside.present }) c.serve-did.new.self did)
 served g c =
     let i = c.self.inside in
-    subst (λ (l : List Kept). IfOk c.serve.result (λ did. Serves g.D.CallFs.disk c.args.actor.now (record { disk = i.disk; events = l; present = i.present }) c.serve.new.self did)) c.in_ok-reserve.ensures.same c.serve.ensures.served
+    subst (λ (l : List Kept). IfOk c.serve-did.result (λ did. Serves g.D.CallFs.disk c.args.actor.now (record { disk = i.disk; events = l; present = i.present }) c.serve-did.new.self did)) c.in_ok-reserve.ensures.same c.serve-did.ensures.served
 
 pub returns-in-Some-clause-event : goal.returns-in-Some-clause-event
 returns-in-Some-clause-event g c =
     let i = c.self.inside in
     let events = i.history.events.items in
-    let is = served g (goal.at.returns-in-Some-clause-event g c).After-serve in
-    rw (← c.self.view_is) (if_ok c.serve.result (λ did. Serves g.D.CallFs.disk c.args.actor.now (record { disk = i.disk; events = events; present = i.present }) c.serve.new.self did) (λ did. IsStep c.args.actor.now did.ended (record { disk = i.disk; events = events; present = i.present }) c.serve.new.self)
-    (λ did s. subst (λ (o : Option ℕ). IsStep c.args.actor.now o (record { disk = i.disk; events = events; present = i.present }) c.serve.new.self) (sym s.ended) s.event) is)
+    let is = served g (goal.at.returns-in-Some-clause-event g c).After-serve-did in
+    rw (← c.self.view_is) (if_ok c.serve-did.result (λ did. Serves g.D.CallFs.disk c.args.actor.now (record { disk = i.disk; events = events; present = i.present }) c.serve-did.new.self did) (λ did. IsStep c.args.actor.now did.ended (record { disk = i.disk; events = events; present = i.present }) c.serve-did.new.self)
+    (λ did s. subst (λ (o : Option ℕ). IsStep c.args.actor.now o (record { disk = i.disk; events = events; present = i.present }) c.serve-did.new.self) (sym s.ended) s.event) is)
 
 pub returns-in-Some-clause-present : goal.returns-in-Some-clause-present
 returns-in-Some-clause-present g c =
     let i = c.self.inside in
     let events = i.history.events.items in
-    let is = served g (goal.at.returns-in-Some-clause-present g c).After-serve in
-    rw (← c.self.view_is) (either_way c.serve.result (c.serve.new.self.present ≡ i.present) (if_ok c.serve.result (λ did. Serves g.D.CallFs.disk c.args.actor.now (record { disk = i.disk; events = events; present = i.present }) c.serve.new.self did) (λ did. c.serve.new.self.present ≡ i.present) (λ did s. s.present) is)
-    (if_err c.serve.result (λ error. c.serve.new.self ≡ record { disk = i.disk; events = c.reserve.new.self.events.items; present = i.present }) (λ error. c.serve.new.self.present ≡ i.present) (λ error e. ap (λ w. w.present) e) c.serve.ensures.err))
+    let is = served g (goal.at.returns-in-Some-clause-present g c).After-serve-did in
+    rw (← c.self.view_is) (either_way c.serve-did.result (c.serve-did.new.self.present ≡ i.present) (if_ok c.serve-did.result (λ did. Serves g.D.CallFs.disk c.args.actor.now (record { disk = i.disk; events = events; present = i.present }) c.serve-did.new.self did) (λ did. c.serve-did.new.self.present ≡ i.present) (λ did s. s.present) is)
+    (if_err c.serve-did.result (λ error. c.serve-did.new.self ≡ record { disk = i.disk; events = c.reserve.new.self.events.items; present = i.present }) (λ error. c.serve-did.new.self.present ≡ i.present) (λ error e. ap (λ w. w.present) e) c.serve-did.ensures.err))
 
 pub returns-in-Some-clause-at : goal.returns-in-Some-clause-at
 returns-in-Some-clause-at g c =
     let i = c.self.inside in
     let events = i.history.events.items in
-    let is = served g (goal.at.returns-in-Some-clause-at g c).After-serve in
-    rw (← c.self.view_is) (if_ok c.serve.result (λ did. Serves g.D.CallFs.disk c.args.actor.now (record { disk = i.disk; events = events; present = i.present }) c.serve.new.self did) (λ did. did.at ≡ length events) (λ did s. s.at) is)
+    let is = served g (goal.at.returns-in-Some-clause-at g c).After-serve-did in
+    rw (← c.self.view_is) (if_ok c.serve-did.result (λ did. Serves g.D.CallFs.disk c.args.actor.now (record { disk = i.disk; events = events; present = i.present }) c.serve-did.new.self did) (λ did. did.at ≡ length events) (λ did s. s.at) is)
 
 pub returns-in-Some-clause-idle : goal.returns-in-Some-clause-idle
 returns-in-Some-clause-idle g c =
     let i = c.self.inside in
     let events = i.history.events.items in
-    let is = served g (goal.at.returns-in-Some-clause-idle g c).After-serve in
-    rw (← c.self.view_is) (if_ok c.serve.result (λ did. Serves g.D.CallFs.disk c.args.actor.now (record { disk = i.disk; events = events; present = i.present }) c.serve.new.self did) (λ did. (event : Kept) → c.serve.new.self.events ≡ events ++ event ∷ [] → did.idle ≡ has_idled (known events) event) (λ did s. s.idle) is)
+    let is = served g (goal.at.returns-in-Some-clause-idle g c).After-serve-did in
+    rw (← c.self.view_is) (if_ok c.serve-did.result (λ did. Serves g.D.CallFs.disk c.args.actor.now (record { disk = i.disk; events = events; present = i.present }) c.serve-did.new.self did) (λ did. (event : Kept) → c.serve-did.new.self.events ≡ events ++ event ∷ [] → did.idle ≡ has_idled (known events) event) (λ did s. s.idle) is)
 
 pub returns-in-Some-clause-goes_on : goal.returns-in-Some-clause-goes_on
 returns-in-Some-clause-goes_on g c =
     let i = c.self.inside in
     let events = i.history.events.items in
-    let is = served g (goal.at.returns-in-Some-clause-goes_on g c).After-serve in
-    rw (← c.self.view_is) (if_ok c.serve.result (λ did. Serves g.D.CallFs.disk c.args.actor.now (record { disk = i.disk; events = events; present = i.present }) c.serve.new.self did) (λ did. GoesOn g.D.CallFs.disk (record { disk = i.disk; events = events; present = i.present }) c.serve.new.self) (λ did s. s.goes_on) is)
+    let is = served g (goal.at.returns-in-Some-clause-goes_on g c).After-serve-did in
+    rw (← c.self.view_is) (if_ok c.serve-did.result (λ did. Serves g.D.CallFs.disk c.args.actor.now (record { disk = i.disk; events = events; present = i.present }) c.serve-did.new.self did) (λ did. GoesOn g.D.CallFs.disk (record { disk = i.disk; events = events; present = i.present }) c.serve-did.new.self) (λ did s. s.goes_on) is)
 
 pub returns-in-Some-clause-plan : goal.returns-in-Some-clause-plan
 returns-in-Some-clause-plan g c =
     let i = c.self.inside in
     let events = i.history.events.items in
-    let is = served g (goal.at.returns-in-Some-clause-plan g c).After-serve in
+    let is = served g (goal.at.returns-in-Some-clause-plan g c).After-serve-did in
     let here = (goal.at.returns-in-Some-clause-plan g c).After-index_mut-acting in
     let r = ready g (goal.at.returns-in-Some-clause-plan g c).After-ready_at (keeps g here) (acting g here) in
     let q = asked g (goal.at.returns-in-Some-clause-plan g c).In_ok-due r in
     let due = due_of_child g (goal.at.returns-in-Some-clause-plan g c).In-Some r q in
-    rw (← c.self.view_is) (if_ok c.serve.result (λ did. Serves g.D.CallFs.disk c.args.actor.now (record { disk = i.disk; events = events; present = i.present }) c.serve.new.self did) (λ did. GoesByPlan g.D.CallFs.plan g.D.CallFs.disk i.disk c.serve.new.self.disk events c.serve.new.self.events)
-    (λ did s. step_planned g.D.CallFs.plan g.D.CallFs.disk c.args.actor.now (record { disk = i.disk; events = events; present = i.present }) c.serve.new.self c.in-Some.due due s.event s.disk) is)
+    rw (← c.self.view_is) (if_ok c.serve-did.result (λ did. Serves g.D.CallFs.disk c.args.actor.now (record { disk = i.disk; events = events; present = i.present }) c.serve-did.new.self did) (λ did. GoesByPlan g.D.CallFs.plan g.D.CallFs.disk i.disk c.serve-did.new.self.disk events c.serve-did.new.self.events)
+    (λ did s. step_planned g.D.CallFs.plan g.D.CallFs.disk c.args.actor.now (record { disk = i.disk; events = events; present = i.present }) c.serve-did.new.self c.in-Some.due due s.event s.disk) is)
 
 pub returns-in-Some-clause-unknown : goal.returns-in-Some-clause-unknown
 returns-in-Some-clause-unknown g c =
     let i = c.self.inside in
     let events = i.history.events.items in
-    let is = served g (goal.at.returns-in-Some-clause-unknown g c).After-serve in
+    let is = served g (goal.at.returns-in-Some-clause-unknown g c).After-serve-did in
     let started = c.self.invariant.0.kept.started c.args.actor.now ∙ ap is_some c.in_ok-place.ensures.ok.0 in
     rw (← c.self.view_is) (
-      (λ e. absurd (other_error c.serve.result c.args.actor.now why.Unknown c.serve.ensures.others (λ f. cc) (λ f. cc) e)),
+      (λ e. absurd (other_error c.serve-did.result c.args.actor.now why.Unknown c.serve-did.ensures.others (λ f. cc) (λ f. cc) e)),
       (λ f. let both : true ≡ false = sym started ∙ f in absurd (cc)),
     )
 
@@ -358,55 +358,55 @@ pub returns-in-Some-clause-gone : goal.returns-in-Some-clause-gone
 returns-in-Some-clause-gone g c =
     let i = c.self.inside in
     let events = i.history.events.items in
-    let is = served g (goal.at.returns-in-Some-clause-gone g c).After-serve in
+    let is = served g (goal.at.returns-in-Some-clause-gone g c).After-serve-did in
     let ok = c.in_ok-place.ensures.ok in
     let lives = subst (λ (l : List Held). IsSomeAnd (slice_get l c.in_ok-place.place) (λ x. x.ended ≡ None)) c.deref.ensures.value ok.1 in
-    rw (← c.self.view_is) (not_gone c.serve.result events c.args.actor.now (λ name at. other_error c.serve.result c.args.actor.now (why.Gone name at) c.serve.ensures.others (λ f. cc) (λ f. cc))
+    rw (← c.self.view_is) (not_gone c.serve-did.result events c.args.actor.now (λ name at. other_error c.serve-did.result c.args.actor.now (why.Gone name at) c.serve-did.ensures.others (λ f. cc) (λ f. cc))
     (no_end (among_all i.crew (place_of i.places)) i.actors.items (known events) events i.present c.args.actor.now c.in_ok-place.place c.self.invariant.0.kept ok.0 lives))
 
 pub returns-in-Some-clause-waits : goal.returns-in-Some-clause-waits
 returns-in-Some-clause-waits g c =
     let i = c.self.inside in
     rw (← c.self.view_is) (λ other e.
-    let so = c.serve.ensures.waits other e in
+    let so = c.serve-did.ensures.waits other e in
     (so.0, subst (λ (l : List Kept). Waits (known l) i.present c.args.actor.now) c.in_ok-reserve.ensures.same so.1))
 
 pub returns-in-Some-clause-waiting : goal.returns-in-Some-clause-waiting
 returns-in-Some-clause-waiting g c =
     let i = c.self.inside in
     let events = i.history.events.items in
-    let is = served g (goal.at.returns-in-Some-clause-waiting g c).After-serve in
-    rw (← c.self.view_is) (λ waits. waits_or c.serve.result c.args.actor.now c.serve.ensures.others
-    (if_ok c.serve.result (λ did. Serves g.D.CallFs.disk c.args.actor.now (record { disk = i.disk; events = events; present = i.present }) c.serve.new.self did) (λ did. ⊥)
-    (λ did s. step_waits c.args.actor.now (record { disk = i.disk; events = events; present = i.present }) c.serve.new.self s.event waits) is))
+    let is = served g (goal.at.returns-in-Some-clause-waiting g c).After-serve-did in
+    rw (← c.self.view_is) (λ waits. waits_or c.serve-did.result c.args.actor.now c.serve-did.ensures.others
+    (if_ok c.serve-did.result (λ did. Serves g.D.CallFs.disk c.args.actor.now (record { disk = i.disk; events = events; present = i.present }) c.serve-did.new.self did) (λ did. ⊥)
+    (λ did s. step_waits c.args.actor.now (record { disk = i.disk; events = events; present = i.present }) c.serve-did.new.self s.event waits) is))
 
 pub returns-in-Some-clause-taken : goal.returns-in-Some-clause-taken
 returns-in-Some-clause-taken g c =
     let i = c.self.inside in
     let events = i.history.events.items in
-    let is = served g (goal.at.returns-in-Some-clause-taken g c).After-serve in
-    other_error c.serve.result c.args.actor.now why.Taken c.serve.ensures.others (λ f. cc) (λ f. cc)
+    let is = served g (goal.at.returns-in-Some-clause-taken g c).After-serve-did in
+    other_error c.serve-did.result c.args.actor.now why.Taken c.serve-did.ensures.others (λ f. cc) (λ f. cc)
 
 pub returns-in-Some-clause-alive : goal.returns-in-Some-clause-alive
 returns-in-Some-clause-alive g c =
     let i = c.self.inside in
     let events = i.history.events.items in
-    let is = served g (goal.at.returns-in-Some-clause-alive g c).After-serve in
-    λ other. other_error c.serve.result c.args.actor.now (why.Alive other) c.serve.ensures.others (λ f. cc) (λ f. cc)
+    let is = served g (goal.at.returns-in-Some-clause-alive g c).After-serve-did in
+    λ other. other_error c.serve-did.result c.args.actor.now (why.Alive other) c.serve-did.ensures.others (λ f. cc) (λ f. cc)
 
 pub returns-in-Some-clause-past : goal.returns-in-Some-clause-past
 returns-in-Some-clause-past g c =
     let i = c.self.inside in
     let events = i.history.events.items in
-    let is = served g (goal.at.returns-in-Some-clause-past g c).After-serve in
-    λ now. other_error c.serve.result c.args.actor.now (why.Past now) c.serve.ensures.others (λ f. cc) (λ f. cc)
+    let is = served g (goal.at.returns-in-Some-clause-past g c).After-serve-did in
+    λ now. other_error c.serve-did.result c.args.actor.now (why.Past now) c.serve-did.ensures.others (λ f. cc) (λ f. cc)
 
 pub returns-in-Some-clause-err : goal.returns-in-Some-clause-err
 returns-in-Some-clause-err g c =
     let i = c.self.inside in
     let events = i.history.events.items in
-    let is = served g (goal.at.returns-in-Some-clause-err g c).After-serve in
-    rw (← c.self.view_is) (subst (λ (l : List Kept). IfErr c.serve.result (λ error. c.serve.new.self ≡ record { disk = i.disk; events = l; present = i.present })) c.in_ok-reserve.ensures.same c.serve.ensures.err)
+    let is = served g (goal.at.returns-in-Some-clause-err g c).After-serve-did in
+    rw (← c.self.view_is) (subst (λ (l : List Kept). IfErr c.serve-did.result (λ error. c.serve-did.new.self ≡ record { disk = i.disk; events = l; present = i.present })) c.in_ok-reserve.ensures.same c.serve-did.ensures.err)
 
 none_due : (o : Option NeedData) → ((d : NeedData) → o ≡ Some d → ⊥) → IsNone o
 none_due None other = refl

@@ -12,8 +12,8 @@ use Rattle.world_events.specs.declared.event.Event.TheVariants as kept
 use Rattle.world_pipes.specs.declared.mouths.Mouths.{Mouths}
 use Rattle.world_pipes.specs.Mouths.{actor_of, tenant_of, ended_of}
 use Rattle.world_pipes.proofs.Slots.{slot_there}
-use Rattle.crew_pipes.specs.Seating.{due_slot}
-use Rattle.crew_pipes.proofs.Feeds.{own_tenant}
+use Rattle.world_pipes.specs.Seating.{due_slot}
+use Rattle.world_pipes.proofs.Feeds.{own_tenant}
 use Rattle.mail_world.specs.declared.actor.Actor.{Actor as Held}
 use Rattle.mail_world.specs.Acting.{status_of}
 use Rattle.mail_world.specs.Books.{entries_of}
@@ -34,14 +34,14 @@ use Rattle.mail_world.proofs.world.World.take_status.Goals.{After-due_slot-slot,
 
 -- what is due, and whose status it is
 due_here : (g : _) (c : After-setting-at g) →
-    IsTaking c.self.inside.crew (place_of c.self.inside.places) c.self.inside.mouths.items c.self.inside.actors.items c.self.inside.history.events.items c.self.inside.present c.args.actor.now c.args.due
+    IsTaking c.self.inside.crew (place_of c.self.inside.places) c.self.inside.mouths.items c.self.inside.actors.items c.self.inside.history.events.items c.self.inside.present c.args.actor.now c.args.due.now
 due_here g c =
     let i = c.self.inside in
-    taking i.disk (g.D.CallFs.disk i.disk) i.crew (place_of i.places) i.actors.items i.mouths.items i.history.events.items i.present i.next_pid (counted i.bounces i.deliveries) c.args.actor.now c.args.due c.self.invariant.0 c.self.invariant.3
-    (subst (λ (w : Seen _). IsDueOfChild w c.args.actor.now c.args.due) (sym c.self.view_is) c.requires.due) c.requires.take
+    taking i.disk (g.D.CallFs.disk i.disk) i.crew (place_of i.places) i.actors.items i.mouths.items i.history.events.items i.present i.next_pid (counted i.bounces i.deliveries) c.args.actor.now c.args.due.now c.self.invariant.0 c.self.invariant.3
+    (subst (λ (w : Seen _). IsDueOfChild w c.args.actor.now c.args.due.now) (sym c.self.view_is) c.requires.due) c.requires.take
 
 -- whose slot it is
-slot_is : (g : _) (c : After-due_slot-slot g) (d : ℕ) → c.args.due ≡ needs.Take (port.Status d) → c.due_slot-slot.result ≡ d
+slot_is : (g : _) (c : After-due_slot-slot g) (d : ℕ) → c.args.due.now ≡ needs.Take (port.Status d) → c.due_slot-slot.result ≡ d
 slot_is g c d due = c.due_slot-slot.ensures ∙ ap due_slot due
 
 pub setting-at-requires : goal.setting-at-requires
@@ -207,10 +207,10 @@ ready_is g c = c.setting-at.ensures.ready ∙ ap (λ (w : Seen _). found_in (kno
 
 -- what is taken
 own_is : (g : _) (c : After-own_at-own g) → c.setting-at.result.now ≡ c.self.inside.present → c.setting-at.result.ready ≡ found_in (known c.self.inside.history.events.items) c.args.actor.now
-    → (d : ℕ) → c.args.due ≡ needs.Take (port.Status d) → c.own_at-own.result ≡ status_own c.self.inside.history.events.items c.self.inside.present c.args.actor.now d c.in-Some.came
+    → (d : ℕ) → c.args.due.now ≡ needs.Take (port.Status d) → c.own_at-own.result ≡ status_own c.self.inside.history.events.items c.self.inside.present c.args.actor.now d c.in-Some.came
 own_is g c at ready d due =
     let i = c.self.inside in
-    at_setting c.setting-at.result.now i.present c.setting-at.result.ready (found_in (known i.history.events.items) c.args.actor.now) c.args.due (needs.Take (port.Status d)) c.in-Some.came c.own_at-own.result
+    at_setting c.setting-at.result.now i.present c.setting-at.result.ready (found_in (known i.history.events.items) c.args.actor.now) c.args.due.now (needs.Take (port.Status d)) c.in-Some.came c.own_at-own.result
     c.own_at-own.ensures at ready due
 
 came_is : (g : _) (c : In-Some g) (x : Held) → x ≡ c.index-2.result.now → status_of x.ended x.status ≡ Some c.in-Some.came

@@ -1,5 +1,5 @@
 use Rattle.std.proofs.Common.{◌≡◌, take}
-use Rattle.maildir_drop.specs.Pieces.{joined}
+use Rattle.mail_bytes.specs.Blocks.{joined}
 use Rattle.maildir_drop.proofs.pieces.Pieces.of.Given as goal
 
 abbrev pub invariant-loop-block : goal.invariant-loop-block

@@ -1,4 +1,4 @@
-use Rattle.std.proofs.Common.{ℕ, List, Some, ⊎_elim, refl}
+use Rattle.std.proofs.Common.{ℕ, List, ⊎_elim, refl}
 use Rattle.std.proofs.lemmas.Result.{on_ok_weaker}
 use Rattle.call_fs.specs.declared.past.Own.{Own}
 use Rattle.world_events.specs.declared.event.Event.TheVariants as kept
@@ -21,12 +21,12 @@ returns-in-Act c =
     c.in-Act.is)
     c.act.ensures
 
-pub returns-in_ok-new-in-Generation : goal.returns-in_ok-new-in-Generation
-returns-in_ok-new-in-Generation c = λ s e named moment mail may tells h.
+pub returns-in_ok-sender-in-Generation : goal.returns-in_ok-sender-in-Generation
+returns-in_ok-sender-in-Generation c = λ s e named moment mail may tells h.
     let old : Following = c.args.self.now in
-    let m = c.in_ok-new-in-Generation.field-0 in
-    let new : Following = record { fates = old.fates; sender = Some m } in
-    generation_told old new s c.args.event.now e c.in-Generation.start m c.in-Generation.is tells refl refl c.in_ok-new-in-Generation.ensures.stands h
+    let m = c.in_ok-sender-in-Generation.sender in
+    let new : Following = record { fates = old.fates; sender = c.replace.new.dest } in
+    generation_told old new s c.args.event.now e c.in-Generation.start m c.in-Generation.is tells refl c.replace.ensures.after c.in_ok-sender-in-Generation.ensures.stands h
 
 pub returns-in_default : goal.returns-in_default
 returns-in_default c = λ s e named moment mail may tells h.

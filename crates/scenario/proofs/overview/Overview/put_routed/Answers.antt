@@ -2,11 +2,11 @@ use Rattle.std.proofs.Common.{◌≡◌, ◌∙◌, ◌+◌, ◌++◌, ◌∷◌
 use Rattle.std.proofs.lemmas.List.{length-map, length-take-le, map_more}
 use Rattle.mail_bytes.specs.Decimal.{digits}
 use Rattle.crash_fs.specs.Crash.{crash_disk}
-use Rattle.disk_numbers.specs.Records.{AreNoted}
+use Rattle.script_disks.specs.Records.{AreNoted}
 use Rattle.scenario.specs.Shown.{lasting, line_of, recipient_lines, word_of}
 use Rattle.scenario.specs.Viewed.{view_at}
 use Rattle.scenario.proofs.EachMail.{or_else}
-use Rattle.trace_lines.proofs.Printed.{recipient-more}
+use Rattle.script_traces.proofs.Printed.{recipient-more}
 use Rattle.scenario.proofs.overview.Overview.put_routed.Goals as goal
 
 pub loop-index-preserved : goal.loop-index-preserved

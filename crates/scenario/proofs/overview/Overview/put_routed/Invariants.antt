@@ -2,7 +2,7 @@ use Rattle.std.proofs.Common.{◌≡◌, ◌++◌, map, take}
 use Rattle.queue_law.specs.Books.{Books}
 use Rattle.scenario.specs.Fates.{AreFates, IsUsed}
 use Rattle.crash_fs.specs.Crash.{crash_disk}
-use Rattle.disk_numbers.specs.Records.{AreNoted}
+use Rattle.script_disks.specs.Records.{AreNoted}
 use Rattle.scenario.specs.Shown.{lasting, recipient_lines, word_of}
 use Rattle.scenario.specs.Viewed.{view_at}
 use Rattle.scenario.proofs.overview.Overview.put_routed.Given as goal

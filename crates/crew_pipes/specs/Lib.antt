@@ -1,8 +1,0 @@
--- the pipes that are kept, and where, against those of the model
-pub mod Wired
--- what an actor does with them
-pub mod Exchanges
--- what an actor finds ready, and what of a child is due to it
-pub mod Seating
--- with what the command of a user exits
-pub mod Commands

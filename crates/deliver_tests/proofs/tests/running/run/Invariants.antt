@@ -1,5 +1,0 @@
-use Rattle.deliver_tests.specs.Deliveries.{IsRunning}
-use Rattle.deliver_tests.proofs.tests.running.run.Given as goal
-
-abbrev pub invariant-loop : goal.invariant-loop
-invariant-loop g l = IsRunning l.local (g.D.CallFs.disk l.disk)

@@ -1,7 +1,0 @@
-mod cases;
-mod commands;
-mod forwards;
-mod homes;
-mod instructions;
-mod messages;
-mod running;

@@ -1,7 +1,0 @@
-use Rattle.std.proofs.Common.{take}
-use Rattle.crash_fs.specs.Crash.{crash_disk}
-use Rattle.disk_numbers.proofs.Gathered.{Gathered, texts, flat_dirs}
-use Rattle.disk_numbers.proofs.numbers.numbers_of.Given as goal
-
-abbrev pub invariant-loop-dir : goal.invariant-loop-dir
-invariant-loop-dir l = Gathered (crash_disk l.disk) flat_dirs (texts (take l.dir-index l.dir-items)) l.numbers.items

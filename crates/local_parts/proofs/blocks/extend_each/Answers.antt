@@ -1,0 +1,15 @@
+use Rattle.std.proofs.Common.{List, ℕ, ◌++◌, take, get_or, sym, ap, ◌∙◌, Vec, Global, append_assoc}
+use Rattle.mail_bytes.specs.Blocks.{joined}
+use Rattle.local_parts.proofs.Joined.{joined_more}
+use Rattle.local_parts.proofs.blocks.extend_each.Goals as goal
+
+pub loop-block-preserved : goal.loop-block-preserved
+loop-block-preserved c =
+    let k = c.loop-block.block-index in
+    let blocks = c.args.blocks.now in
+    let items : Vec ℕ Global → List ℕ = λ v. v.items in
+    c.in_ok-extend.ensures.ok
+    ∙ ap (λ t. c.loop-block.text ++ t) (c.as_slice.ensures.value ∙ ap items c.block-item.is)
+    ∙ ap (λ t. t ++ items (get_or blocks k c.block-item.result)) c.loop-block.invariant
+    ∙ append_assoc c.args.text.now (joined (take k blocks)) (items (get_or blocks k c.block-item.result))
+    ∙ ap (λ t. c.args.text.now ++ t) (sym (joined_more blocks k c.block-item.result c.loop-block-test.true))

@@ -1,0 +1,13 @@
+use Rattle.std.proofs.Common.{◌≡◌, take, drop, ap, ◌∙◌, subst}
+use Rattle.local_parts.specs.Course.{after_work, passed, up_to_work}
+use Rattle.local_parts.proofs.Courses.{passed_is, rest_is}
+use Rattle.local_parts.proofs.course.Course.pass.Goals as goal
+
+pub returns : goal.returns
+returns c =
+    let next = c.self.inside.next in
+    let k = c.through_work.result in
+    let ahead = rest_is next c.deref.result.now ∙ ap (drop next) c.deref.ensures.value in
+    passed_is c.self.inside.lines.items next k (subst (λ xs. take k xs ≡ up_to_work xs) ahead c.through_work.ensures.upto)
+    (subst (λ xs. drop k xs ≡ after_work xs) ahead c.through_work.ensures.after)
+    ∙ ap passed c.self.view_is

@@ -1,7 +1,0 @@
-use Rattle.std.proofs.Common.{ap, ◌∙◌}
-use Rattle.local_steps.specs.Blocks.{joined}
-use Rattle.local_steps.proofs.Joined.{joined_push}
-use Rattle.local_steps.proofs.blocks.Blocks.into_blocks.Goals as goal
-
-pub returns-clause-bytes : goal.returns-clause-bytes
-returns-clause-bytes c = ap joined c.in_ok-push.ensures.items ∙ joined_push c.self.inside.full.items c.self.inside.last ∙ c.self.view_is

@@ -1,6 +1,0 @@
-use Rattle.std.proofs.Common.{◌≡◌, take}
-use Rattle.local_steps.proofs.Forwards.{records}
-use Rattle.local_steps.proofs.forwarding.records_of.Given as goal
-
-abbrev pub invariant-loop-line : goal.invariant-loop-line
-invariant-loop-line l = l.text ≡ records (take l.line-index l.lines)

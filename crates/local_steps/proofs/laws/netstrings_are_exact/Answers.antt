@@ -1,5 +1,0 @@
-use Rattle.local_steps.proofs.Netstrings.{read, written}
-use Rattle.local_steps.proofs.laws.netstrings_are_exact.Goals as goal
-
-pub returns : goal.returns
-returns c = λ input message. (written input message, read input message)

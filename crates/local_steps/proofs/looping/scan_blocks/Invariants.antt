@@ -1,8 +1,0 @@
-use Rattle.std.proofs.Common.{◌≡◌, take}
-use Rattle.local_steps.specs.Blocks.{joined}
-use Rattle.local_steps.specs.Scanning.{scanned}
-use Rattle.local_steps.specs.declared.looping.Scan.TheVariants.{Like}
-use Rattle.local_steps.proofs.looping.scan_blocks.Given as goal
-
-abbrev pub invariant-loop-block : goal.invariant-loop-block
-invariant-loop-block l = l.scan ≡ scanned l.line (Like 0) (joined (take l.block-index l.blocks))

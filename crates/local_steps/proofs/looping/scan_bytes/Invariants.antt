@@ -1,6 +1,0 @@
-use Rattle.std.proofs.Common.{◌≡◌, take}
-use Rattle.local_steps.specs.Scanning.{scanned}
-use Rattle.local_steps.proofs.looping.scan_bytes.Given as goal
-
-abbrev pub invariant-loop-byte : goal.invariant-loop-byte
-invariant-loop-byte l = l.so_far ≡ scanned l.line l.fn.scan (take l.byte-index l.bytes)

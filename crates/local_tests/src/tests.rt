@@ -1,4 +1,0 @@
-mod choices;
-mod drops;
-mod paths;
-mod plans;

@@ -1,7 +1,0 @@
-use Rattle.call_fs.specs.Past.{held}
-use Rattle.member_tests.specs.Errands.{row_after}
-use Rattle.member_tests.proofs.Asked.{uses}
-use Rattle.member_tests.proofs.errand.ErrandMachine.uses_held.Goals as goal
-
-pub returns : goal.returns
-returns c = record { uses = λ args past now ready run. uses (held past) args (row_after past) }

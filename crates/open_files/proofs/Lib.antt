@@ -1,2 +1,0 @@
--- lists of open descriptors
-pub mod Descriptors

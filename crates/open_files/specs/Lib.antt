@@ -1,2 +1,0 @@
--- what an actor has open
-pub mod Opened

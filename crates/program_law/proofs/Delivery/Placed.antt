@@ -1,0 +1,44 @@
+-- The names of a delivery's drops have `/tmp/` and `/new/` in them, since the path of a maildir line ends in `/`; and those in `tmp` and
+-- `new` differ.
+use Rattle.std.proofs.Common.{◌≡◌, ℕ, List, [], ◌∷◌, Option, Some, None, sym, subst}
+use Rattle.call_fs.specs.declared.past.Own.{Own}
+use Rattle.call_fs.specs.Disk.{Disk}
+use Rattle.dot_qmail.specs.declared.choice.Chosen.{Chosen}
+use Rattle.dot_qmail.specs.declared.choice.Chosen.TheVariants as chosen
+use Rattle.dot_qmail.specs.declared.line.Line.{Line}
+use Rattle.dot_qmail.specs.Lines.{plan_of}
+use Rattle.dot_qmail.proofs.Directories.{leads_slashed, maildir_slashed}
+use Rattle.local_deliver.specs.Carried.{of_choice}
+use Rattle.local_deliver.specs.Deeds.{bytes_read, told_names}
+use Rattle.local_deliver.specs.Drops.{Drop, drop_arguments}
+use Rattle.local_deliver.specs.Writes.{Writes}
+use Rattle.local_parts.specs.declared.arguments.LocalArgs.{LocalArgs}
+use Rattle.local_parts.specs.Choosing.{chosen_by}
+use Rattle.local_parts.specs.Course.{default_text}
+use Rattle.maildir_drop.specs.declared.arguments.Arguments.{Arguments}
+use Rattle.maildir_drop.specs.declared.names.DropNames.{DropNames}
+use Rattle.maildir_drop.specs.declared.row.Attempt.{Attempt}
+use Rattle.maildir_drop.specs.Names.{pair_at}
+use Rattle.maildir_drop.proofs.Drops.{Apart, apart}
+use Rattle.program_law.specs.Delivery.Names.{IsDropName}
+use Rattle.program_law.proofs.Delivery.Apart.{drop_names}
+
+abbrev pub ArePlaced : DropNames → Type 0
+ArePlaced names = (attempt : Attempt) → IsDropName (pair_at names attempt).tmp × IsDropName (pair_at names attempt).new
+
+-- the instructions are those of a text
+of_text : (args : LocalArgs) (o : Option Chosen) (bytes : List ℕ) (lines : List Line) → of_choice args o bytes ≡ Some lines → (text : List ℕ) × (plan_of text ≡ Some lines)
+of_text args None bytes lines e = absurd (cc)
+of_text args (Some chosen.Default) bytes lines e = (default_text args, e)
+of_text args (Some (chosen.File place)) [] lines e = (default_text args, e)
+of_text args (Some (chosen.File place)) (b ∷ bytes) lines e = (b ∷ bytes, e)
+
+pub placed : (args : LocalArgs) (past : List Own) (d : Disk) (it : Drop) → Writes args past d it → ArePlaced it.names
+placed args past d it w attempt =
+    let text = of_text args (chosen_by args (told_names past)) (bytes_read past) w.lines w.told in
+    let slashed = leads_slashed args.home w.path (maildir_slashed text.0 w.path w.lines text.1 w.line) in
+    let of : Arguments = drop_arguments args w.moment w.path w.host w.message in
+    subst (λ (n : DropNames). IsDropName (pair_at n attempt).tmp × IsDropName (pair_at n attempt).new) (sym w.names) (drop_names of attempt slashed)
+
+pub differ : (args : LocalArgs) (past : List Own) (d : Disk) (it : Drop) → Writes args past d it → Apart it.names
+differ args past d it w = subst Apart (sym w.names) (apart (drop_arguments args w.moment w.path w.host w.message))

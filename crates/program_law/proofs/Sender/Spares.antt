@@ -1,0 +1,157 @@
+-- What steps of others spare.
+use Rattle.std.proofs.Common.{◌≡◌, ◌≢◌, ◌⊎◌, inl, inr, ℕ, List, true, Option, Some, None, refl, sym, ap, ◌∙◌, subst, ⊎_elim}
+use Rattle.std.proofs.lemmas.Bool.Decides.{eqb_tells}
+use Rattle.address_rules.specs.declared.controls.Controls.{Controls}
+use Rattle.call_fs.specs.declared.calls.CallData.{CallData}
+use Rattle.call_fs.specs.declared.calls.CallData.TheVariants as call
+use Rattle.call_fs.specs.declared.calls.Answer.{Answer}
+use Rattle.call_fs.specs.declared.past.NeedData.TheVariants as needs
+use Rattle.call_fs.specs.Apply.{Fits}
+use Rattle.queue_clean.specs.declared.command.Command.{Command}
+use Rattle.queue_clean.specs.declared.command.Command.TheVariants.{Foop, Todo as TodoCommand}
+use Rattle.queue_clean.specs.declared.row.Row.{Row}
+use Rattle.queue_clean.specs.declared.row.Row.TheVariants as at
+use Rattle.queue_clean.specs.Commands.{first_name, message_of, second_name}
+use Rattle.queue_clean.specs.Table.{Place, due_at, place_after}
+use Rattle.queue_paths.specs.Names.{Name, Part, path}
+use Rattle.queue_paths.specs.Names.Name.{Of}
+use Rattle.queue_paths.specs.Names.Part.{Mess, Intd, Todo, Info, Local, Remote, Bounce}
+use Rattle.queue_law.specs.Cleaners.{Needs, Rests, StandsAt, number_at}
+use Rattle.queue_law.specs.Numbers.{About, Entry, IsSorted, IsUnsorted, Queue, about, is_later, look}
+use Rattle.queue_law.specs.Senders.{called_queue}
+use Rattle.queue_law.specs.Steps.{queue_after}
+use Rattle.queue_law.proofs.Changes.{unlinks_one}
+use Rattle.queue_law.proofs.Cleaners.{cleaners_keep}
+use Rattle.queue_law.proofs.Foreigners.{foreigners_keep}
+use Rattle.queue_law.proofs.Frame.{about_same}
+use Rattle.program_law.specs.Sender.Stands.{SparesSorted}
+use Rattle.program_law.proofs.Sender.Gone.{file_call}
+use Rattle.program_law.specs.Sender.Spares.{OthersSpare}
+
+-- A number is preprocessed, or it isn't
+
+none_or : (o : Option Entry) → (o ≡ None) ⊎ (o ≢ None)
+none_or None = inl refl
+none_or (Some y) = inr (λ e. absurd (cc))
+
+all_none : (w : About) → w.parts Info ≡ None → w.parts Local ≡ None → w.parts Remote ≡ None → w.parts Bounce ≡ None → IsUnsorted w
+all_none w i l r b Info e = i
+all_none w i l r b Local e = l
+all_none w i l r b Remote e = r
+all_none w i l r b Bounce e = b
+all_none w i l r b Mess e = absurd (cc)
+all_none w i l r b Intd e = absurd (cc)
+all_none w i l r b Todo e = absurd (cc)
+
+sorted_or : (w : About) → IsSorted w ⊎ IsUnsorted w
+sorted_or w = ⊎_elim
+    (λ i. ⊎_elim
+    (λ l. ⊎_elim
+    (λ r. ⊎_elim
+    (λ b. inr (all_none w i l r b))
+    (λ there. inl (Bounce, refl, there))
+    (none_or (w.parts Bounce)))
+    (λ there. inl (Remote, refl, there))
+    (none_or (w.parts Remote)))
+    (λ there. inl (Local, refl, there))
+    (none_or (w.parts Local)))
+    (λ there. inl (Info, refl, there))
+    (none_or (w.parts Info))
+
+is_there : (o : Option Entry) (y : Entry) → o ≡ Some y → o ≢ None
+is_there o y e f = absurd (cc)
+
+by_sorted : (q r : Queue) → ((n : ℕ) → IsSorted (about q n) → about r n ≡ about q n) → ((n : ℕ) → IsUnsorted (about q n) → IsUnsorted (about r n)) → SparesSorted q r
+by_sorted q r same unsorted = record {
+  later = λ part n e. ⊎_elim
+      (λ s. ap (λ (w : About). w.parts part) (same n s))
+      (λ u. unsorted n u part e ∙ sym (u part e))
+      (sorted_or (about q n));
+  sorted = λ n none info there. same n (Info, refl, is_there (look q (Of Info n)) info there);
+}
+
+by_about : (q r : Queue) → ((n : ℕ) → about r n ≡ about q n) → SparesSorted q r
+by_about q r same = record { later = λ part n e. ap (λ (w : About). w.parts part) (same n); sorted = λ n none info there. same n }
+
+-- An unlink of the cleaner
+
+later_far : (part : Part) (n m : ℕ) → is_later part ≡ true → (Of part n ≢ Of Intd m) × (Of part n ≢ Of Mess m) × (Of part n ≢ Of Todo m)
+later_far Info n m e = (λ f. absurd (cc), λ f. absurd (cc), λ f. absurd (cc))
+later_far Local n m e = (λ f. absurd (cc), λ f. absurd (cc), λ f. absurd (cc))
+later_far Remote n m e = (λ f. absurd (cc), λ f. absurd (cc), λ f. absurd (cc))
+later_far Bounce n m e = (λ f. absurd (cc), λ f. absurd (cc), λ f. absurd (cc))
+later_far Mess n m e = absurd (cc)
+later_far Intd n m e = absurd (cc)
+later_far Todo n m e = absurd (cc)
+
+second_far : (part : Part) (n : ℕ) (command : Command) → is_later part ≡ true → Of part n ≢ second_name command
+second_far part n (Foop m) e = (later_far part n m e).1
+second_far part n (TodoCommand m) e = (later_far part n m e).2
+
+-- a number that such a command needs isn't preprocessed
+needed : (controls : Controls) (w : About) (command : Command) (info : Entry) → Needs controls command w → w.parts Todo ≡ None → w.parts Info ≡ Some info → ⊥
+needed controls w (Foop n) info h none there = let gone = h.unsorted Info refl in absurd (cc)
+needed controls w (TodoCommand n) info h none there = let is = h.queued.todo_there in absurd (cc)
+
+some_number : (n k : ℕ) → ◌≡◌ {A = Option ℕ} (Some n) (Some k) → n ≡ k
+some_number n k e = cc
+
+module _ (controls : Controls) (now : ℕ) (q : Queue) (a : List ℕ) (read wrote : ℕ) (told : Answer) where
+  abbrev after : CallData → Queue
+  after c = called_queue q a read c told wrote q.role
+
+  unlink_spares : (x : Name) (command : Command) → ((part : Part) (n : ℕ) → is_later part ≡ true → Of part n ≢ x) → Needs controls command (about q (message_of command))
+      → ((n : ℕ) → ◌≢◌ {A = Option ℕ} (Some (message_of command)) (Some n) → about (after (call.Unlink (path x))) n ≡ about q n) → Fits q.disk (call.Unlink (path x)) told wrote
+      → SparesSorted q (after (call.Unlink (path x)))
+  unlink_spares x command far need same fits =
+      let one = unlinks_one q a read x told wrote fits in
+      record {
+        later = λ part n e. one.others (Of part n) (far part n e);
+        sorted = λ n none info there. ⊎_elim
+            (λ t. absurd (needed controls (about q n) command info (subst (λ (k : ℕ). Needs controls command (about q k)) (sym t.1) need) none there))
+            (λ f. same n (λ e. f.1 (sym (some_number (message_of command) n e))))
+            (eqb_tells n (message_of command));
+      }
+
+  by_row : (row : Row) (name : List ℕ) (c : CallData) → Rests controls now q row → due_at row name read ≡ needs.File c → Fits q.disk c told wrote
+      → ((n : ℕ) → number_at row ≢ Some n → about (after c) n ≡ about q n) → SparesSorted q (after c)
+  by_row (at.UnlinkIntd command) name c h due fits same =
+      let is = sym (file_call (call.Unlink (path (first_name command))) c due) in
+      subst (λ z. SparesSorted q (after z)) (sym is)
+      (unlink_spares (first_name command) command (λ part n e. (later_far part n (message_of command) e).0) h.rest
+      (subst (λ z. (n : ℕ) → ◌≢◌ {A = Option ℕ} (Some (message_of command)) (Some n) → about (after z) n ≡ about q n) is same) (subst (λ z. Fits q.disk z told wrote) is fits))
+  by_row (at.UnlinkSecond command) name c h due fits same =
+      let is = sym (file_call (call.Unlink (path (second_name command))) c due) in
+      subst (λ z. SparesSorted q (after z)) (sym is)
+      (unlink_spares (second_name command) command (λ part n e. second_far part n command e) h.rest.0
+      (subst (λ z. (n : ℕ) → ◌≢◌ {A = Option ℕ} (Some (message_of command)) (Some n) → about (after z) n ≡ about q n) is same) (subst (λ z. Fits q.disk z told wrote) is fits))
+  by_row at.TakeInput name c h due fits same = by_about q (after c) (λ n. same n (λ e. absurd (cc)))
+  by_row at.FindPid name c h due fits same = by_about q (after c) (λ n. same n (λ e. absurd (cc)))
+  by_row at.StatPid name c h due fits same = by_about q (after c) (λ n. same n (λ e. absurd (cc)))
+  by_row (at.JudgePid moment) name c h due fits same = by_about q (after c) (λ n. same n (λ e. absurd (cc)))
+  by_row (at.Answer reply) name c h due fits same = by_about q (after c) (λ n. same n (λ e. absurd (cc)))
+  by_row (at.Ended status) name c h due fits same = by_about q (after c) (λ n. same n (λ e. absurd (cc)))
+
+rests_of : (controls : Controls) (now : ℕ) (q : Queue) (row : Row) (p : Place) → StandsAt controls now q row p → Rests controls now q row
+rests_of controls now q at.FindPid p h = tt
+rests_of controls now q at.StatPid p h = tt
+rests_of controls now q (at.JudgePid moment) p h = tt
+rests_of controls now q at.TakeInput p h = h
+rests_of controls now q (at.UnlinkIntd command) p h = h
+rests_of controls now q (at.UnlinkSecond command) p h = h
+rests_of controls now q (at.Answer reply) p h = h
+rests_of controls now q (at.Ended status) p h = h
+
+pub others_spare : OthersSpare
+others_spare = record {
+  injectors = λ controls now q a args past read ready call told wrote c. by_sorted q (queue_after q a args read call told.answer wrote c.role) c.sorted c.unsorted;
+  foreigners = λ a q r F. by_about q r (foreigners_keep.abouts a q r F);
+  reads = λ now a q r E. record {
+    later = λ part n _. E.looks (Of part n) (λ (e : ◌≡◌ {A = Option ℕ} None (Some n)). absurd (cc));
+    sorted = λ n _ _ _. about_same now a None q r E n (λ e. absurd (cc));
+  };
+  cleaners = λ controls now q a past read ready call told wrote G stands soon due fits.
+      let p : Place = place_after past in
+      let leads = cleaners_keep controls now q a past read ready call told wrote G stands soon due fits in
+      by_row controls now q a read wrote told.answer p.row p.name call (rests_of controls now q p.row p stands) due fits leads.abouts;
+}

@@ -1,0 +1,23 @@
+//! The line that a trace has for an event that a world kept (`specs/Events.antt`). For what an actor did that is a file call with
+//! its answer, a taking, a giving, the start of a remote program or a command (`specs/Acts.antt`). And the lines of a mail and of
+//! its recipients (`specs/Mails.antt`).
+//!
+//! It is a crate of its own, and no part of scenario, for the checker alone: so a check of either stays short.
+//!
+//! # What is claimed
+//!
+//! - The line of each event that a world keeps: a start, an end, a stop, the start of a generation, a report, a
+//!   moment, a machine stop, and what an actor did. That is a file call with what was answered, a taking and a
+//!   giving with the count of bytes, the start of a remote program, or a command. The lines of a mail and of its
+//!   recipients: `put_event` (by `kept_line`, and that by `act_line`); `put_life`, `put_alike`, `put_recipient`.
+#![tactic(auto)]
+
+mod acting;
+mod events;
+mod mails;
+mod passing;
+mod printing;
+
+pub use events::put_event;
+pub use mails::{put_alike, put_life, put_recipient};
+pub use printing::{put_escaped, put_number};

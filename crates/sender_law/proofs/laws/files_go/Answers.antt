@@ -1,5 +1,0 @@
-use Rattle.sender_law.proofs.Gone.{files_go}
-use Rattle.sender_law.proofs.laws.files_go.Goals as goal
-
-pub returns : goal.returns
-returns c = λ controls now q a ch n p d read call told wrote none G h due fits. files_go controls now q a none G ch n p d read call told wrote h due fits

@@ -1,5 +1,0 @@
-use Rattle.sender_law.proofs.Passes.{opens}
-use Rattle.sender_law.proofs.laws.passes_open.Goals as goal
-
-pub returns : goal.returns
-returns c = λ controls now q a ch n begun g d read call told wrote G h due fits by. opens controls now q a G ch n begun g d read call told wrote h due fits by

@@ -1,6 +1,0 @@
-use Rattle.sender_law.proofs.Readings.{readings}
-use Rattle.sender_law.proofs.laws.readings_keep.Goals as goal
-
-pub returns : goal.returns
-returns c = λ controls now q a part n name g before read call told wrote G named h due fits by.
-    readings controls now q a G part n before read wrote name g call told named h due fits by

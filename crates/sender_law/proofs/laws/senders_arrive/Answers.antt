@@ -1,5 +1,0 @@
-use Rattle.sender_law.proofs.Arrive.{arrived}
-use Rattle.sender_law.proofs.laws.senders_arrive.Goals as goal
-
-pub returns : goal.returns
-returns c = λ controls now read q a d ready le told h. arrived controls now read q a le told d ready h

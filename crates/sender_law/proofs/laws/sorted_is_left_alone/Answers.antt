@@ -1,9 +1,0 @@
-use Rattle.sender_law.proofs.Others.{knows_kept, lanes_kept, rests_kept}
-use Rattle.sender_law.proofs.laws.sorted_is_left_alone.Goals as goal
-
-pub returns : goal.returns
-returns c = record {
-  knows = knows_kept;
-  lanes = lanes_kept;
-  rests = λ controls now a o m q r E far spares row b s p among h. rests_kept controls now a o m q r E far spares row b s p among h;
-}

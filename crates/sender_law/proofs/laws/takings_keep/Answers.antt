@@ -1,5 +1,0 @@
-use Rattle.sender_law.proofs.Entries.{takings}
-use Rattle.sender_law.proofs.laws.takings_keep.Goals as goal
-
-pub returns : goal.returns
-returns c = λ controls now a child q ch d read came none G h. takings controls now a child none q ch d read came G h

@@ -1,5 +1,0 @@
-use Rattle.sender_tests.specs.Runs.{IsRunning}
-use Rattle.sender_tests.proofs.disk_runs.run.Given as goal
-
-abbrev pub invariant-loop-now : goal.invariant-loop-now
-invariant-loop-now g l = IsRunning l.sender (g.D.CallFs.disk l.disk)

@@ -1,0 +1,8 @@
+use Rattle.call_fs.specs.declared.calls.How.TheVariants.{Read}
+use Rattle.mem_fs.proofs.InTurn.{told_after}
+use Rattle.test_disk.proofs.OpenInTurn.{may_read}
+use Rattle.test_disk.proofs.tests.steps.close.Goals as goal
+
+pub perform-requires-in-Opened-clause-fits : goal.perform-requires-in-Opened-clause-fits
+perform-requires-in-Opened-clause-fits g c =
+    told_after (g.D.CallFs.disk c.args.disk.now) (g.D.CallFs.disk c.perform.new.disk) (λ x y a. may_read x y c.args.name.now Read c.in-Opened.fd a) c.in-Opened.ensures.told

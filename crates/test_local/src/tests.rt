@@ -1,0 +1,5 @@
+mod choices;
+mod drops;
+mod fault_texts;
+mod paths;
+mod plans;

@@ -1,0 +1,133 @@
+//! Plays what the files of the folder that it runs in say, in name order, with `qmail` over forms in memory, and prints what
+//! came of it. Forms of a script, of a stop and of a row are data, so that a new one costs no proof.
+//!
+//! `NAME.play` is a script. The line printed of it is `NAME ok` if what the script prints is the text of `NAME.out`, nothing is
+//! logged and the exit status is 0, and else `NAME differs`.
+//!
+//! `NAME.stops` is a script that is cut before each of its events, and at the end, by a stop of the machine or of a program. Its
+//! lines are empty, comments that begin with `#`, or
+//!
+//! - `opening LINE`: a line of the script that stands before all others, and is no event.
+//! - `play LINE`: a further line of it. Its events are those that a trace of the whole script prints.
+//! - `as EVENT : LINE`: the line that makes this event by itself; none if it is `-`. Any other event is made by a step of its
+//!   actor. All events, made so, must be the same.
+//! - `case NAME`: the lines from here to the next `case` are of this case alone. The lines before all cases are of each.
+//! - `stop LINE`: a stop. The case is played with each of its stops, before each event and at the end.
+//! - `then LINE`: a line that is played after the stop. `{stop}` is the stop itself, and another name in braces stands for the
+//!   lines that are so of that name then.
+//! - `from EVENT : NAME : LINES`: these lines, parted by ` | `, are so of this name from an event on that begins so, or
+//!   `from the start`. The lines of one name are taken in turn, each from the first such event on after that of the line before.
+//! - `prints LINE`: a line that must be printed then, with names in braces as after `then`. These are all that is printed.
+//! - `each LINE`, `free LINE`, `pairs LINE : LINE`: in place of `prints`. Each line that is printed after the last `pid 0` must be
+//!   like one of the lines `each` or `free`. If `accepted` is `yes` something must be like each of the lines `each`, and else
+//!   nothing; and as much must be like the second line of `pairs` as like the first, or more. `*` is any part of a first word
+//!   between points, or any rest of a line.
+//!
+//! If `checked` has lines `from`, nothing is asked while it is empty. The line printed of a case says how many stops it has, after
+//! a line for each stop that goes otherwise.
+//!
+//! `NAME.rows` are calls of `qmail`, or scripts, with what must come of them. Each begins with a line `row`; the lines before all rows are of
+//! each row that has no line of that name. Its lines are empty, comments, or begin with
+//!
+//! - `words`: the words of the call; `pid`, `moments`: the number of its process, and what its clock tells; `room`: how many bytes
+//!   the output and the log have room for.
+//! - `dirs`: the directories of the disk, else those of a queue, except the one after `without`. `names`: the names on it, each of
+//!   an empty file. `disk_fails`: which of its calls fail, counted from 1 over all but `close`. `lacks`: for which it has no memory.
+//! - `message`, `envelope`: the pieces in which the sources give them; `message_fails`: which takings of the message fail;
+//!   `out_fails`: which givings to the output do.
+//! - `steady`: byte by byte the same sources must lead to the same file calls and answers.
+//! - `status`, `out`, `log`, `left`: the exit status that must come, what the output and the log must have taken, and which names
+//!   must be left.
+//!
+//! or of a script with
+//!
+//! - `opening LINE`, `play LINE`: a line of it, as in a file of stops.
+//! - `told LINE`: a line that must be printed. With a trace these are all lines, except for the events that are no end and make no
+//!   name in `home` nor take one away.
+//!
+//! Pieces and directories are parted by ` | `, and words, numbers and names by spaces. In bytes, `%` and two hexadecimal digits
+//! are one byte, and `%*` is the byte of the line `times`, as often as it says. The line printed of the file says how many rows
+//! came as they should, after those that didn't.
+#![tactic(auto)]
+
+mod calling;
+mod crowded_disk;
+mod disks;
+mod fields;
+mod plays;
+mod rows;
+mod stages;
+mod stops;
+mod survivors;
+mod told;
+
+use plays::prints;
+use rows::make_rows;
+use std::{fs, io};
+use stops::stop_everywhere;
+
+fn main(rt: HostRuntime) -> io::Result<()> {
+    play_all(&rt)?;
+    stop_all(&rt)?;
+    make_all(&rt)
+}
+
+/// Plays each script that is a pair of files.
+fn play_all(rt: &HostRuntime) -> io::Result<()> {
+    for name in &names_of(rt, ".play")? {
+        let verdict = if plays_as_expected(rt, name)? {
+            "ok"
+        } else {
+            "differs"
+        };
+        println!(rt; "{name} {verdict}")?;
+    }
+    Ok(())
+}
+
+/// Plays each script that is cut.
+fn stop_all(rt: &HostRuntime) -> io::Result<()> {
+    for name in &names_of(rt, ".stops")? {
+        stop_everywhere(rt, name, &text_of(rt, name, "stops")?)?;
+    }
+    Ok(())
+}
+
+/// Makes the calls of each file of rows.
+fn make_all(rt: &HostRuntime) -> io::Result<()> {
+    for name in &names_of(rt, ".rows")? {
+        make_rows(rt, name, &text_of(rt, name, "rows")?)?;
+    }
+    Ok(())
+}
+
+/// The names of the files with this ending, without it, in byte order.
+fn names_of(rt: &HostRuntime, ending: &str) -> io::Result<Vec<String>> {
+    let mut names = Vec::new(rt.alloc());
+    for entry in fs::read_dir(rt, ".")? {
+        if let Some(name) = entry?.file_name().strip_suffix(ending) {
+            names.push(String::from_str(rt.alloc(), name)?)?;
+        }
+    }
+    names.sort_unstable();
+    Ok(names)
+}
+
+/// Whether the script of this name prints what it should.
+fn plays_as_expected(rt: &HostRuntime, name: &str) -> io::Result<bool> {
+    let script = read(rt, name, "play")?;
+    let expected = read(rt, name, "out")?;
+    prints(rt, script, &expected)
+}
+
+/// The bytes of the file `NAME.KIND`.
+fn read(rt: &HostRuntime, name: &str, kind: &str) -> io::Result<Vec<u8>> {
+    let path = format!(in rt.alloc(); "{name}.{kind}")?;
+    fs::read(rt, path.as_str())
+}
+
+/// The text of the file `NAME.KIND`.
+fn text_of(rt: &HostRuntime, name: &str, kind: &str) -> io::Result<String> {
+    let path = format!(in rt.alloc(); "{name}.{kind}")?;
+    fs::read_to_string(rt, path.as_str())
+}

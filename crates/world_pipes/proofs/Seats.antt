@@ -1,0 +1,85 @@
+-- Where the members of a generation stand.
+use Rattle.std.proofs.Common.{◌≡◌, ℕ, zero, suc, ◌<◌, List, Bool, true, false, Option, Some, None, refl, sym, ap, ◌∙◌, subst, ⊎_elim, codes, arith, bytes_eq}
+use Rattle.std.specs.Prelude.{if◌then◌else◌}
+use Rattle.world_pipes.specs.Pipework.{is_member}
+use Rattle.world_pipes.specs.Wired.{seat}
+use Rattle.world_pipes.proofs.Members.{whether, other_than, member_cases}
+use Rattle.world_pipes.proofs.Members.{other_text}
+
+abbrev seat_if : Bool → Bool → Bool → Bool → Option ℕ
+seat_if s c l r = if s then Some 0 else (if c then Some 1 else (if l then Some 2 else (if r then Some 3 else None)))
+
+seat_by : (s c l r : Bool) → s ≡ false → c ≡ false → l ≡ false → r ≡ false → seat_if s c l r ≡ None
+seat_by s c l r hs hc hl hr =
+    ap (λ (s : Bool). seat_if s c l r) hs ∙ ap (λ (c : Bool). seat_if false c l r) hc ∙ ap (λ (l : Bool). seat_if false false l r) hl
+    ∙ ap (λ (r : Bool). seat_if false false false r) hr
+
+-- who is no member has no seat
+pub seat_none : (a : List ℕ) → is_member a ≡ false → seat a ≡ None
+seat_none a other =
+    let no : (b : List ℕ) → is_member b ≡ true → bytes_eq a b ≡ false = λ b is. other_text a b (other_than a b other is) in
+    seat_by (bytes_eq a (codes "sender")) (bytes_eq a (codes "clean")) (bytes_eq a (codes "lspawn")) (bytes_eq a (codes "rspawn")) (no (codes "sender") refl) (no (codes "clean") refl) (no (codes "lspawn") refl) (no (codes "rspawn") refl)
+
+-- each member has one of the four
+pub record HasSeat (a : List ℕ) : Type 0 where
+  pub at : ℕ
+  pub is : seat a ≡ Some at
+  pub low : at < 4
+
+pub seat_some : (a : List ℕ) → is_member a ≡ true → HasSeat a
+seat_some a is = ⊎_elim
+    (λ e. record { at = 0; is = ap seat e; low = omega arith })
+    (λ f. ⊎_elim
+    (λ e. record { at = 1; is = ap seat e; low = omega arith })
+    (λ g. ⊎_elim
+    (λ e. record { at = 2; is = ap seat e; low = omega arith })
+    (λ e. record { at = 3; is = ap seat e; low = omega arith })
+    g) f)
+    (member_cases a is)
+
+pub seat_member : (a : List ℕ) (i : ℕ) → seat a ≡ Some i → is_member a ≡ true
+seat_member a i at = ⊎_elim
+    (λ is. is)
+    (λ other. let both : ◌≡◌ {A = Option ℕ} None (Some i) = sym (seat_none a other) ∙ at in absurd (cc))
+    (whether (is_member a))
+
+pub no_seat : (a : List ℕ) → seat a ≡ None → is_member a ≡ false
+no_seat a none = ⊎_elim
+    (λ is. let s = seat_some a is in let both : ◌≡◌ {A = Option ℕ} None (Some s.at) = sym none ∙ s.is in absurd (cc))
+    (λ other. other)
+    (whether (is_member a))
+
+pub seat_low : (a : List ℕ) (i : ℕ) → seat a ≡ Some i → i < 4
+seat_low a i at =
+    let s = seat_some a (seat_member a i at) in
+    let both : ◌≡◌ {A = Option ℕ} (Some s.at) (Some i) = sym s.is ∙ at in
+    let same : s.at ≡ i = cc in
+    let low = s.low in
+    omega (arith, same, low)
+
+same_some : (i j : ℕ) → ◌≡◌ {A = Option ℕ} (Some i) (Some j) → i ≡ j
+same_some i j e = cc
+
+-- what holds of each of the four with its seat holds of who has a seat
+pub by_seat : (P : List ℕ → ℕ → Type 0) → P (codes "sender") 0 → P (codes "clean") 1 → P (codes "lspawn") 2 → P (codes "rspawn") 3
+    → (a : List ℕ) (i : ℕ) → seat a ≡ Some i → P a i
+by_seat P sender clean lspawn rspawn a i at =
+    let named : (b : List ℕ) (j : ℕ) → seat b ≡ Some j → P b j → a ≡ b → P a i =
+    λ b j is holds e. subst (λ (a : List ℕ). P a i) (sym e) (subst (P b) (same_some j i (sym is ∙ sym (ap seat e) ∙ at)) holds) in
+    ⊎_elim
+    (named (codes "sender") 0 refl sender)
+    (⊎_elim (named (codes "clean") 1 refl clean) (⊎_elim (named (codes "lspawn") 2 refl lspawn) (named (codes "rspawn") 3 refl rspawn)))
+    (member_cases a (seat_member a i at))
+
+-- two with one seat are one
+abbrev name_at : ℕ → List ℕ
+name_at zero = codes "sender"
+name_at (suc zero) = codes "clean"
+name_at (suc (suc zero)) = codes "lspawn"
+name_at other = codes "rspawn"
+
+has_name : (a : List ℕ) (i : ℕ) → seat a ≡ Some i → a ≡ name_at i
+has_name a i at = by_seat (λ (a : List ℕ) (i : ℕ). a ≡ name_at i) refl refl refl refl a i at
+
+pub same_seat : (a b : List ℕ) (i : ℕ) → seat a ≡ Some i → seat b ≡ Some i → b ≡ a
+same_seat a b i at other = has_name b i other ∙ sym (has_name a i at)
