@@ -14,7 +14,7 @@ use Rattle.retry_schedule.specs.Due.{first_due}
 use Rattle.send_core.specs.Desk.{closed_by, due_on, goes, has_begun, is_free_for, link, next_idle, past_finish, past_todo, request_sent, retried, stands_at, sweep_due, turn_counted, turn_over, with_requests}
 use Rattle.send_core.specs.Finish.{act_finish, bounce_on, finish_at, forgot, put_off_to, returned_to}
 use Rattle.send_core.specs.Start.{start_at, started}
-use Rattle.send_core.specs.Table.{act, beginning, finishing, finishing_by, from_begin, from_local, from_point, from_remote, from_reports, from_sweep, from_take, going_on, holds, link_of, marking, marking_by, or_else, passing, sweeping, taking}
+use Rattle.send_core.specs.Table.{act, begin_by, beginning, finishing, finishing_by, from_begin, from_local, from_point, from_remote, from_reports, from_sweep, from_take, going_on, holds, link_of, marking, marking_by, or_else, passing, sweeping, taking}
 use Rattle.send_core.specs.Turn.{act_mark, begin_note, is_done, known_of, lost, mark_opened, mark_over, noted, noted_at, pass_opened, put_later, requested, todo_found, todo_named, todo_none, todo_on, todo_over, todo_went, took, unlinked}
 use Rattle.send_core.specs.declared.desk.Desk.{Desk}
 use Rattle.send_core.specs.declared.row.MarkRow.{MarkRow}
@@ -24,6 +24,7 @@ use Rattle.send_core.specs.declared.row.Point.{Point}
 use Rattle.send_core.specs.declared.row.Point.TheVariants as point
 use Rattle.send_core.specs.declared.row.Row.{Row}
 use Rattle.send_core.specs.declared.row.Row.TheVariants as at
+use Rattle.send_jobs.specs.declared.attempts.Failure.{Failure}
 use Rattle.send_jobs.specs.declared.attempts.Mark.{Mark}
 use Rattle.send_jobs.specs.declared.channels.Channel.{Channel}
 use Rattle.send_jobs.specs.declared.channels.Channel.TheVariants.{Local, Remote}
@@ -234,7 +235,8 @@ calm_row (at.Ended status) now got d other = absurd other
 -- the rows that a turn leads to
 abbrev pub IsFresh : Row → Type 0
 IsFresh (at.TakeLink c) = Unit {0}
-IsFresh (at.Mark row m) = Unit {0}
+IsFresh (at.Mark mark.Note m) = Unit {0}
+IsFresh (at.Mark mark.Open m) = Unit {0}
 IsFresh (at.ReadFile c n begun Opening) = Unit {0}
 IsFresh (at.Request c) = Unit {0}
 IsFresh (at.FindTodo s) = Unit {0}
@@ -257,9 +259,13 @@ module _ (d : Desk) (now : ℕ) (ready : Ready) where
     by true = tt
     by false = tt
 
+  mark_fresh : (o : Option Failure) (m : Marked) → IsFresh (at.Mark (begin_by o) m)
+  mark_fresh None m = tt
+  mark_fresh (Some failure) m = tt
+
   marking_fresh : (c : Channel) (o : Option Mark) → FreshIf (marking_by c o)
   marking_fresh c None = tt
-  marking_fresh c (Some it) = tt
+  marking_fresh c (Some it) = mark_fresh it.note (record { channel = c; n = it.attempt.n; place = it.attempt.place })
 
   going_fresh : (c : Channel) (o : Option ℕ) → FreshIf (going_on c o)
   going_fresh c None = tt

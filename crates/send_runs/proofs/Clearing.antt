@@ -299,7 +299,7 @@ over_cleared row p now b d h =
     clears_if b (is_done row) (past_todo now learnt) (todo_on row p now d) (clears_near b (past_todo now learnt) (near_past_todo now learnt)) (on_cleared row p now b d h)
 
 -- it unlinks nothing after the third unlink
-abbrev IsPast : PassRow → Type 0
+abbrev pub IsPast : PassRow → Type 0
 IsPast (todo.Clear part) = ⊥
 IsPast row = Unit {0}
 
@@ -321,35 +321,35 @@ clear_row_so t answer.Done = cleared_so t
 clear_row_so t (answer.Refused why.NotThere) = cleared_so t
 clear_row_so t told = tt
 
-stated_past : (p : Pass) (told : Answer) → IsPast (pass_table.stated p told).row
+pub stated_past : (p : Pass) (told : Answer) → IsPast (pass_table.stated p told).row
 stated_past p (answer.Stat stat) = tt
 stated_past p (answer.Refused why.NotThere) = tt
 stated_past p told = tt
 
-open_past : (told : Answer) → IsPast (pass_table.open_row told)
+pub open_past : (told : Answer) → IsPast (pass_table.open_row told)
 open_past (answer.Opened fd) = tt
 open_past told = tt
 
-read_past : (p : Pass) (fd : Fd) (told : Answer) (bytes : List ℕ) → IsPast (pass_table.read p fd told bytes).row
+pub read_past : (p : Pass) (fd : Fd) (told : Answer) (bytes : List ℕ) → IsPast (pass_table.read p fd told bytes).row
 read_past p fd (answer.Count count) bytes = either_past (nat_lt (length bytes) pass_table.piece_size) (todo.CloseTodo fd) (todo.ReadTodo fd) tt tt
 read_past p fd told bytes = tt
 
-sorted_past : (p : Pass) (r : Result Sorted ℕ) → IsPast (pass_table.sorted_with p r).row
+pub sorted_past : (p : Pass) (r : Result Sorted ℕ) → IsPast (pass_table.sorted_with p r).row
 sorted_past p (Ok s) = tt
 sorted_past p (Err place) = tt
 
-create_past : (t : Target) (told : Answer) → IsPast (pass_table.create_row t told)
+pub create_past : (t : Target) (told : Answer) → IsPast (pass_table.create_row t told)
 create_past t (answer.Created fd number) = tt
 create_past t told = tt
 
 next_past : (t : Target) (fd : Fd) (done : ℕ) (text : List ℕ) → IsPast (pass_table.next_piece t fd done text)
 next_past t fd done text = either_past (nat_lt done (length text)) (todo.Append t fd done) (todo.Sync t fd) tt tt
 
-appended_past : (p : Pass) (t : Target) (fd : Fd) (done now : ℕ) (told : Answer) → IsPast (pass_table.appended p t fd done now told).row
+pub appended_past : (p : Pass) (t : Target) (fd : Fd) (done now : ℕ) (told : Answer) → IsPast (pass_table.appended p t fd done now told).row
 appended_past p t fd done now answer.Done = next_past t fd (done + pass_table.piece_size) (text_of p.sorted t)
 appended_past p t fd done now told = tt
 
-sync_past : (t : Target) (fd : Fd) (told : Answer) → IsPast (pass_table.sync_row t fd told)
+pub sync_past : (t : Target) (fd : Fd) (told : Answer) → IsPast (pass_table.sync_row t fd told)
 sync_past t fd answer.Done = tt
 sync_past t fd told = tt
 
@@ -361,16 +361,16 @@ local_past : (b remote : Bool) → IsPast (pass_table.local_row b remote)
 local_past true remote = tt
 local_past false remote = remote_past remote
 
-made_past : (t : Target) (s : Sorted) → IsPast (pass_table.made_row t s)
+pub made_past : (t : Target) (s : Sorted) → IsPast (pass_table.made_row t s)
 made_past target.Info s = local_past (has s.local) (has s.remote)
 made_past target.Local s = remote_past (has s.remote)
 made_past target.Remote s = tt
 
-give_past : (got : GotData) → IsPast (pass_table.give_row got)
+pub give_past : (got : GotData) → IsPast (pass_table.give_row got)
 give_past came.Gave = tt
 give_past got = tt
 
-answer_past : (got : GotData) → IsPast (answer_row got)
+pub answer_past : (got : GotData) → IsPast (answer_row got)
 answer_past (came.Took bytes) = either_past (bytes_eq bytes (43 ∷ [])) todo.Done (todo.Left left.Unclean) tt tt
 answer_past got = tt
 

@@ -64,7 +64,7 @@ among_due x n (e ∷ es) h = ⊎_elim
     (λ (more : Among (x, n) es). or_right (e.1 == n) (is_due n es) (among_due x n es more))
     h
 
-among_moved : (x n due m : ℕ) (es : List Entry) → Among (x, n) (moved (due, m) es) → ((x ≡ due) × (n ≡ m) × (is_due m es ≡ true)) ⊎ (Among (x, n) es × (n ≡ m → ⊥))
+pub among_moved : (x n due m : ℕ) (es : List Entry) → Among (x, n) (moved (due, m) es) → ((x ≡ due) × (n ≡ m) × (is_due m es ≡ true)) ⊎ (Among (x, n) es × (n ≡ m → ⊥))
 among_moved x n due m es h = by (is_due m es) refl h where
   by : (b : Bool) → is_due m es ≡ b → Among (x, n) (if b then put (due, m) es else es) → ((x ≡ due) × (n ≡ m) × (is_due m es ≡ true)) ⊎ (Among (x, n) es × (n ≡ m → ⊥))
   by true is h = ⊎_elim (λ (new : (x ≡ due) × (n ≡ m)). inl (new.0, new.1, is)) (λ (old : Among (x, n) es × (n ≡ m → ⊥)). inr old) (among_put x n due m es h)

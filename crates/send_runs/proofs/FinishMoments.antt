@@ -1,10 +1,7 @@
--- When finishes may begin.
-use Rattle.std.proofs.Common.{◌≡◌, ℕ, zero, suc, List, [], ◌∷◌, length, get_or, set, position, nat_lt, bytes_eq, Bool, true, false, not, if◌then◌else◌, Option, Some, None, refl, sym, ap, ◌∙◌, subst, inl, inr, eqb-true, eq-eqb}
-use Rattle.std.proofs.lemmas.List.Quantifiers.{position-Some}
+-- From when messages may be finished.
+use Rattle.std.proofs.Common.{◌≡◌, ℕ, List, [], ◌∷◌, position, bytes_eq, Bool, true, false, not, if◌then◌else◌, Option, Some, None, refl, sym, ap, ◌∙◌, subst, eq-eqb}
 use Rattle.std.specs.Prelude.{◌||◌, ◌&&◌, ◌==◌}
-use Rattle.address_rules.specs.declared.controls.Controls.{Controls}
-use Rattle.bounce_record.specs.Returning.{Returning, goes, made, message_read, message_row, notes_read, notes_row, return_begun, return_due_at, returned_at, answered, awaited_row, bounce_at, given_row, message_opened, notes_opened, started_row, unlinked_row}
-use Rattle.bounce_record.specs.declared.bounces.Bounce.{Bounce}
+use Rattle.bounce_record.specs.Returning.{Returning, return_begun, return_due_at, notes_opened}
 use Rattle.bounce_record.specs.declared.return_row.ReturnRow.TheVariants as back
 use Rattle.bounce_record.specs.declared.return_row.ReturnRow.{ReturnRow}
 use Rattle.call_fs.specs.Columns.{IsAnswerTo}
@@ -13,11 +10,9 @@ use Rattle.call_fs.specs.Program.{MayCome}
 use Rattle.call_fs.specs.declared.calls.Answer.TheVariants as answer
 use Rattle.call_fs.specs.declared.calls.Answer.{Answer}
 use Rattle.call_fs.specs.declared.calls.CallData.TheVariants as call
-use Rattle.call_fs.specs.declared.calls.Fd.{Fd}
 use Rattle.call_fs.specs.declared.calls.FsError.TheVariants as why
 use Rattle.call_fs.specs.declared.calls.How.TheVariants as how
 use Rattle.call_fs.specs.declared.calls.Told.{Told}
-use Rattle.call_fs.specs.declared.file_system.TheConstants.{PIECE}
 use Rattle.call_fs.specs.declared.past.GotData.TheVariants as came
 use Rattle.call_fs.specs.declared.past.GotData.{GotData}
 use Rattle.call_fs.specs.declared.past.NeedData.TheVariants as needs
@@ -28,8 +23,8 @@ use Rattle.call_fs.specs.declared.program.Ready.{Ready}
 use Rattle.envelope_records.specs.declared.channel.Record.{Record}
 use Rattle.queue_paths.proofs.Paths.{parse-path}
 use Rattle.queue_paths.specs.Names.Name.{Of as NameOf}
-use Rattle.queue_paths.specs.Names.Part.{Bounce as BounceFile, Info as InfoFile, Mess as MessFile, Remote as RemoteFile}
-use Rattle.queue_paths.specs.Names.{Name, path, parse}
+use Rattle.queue_paths.specs.Names.Part.{Bounce as BounceFile, Remote as RemoteFile}
+use Rattle.queue_paths.specs.Names.{Name, path}
 use Rattle.send_core.proofs.Asked.{Facts, FinishSays, KnowsAt, PassSays, SweepSays}
 use Rattle.send_core.proofs.Coming.{by_file}
 use Rattle.send_core.proofs.Runs.{all_kept, facts}
@@ -81,156 +76,40 @@ use Rattle.todo_pass.specs.declared.row.Row.TheVariants as todo
 use Rattle.todo_pass.specs.declared.row.Row.{Row as PassRow}
 use Rattle.todo_pass.specs.declared.row.Why.TheVariants as left
 use Rattle.send_runs.proofs.Calm.{IsCalm, IsOther, calm_over, calm_pass, calm_past_finish, calm_row, point_calm}
-use Rattle.send_runs.proofs.Knowing.{give_not_over, info_not_over, not_over, one_passed, same_texts, Still, finish_still, give_still, mark_still, pass_still, reading_still, return_still, start_still, sweep_still, take_still}
-use Rattle.send_runs.proofs.Knowns.{EachOf, all_of, of_changed, of_kept, of_learned, of_same}
+use Rattle.send_runs.proofs.Knowing.{one_passed, same_texts, Still, finish_still, give_still, mark_still, pass_still, reading_still, return_still, start_still, sweep_still, take_still}
+use Rattle.send_runs.proofs.Knowns.{EachOf, all_of, of_changed, of_delayed, of_kept, of_learned, of_same}
 use Rattle.send_runs.proofs.Rising.{RiseFrom, rise_past}
-use Rattle.send_runs.proofs.Steady.{Of, Works, of_closed, of_finish_at, of_if, of_looked, of_mark, of_named, of_on, of_over_pass, of_requested, of_swept, of_took, start_book}
-use Rattle.send_runs.specs.FinishMoments.{FinishesAreOfPast, IsFinish, IsFinishBy, IsLaterIf, fails_by, has_misread, has_searched, is_message, is_misread, is_search, isnt_counted, isnt_given, isnt_opened, isnt_queued, isnt_started, isnt_unlinked, opened_for, returning, returning_by}
+use Rattle.send_runs.proofs.Steady.{Of, Works, of_closed, of_if, of_looked, of_mark, of_named, of_on, of_over_pass, of_past_finish, of_requested, of_swept, of_took, start_book}
+use Rattle.send_runs.specs.FinishMoments.{FinishesAreOfPast, fails_by, finish_by, finish_in, has_misread, has_searched, is_misread, is_search, opened_for, returning, returning_by}
 use Rattle.send_runs.specs.Knowing.{answered as known_after, known_by, looked_for}
+use Rattle.send_runs.proofs.Quiet.{differs}
+use Rattle.send_runs.proofs.Returns.{ShutAt, failed_goes, give_goes, info_just, is_later, later_is, open_just, return_just, returned_n, returning_on, shut_returned, take_goes}
+use Rattle.send_runs.proofs.Searching.{PassSearched, SearchedAt, searched_here}
+use Rattle.send_runs.proofs.Unfailing.{Fine, IdleAt, arrives_idle, file_fine, give_fine, idle_kept, mark_fine, pass_fine, start_fine, sweep_fine, take_fine, unlink_fine}
 
 -- Lists of known messages
 
 -- each may be finished from when that says
-abbrev pub EachKnown : (ℕ → ℕ → Type 0) → List Known → Type 0
+abbrev EachKnown : (ℕ → ℕ → Type 0) → List Known → Type 0
 EachKnown F ks = EachOf (λ (k : Known). F k.n k.finish_at) ks
 
 each_same : (F G : ℕ → ℕ → Type 0) (ks : List Known) → ((n moment : ℕ) → F n moment → G n moment) → EachKnown F ks → EachKnown G ks
 each_same F G ks to h = of_same (λ (k : Known). F k.n k.finish_at) (λ (k : Known). G k.n k.finish_at) ks (λ k w. to k.n k.finish_at w) h
 
--- the finish of one is put off
-each_off : (F : ℕ → ℕ → Type 0) (n moment : ℕ) → F n moment → (ks : List Known) (i : ℕ) (d : Known) → known.is_of n (get_or ks i d) ≡ true → EachKnown F ks → EachKnown F (set ks i (record (get_or ks i d) { finish_at = moment }))
-each_off F n moment new [] i d is h = tt
-each_off F n moment new (k ∷ ks) zero d is h = (subst (λ (m : ℕ). F m moment) (sym (eqb-true k.n n is)) new, h.1)
-each_off F n moment new (k ∷ ks) (suc i) d is h = (h.0, each_off F n moment new ks i d is h.1)
-
-pub each_put_off : (F : ℕ → ℕ → Type 0) (n moment : ℕ) (ks : List Known) → F n moment → EachKnown F ks → EachKnown F (known.put_off n moment ks)
-each_put_off F n moment ks new h = by (position (known.is_of n) ks) refl where
-  by : (o : Option ℕ) → position (known.is_of n) ks ≡ o → EachKnown F (known.put_off_at o moment ks)
-  by None e = h
-  by (Some i) e = each_off F n moment new ks i known.nobody (position-Some (known.is_of n) ks i known.nobody e).1 h
-
-pub each_local : (F : ℕ → ℕ → Type 0) (ks : List Known) (o : Option ℕ) → EachKnown F ks → EachKnown F (known.local_gone_at o ks)
+each_local : (F : ℕ → ℕ → Type 0) (ks : List Known) (o : Option ℕ) → EachKnown F ks → EachKnown F (known.local_gone_at o ks)
 each_local F ks None h = h
 each_local F ks (Some i) h = of_changed (λ (k : Known). F k.n k.finish_at) (λ (k : Known). record k { local = false }) (λ k x. x) ks i known.nobody h
 
-pub each_remote : (F : ℕ → ℕ → Type 0) (ks : List Known) (o : Option ℕ) → EachKnown F ks → EachKnown F (known.remote_gone_at o ks)
+each_remote : (F : ℕ → ℕ → Type 0) (ks : List Known) (o : Option ℕ) → EachKnown F ks → EachKnown F (known.remote_gone_at o ks)
 each_remote F ks None h = h
 each_remote F ks (Some i) h = of_changed (λ (k : Known). F k.n k.finish_at) (λ (k : Known). record k { remote = false }) (λ k x. x) ks i known.nobody h
 
-pub each_forgotten : (F : ℕ → ℕ → Type 0) (n : ℕ) (ks : List Known) → EachKnown F ks → EachKnown F (known.forgotten n ks)
+each_forgotten : (F : ℕ → ℕ → Type 0) (n : ℕ) (ks : List Known) → EachKnown F ks → EachKnown F (known.forgotten n ks)
 each_forgotten F n ks h = of_kept (λ (k : Known). F k.n k.finish_at) (λ (k : Known). not (known.is_of n k)) ks h
 
--- The return of a message is of that message
+-- Each row
 
-returning_goes : (r : Returning) (row : ReturnRow) → (goes r row).n ≡ r.n
-returning_goes r back.Over = refl
-returning_goes r back.Failed = refl
-returning_goes r row = refl
-
-notes_n : (r : Returning) (fd : Fd) (told : Answer) (bytes : List ℕ) → (notes_read r fd told bytes).n ≡ r.n
-notes_n r fd (answer.Count count) bytes = refl
-notes_n r fd told bytes = refl
-
-message_n : (r : Returning) (fd : Fd) (told : Answer) (bytes : List ℕ) → (message_read r fd told bytes).n ≡ r.n
-message_n r fd (answer.Count count) bytes = refl
-message_n r fd told bytes = refl
-
-made_n : (r : Returning) (o : Option Bounce) → (made r o).n ≡ r.n
-made_n r None = refl
-made_n r (Some b) = refl
-
-module _ (c : Controls) (sender : List ℕ) (r : Returning) (now : ℕ) where
-  answered_n : (row : ReturnRow) (told : Answer) (bytes : List ℕ) → (answered c sender row r now told bytes).n ≡ r.n
-  answered_n back.Open told bytes = returning_goes r (notes_opened told)
-  answered_n (back.ReadNotes fd) told bytes = notes_n r fd told bytes
-  answered_n (back.CloseNotes fd) told bytes = refl
-  answered_n back.OpenMessage told bytes = returning_goes r (message_opened told)
-  answered_n (back.ReadMessage fd) told bytes = message_n r fd told bytes
-  answered_n (back.CloseMessage fd) told bytes = made_n r (bounce_at c sender r now)
-  answered_n (back.Shut fd) told bytes = refl
-  answered_n back.Unlink told bytes = returning_goes r (unlinked_row told)
-  answered_n back.Discard told bytes = returning_goes r (unlinked_row told)
-  answered_n row told bytes = refl
-
-  returned_n : (row : ReturnRow) (got : GotData) → (returned_at c sender row r now got).n ≡ r.n
-  returned_n back.Start got = returning_goes r (started_row got)
-  returned_n (back.Give pid) got = returning_goes r (given_row pid got)
-  returned_n (back.Await pid) got = returning_goes r (awaited_row got)
-  returned_n row (came.Answered told) = answered_n row told.answer told.bytes
-  returned_n row got = refl
-
--- What came before: a read that failed, where it is closed
-abbrev ShutAt : ReturnRow → Bool → Type 0
-ShutAt (back.Shut fd) misread = misread ≡ true
-ShutAt row misread = Unit {0}
-
-shut_goes : (r : Returning) (row : ReturnRow) (misread : Bool) → ShutAt row misread → ShutAt (goes r row).row misread
-shut_goes r back.Over misread h = tt
-shut_goes r back.Failed misread h = tt
-shut_goes r row misread h = h
-
-shut_if : (b : Bool) (x y : ReturnRow) (misread : Bool) → ShutAt x misread → ShutAt y misread → ShutAt (if b then x else y) misread
-shut_if true x y misread p q = p
-shut_if false x y misread p q = q
-
-shut_notes : (r : Returning) (fd : Fd) (told : Answer) (bytes : List ℕ) → ShutAt (notes_read r fd told bytes).row (isnt_counted told)
-shut_notes r fd (answer.Count count) bytes = shut_if (nat_lt (length bytes) PIECE) (back.CloseNotes fd) (back.ReadNotes fd) false tt tt
-shut_notes r fd told bytes = refl
-
-shut_message : (r : Returning) (fd : Fd) (told : Answer) (bytes : List ℕ) → ShutAt (message_read r fd told bytes).row (isnt_counted told)
-shut_message r fd (answer.Count count) bytes = shut_if (nat_lt (length bytes) PIECE) (back.CloseMessage fd) (back.ReadMessage fd) false tt tt
-shut_message r fd told bytes = refl
-
-shut_notes_opened : (told : Answer) (misread : Bool) → ShutAt (notes_opened told) misread
-shut_notes_opened (answer.Opened fd) misread = tt
-shut_notes_opened (answer.Refused why.NotThere) misread = tt
-shut_notes_opened told misread = tt
-
-shut_message_opened : (told : Answer) (misread : Bool) → ShutAt (message_opened told) misread
-shut_message_opened (answer.Opened fd) misread = tt
-shut_message_opened told misread = tt
-
-shut_unlinked : (told : Answer) (misread : Bool) → ShutAt (unlinked_row told) misread
-shut_unlinked answer.Done misread = tt
-shut_unlinked told misread = tt
-
-shut_made : (r : Returning) (o : Option Bounce) (misread : Bool) → ShutAt (made r o).row misread
-shut_made r None misread = tt
-shut_made r (Some b) misread = tt
-
-shut_started : (got : GotData) (misread : Bool) → ShutAt (started_row got) misread
-shut_started (came.Started pid) misread = tt
-shut_started got misread = tt
-
-shut_given : (pid : ℕ) (got : GotData) (misread : Bool) → ShutAt (given_row pid got) misread
-shut_given pid came.Gave misread = tt
-shut_given pid got misread = tt
-
-shut_awaited : (got : GotData) (misread : Bool) → ShutAt (awaited_row got) misread
-shut_awaited (came.Ended status) misread = shut_if (status == 0) back.Unlink back.Failed misread tt tt
-shut_awaited got misread = tt
-
-module _ (c : Controls) (sender : List ℕ) (r : Returning) (now : ℕ) where
-  shut_answered : (row : ReturnRow) (told : Told) → MayCome (return_due_at row r) (came.Answered told) → ShutAt (answered c sender row r now told.answer told.bytes).row (is_misread (return_due_at row r) (came.Answered told))
-  shut_answered back.Open told may = shut_goes r (notes_opened told.answer) false (shut_notes_opened told.answer false)
-  shut_answered (back.ReadNotes fd) told may = shut_notes r fd told.answer told.bytes
-  shut_answered (back.CloseNotes fd) told may = tt
-  shut_answered back.OpenMessage told may = shut_goes r (message_opened told.answer) false (shut_message_opened told.answer false)
-  shut_answered (back.ReadMessage fd) told may = shut_message r fd told.answer told.bytes
-  shut_answered (back.CloseMessage fd) told may = shut_made r (bounce_at c sender r now) false
-  shut_answered (back.Shut fd) told may = tt
-  shut_answered back.Unlink told may = shut_goes r (unlinked_row told.answer) false (shut_unlinked told.answer false)
-  shut_answered back.Discard told may = shut_goes r (unlinked_row told.answer) false (shut_unlinked told.answer false)
-  shut_answered row told may = absurd may
-
-  shut_returned : (row : ReturnRow) (got : GotData) → MayCome (return_due_at row r) got → ShutAt (returned_at c sender row r now got).row (is_misread (return_due_at row r) got)
-  shut_returned back.Start got may = shut_goes r (started_row got) false (shut_started got false)
-  shut_returned (back.Give pid) got may = shut_goes r (given_row pid got) false (shut_given pid got false)
-  shut_returned (back.Await pid) got may = shut_goes r (awaited_row got) false (shut_awaited got false)
-  shut_returned row (came.Answered told) may = shut_answered row told may
-  shut_returned row got may = absurd may
-
--- and no search, where a finish unlinks the info file
+-- no search came before a finish unlinks the info file
 abbrev LastAt : Row → Returning → Bool → Bool → Type 0
 LastAt (at.Finish finish.UnlinkInfo n) r searched misread = searched ≡ false
 LastAt (at.Finish finish.Return n) r searched misread = ShutAt r.row misread
@@ -240,136 +119,6 @@ calm_last : (row : Row) (r : Returning) (searched misread : Bool) → IsCalm row
 calm_last (at.Finish finish.OpenBounce n) r searched misread is = tt
 calm_last (at.Finish row n) r searched misread is = absurd is
 calm_last row r searched misread is = tt
-
--- Where a return fails
-
-goes_row : (r : Returning) (row : ReturnRow) → (goes r row).row ≡ row
-goes_row r back.Over = refl
-goes_row r back.Failed = refl
-goes_row r row = refl
-
--- of this message
-module _ (n : ℕ) (f : Option ℕ) (searched misread : Bool) where
-  abbrev Fails : NeedData → GotData → Type 0
-  Fails due got = fails_by n f searched misread due got ≡ true
-
-  name_fails : (x : Name) (told : Answer) → isnt_opened n (Some x) told ≡ true → isnt_opened n (parse (path x)) told ≡ true
-  name_fails x told e = ap (λ (o : Option Name). isnt_opened n o told) (parse-path x) ∙ e
-
-  unlink_fails : (x : Name) (told : Answer) → isnt_unlinked searched n (Some x) told ≡ true → isnt_unlinked searched n (parse (path x)) told ≡ true
-  unlink_fails x told e = ap (λ (o : Option Name). isnt_unlinked searched n o told) (parse-path x) ∙ e
-
-  notes_fail : (k : ℕ) (told : Answer) → k ≡ n → notes_opened told ≡ back.Failed → isnt_opened n (Some (NameOf BounceFile k)) told ≡ true
-  notes_fail k (answer.Opened fd) same e = absurd (cc)
-  notes_fail k (answer.Refused why.NotThere) same e = absurd (cc)
-  notes_fail k told same e = eq-eqb k n same
-
-  message_fails : (k : ℕ) (told : Answer) → k ≡ n → message_opened told ≡ back.Failed → isnt_opened n (Some (NameOf MessFile k)) told ≡ true
-  message_fails k (answer.Opened fd) same e = absurd (cc)
-  message_fails k told same e = eq-eqb k n same
-
-  bounce_stays : (k : ℕ) (told : Answer) → k ≡ n → unlinked_row told ≡ back.Failed → isnt_unlinked searched n (Some (NameOf BounceFile k)) told ≡ true
-  bounce_stays k answer.Done same e = absurd (cc)
-  bounce_stays k told same e = eq-eqb k n same
-
-  at_work : f ≡ Some n → is_message n f ≡ true
-  at_work e = ap (is_message n) e ∙ eq-eqb n n refl
-
-  and_fails : (b : Bool) → f ≡ Some n → b ≡ true → (is_message n f && b) ≡ true
-  and_fails b e is = ap (λ (x : Bool). x && b) (at_work e) ∙ is
-
-  started_fails : (got : GotData) → started_row got ≡ back.Failed → isnt_started got ≡ true
-  started_fails (came.Started pid) e = absurd (cc)
-  started_fails got e = refl
-
-  given_fails : (pid : ℕ) (got : GotData) → given_row pid got ≡ back.Failed → isnt_given got ≡ true
-  given_fails pid came.Gave e = absurd (cc)
-  given_fails pid got e = refl
-
-  awaited_fails : (got : GotData) → awaited_row got ≡ back.Failed → isnt_queued got ≡ true
-  awaited_fails (came.Ended status) e = by (status == 0) e where
-    by : (b : Bool) → (if b then back.Unlink else back.Failed) ≡ back.Failed → not b ≡ true
-    by true e = absurd (cc)
-    by false e = refl
-  awaited_fails got e = refl
-
-  not_notes : (fd : Fd) (bytes : List ℕ) → notes_row fd bytes ≡ back.Failed → ⊥
-  not_notes fd bytes e = by (nat_lt (length bytes) PIECE) e where
-    by : (b : Bool) → (if b then back.CloseNotes fd else back.ReadNotes fd) ≡ back.Failed → ⊥
-    by true e = cc
-    by false e = cc
-
-  not_message : (fd : Fd) (bytes : List ℕ) → message_row fd bytes ≡ back.Failed → ⊥
-  not_message fd bytes e = by (nat_lt (length bytes) PIECE) e where
-    by : (b : Bool) → (if b then back.CloseMessage fd else back.ReadMessage fd) ≡ back.Failed → ⊥
-    by true e = cc
-    by false e = cc
-
-  notes_go : (r : Returning) (fd : Fd) (told : Answer) (bytes : List ℕ) → (notes_read r fd told bytes).row ≡ back.Failed → ⊥
-  notes_go r fd (answer.Count count) bytes e = not_notes fd bytes e
-  notes_go r fd told bytes e = cc
-
-  message_goes : (r : Returning) (fd : Fd) (told : Answer) (bytes : List ℕ) → (message_read r fd told bytes).row ≡ back.Failed → ⊥
-  message_goes r fd (answer.Count count) bytes e = not_message fd bytes e
-  message_goes r fd told bytes e = cc
-
-  made_goes : (r : Returning) (o : Option Bounce) → (made r o).row ≡ back.Failed → ⊥
-  made_goes r None e = cc
-  made_goes r (Some b) e = cc
-
-  module _ (c : Controls) (sender : List ℕ) (r : Returning) (now : ℕ) (same : r.n ≡ n) where
-    -- the file call at such a row
-    call_fails : (row : ReturnRow) (told : Told) → f ≡ Some n → (answered c sender row r now told.answer told.bytes).row ≡ back.Failed → MayCome (return_due_at row r) (came.Answered told) → ShutAt row misread → Fails (return_due_at row r) (came.Answered told)
-    call_fails back.Open told e failed may shut = name_fails (NameOf BounceFile r.n) told.answer (notes_fail r.n told.answer same (sym (goes_row r (notes_opened told.answer)) ∙ failed))
-    call_fails (back.ReadNotes fd) told e failed may shut = absurd (notes_go r fd told.answer told.bytes failed)
-    call_fails (back.CloseNotes fd) told e failed may shut = absurd (cc)
-    call_fails back.OpenMessage told e failed may shut = name_fails (NameOf MessFile r.n) told.answer (message_fails r.n told.answer same (sym (goes_row r (message_opened told.answer)) ∙ failed))
-    call_fails (back.ReadMessage fd) told e failed may shut = absurd (message_goes r fd told.answer told.bytes failed)
-    call_fails (back.CloseMessage fd) told e failed may shut = absurd (made_goes r (bounce_at c sender r now) failed)
-    call_fails (back.Shut fd) told e failed may shut = and_fails misread e shut
-    call_fails back.Unlink told e failed may shut = unlink_fails (NameOf BounceFile r.n) told.answer (bounce_stays r.n told.answer same (sym (goes_row r (unlinked_row told.answer)) ∙ failed))
-    call_fails back.Discard told e failed may shut = unlink_fails (NameOf BounceFile r.n) told.answer (bounce_stays r.n told.answer same (sym (goes_row r (unlinked_row told.answer)) ∙ failed))
-    call_fails row told e failed may shut = absurd may
-
-    return_fails : (row : ReturnRow) (got : GotData) → MayCome (return_due_at row r) got → f ≡ Some n → (returned_at c sender row r now got).row ≡ back.Failed → ShutAt row misread → Fails (return_due_at row r) got
-    return_fails back.Start got may e failed shut = and_fails (isnt_started got) e (started_fails got (sym (goes_row r (started_row got)) ∙ failed))
-    return_fails (back.Give pid) got may e failed shut = and_fails (isnt_given got) e (given_fails pid got (sym (goes_row r (given_row pid got)) ∙ failed))
-    return_fails (back.Await pid) got may e failed shut = and_fails (isnt_queued got) e (awaited_fails got (sym (goes_row r (awaited_row got)) ∙ failed))
-    return_fails row (came.Answered told) may e failed shut = call_fails row told e failed may shut
-    return_fails row got may e failed shut = absurd may
-
-    -- the return that goes on is still of the message
-    returning_on : (row : ReturnRow) (got : GotData) → MayCome (return_due_at row r) got → f ≡ Some n → returning_by f (return_due_at row r) ≡ Some n
-    returning_on back.Open got may e = ap opened_for (parse-path (NameOf BounceFile r.n)) ∙ ap (λ (k : ℕ). Some k) same
-    returning_on back.OpenMessage got may e = ap opened_for (parse-path (NameOf MessFile r.n)) ∙ ap (λ (k : ℕ). Some k) same
-    returning_on back.Over got may e = absurd may
-    returning_on back.Failed got may e = absurd may
-    returning_on row got may e = e
-
--- the open of the bounce file, with which a finish begins
-open_fails : (n : ℕ) (f : Option ℕ) (searched misread : Bool) (told : Answer) → notes_opened told ≡ back.Failed → isnt_opened n (parse (path (NameOf BounceFile n))) told ≡ true
-open_fails n f searched misread told e = name_fails n f searched misread (NameOf BounceFile n) told (notes_fail n f searched misread n told refl e)
-
-info_fails : (n : ℕ) (f : Option ℕ) (searched misread : Bool) (told : Answer) (bytes : List ℕ) → searched ≡ false → finish_to finish.UnlinkInfo (replied told bytes).way ≡ finish.Later
-    → isnt_unlinked searched n (parse (path (NameOf InfoFile n))) told ≡ true
-info_fails n f searched misread told bytes own e = unlink_fails n f searched misread (NameOf InfoFile n) told (by told e) where
-  by : (told : Answer) → finish_to finish.UnlinkInfo (replied told bytes).way ≡ finish.Later → isnt_unlinked searched n (Some (NameOf InfoFile n)) told ≡ true
-  by answer.Done e = absurd (cc)
-  by told e = ap (λ (b : Bool). not b && (n == n)) own ∙ eq-eqb n n refl
-
-give_not_later : (w : Way) → finish_to finish.Give w ≡ finish.Later → ⊥
-give_not_later way.Fine e = cc
-give_not_later w e = cc
-
-take_not_later : (w : Way) → finish_to finish.Take w ≡ finish.Later → ⊥
-take_not_later way.Fine e = cc
-take_not_later w e = cc
-
-later_failed : (row : ReturnRow) → returned_to row ≡ finish.Later → row ≡ back.Failed
-later_failed back.Failed e = refl
-later_failed row e = absurd (cc)
-
--- Each row
 
 -- the return of a message is of that message
 abbrev ReturnAt : Row → ℕ → Option ℕ → Type 0
@@ -381,9 +130,9 @@ calm_return (at.Finish finish.OpenBounce n) k f is = tt
 calm_return (at.Finish row n) k f is = absurd is
 calm_return row k f is = tt
 
-module _ (S : ℕ → List ℕ → Type 0) (t : Facts) (d : Desk) (now : ℕ) (was : ℕ → ℕ → Type 0) (f : Option ℕ) (searched misread : Bool) (h : EachKnown was d.book.messages.known) (rise : RiseFrom 0 d.book.messages.known) where
+module _ (S : ℕ → List ℕ → Type 0) (t : Facts) (d : Desk) (now : ℕ) (was : ℕ → ℕ) (f : Option ℕ) (searched misread : Bool) (h : EachKnown (λ n moment. moment ≡ was n) d.book.messages.known) (rise : RiseFrom 0 d.book.messages.known) where
   abbrev After : NeedData → GotData → ℕ → ℕ → Type 0
-  After due got n moment = IsFinishBy (known_by due got t.births.command n false) (fails_by n f searched misread due got) now (was n moment) moment
+  After due got n moment = moment ≡ finish_by (known_by due got t.births.command n false) (fails_by n f searched misread due got) now (was n)
 
   abbrev Each : NeedData → GotData → Messages → List Job → List Job → Type 0
   Each due got m jl jr = EachKnown (After due got) m.known
@@ -394,11 +143,19 @@ module _ (S : ℕ → List ℕ → Type 0) (t : Facts) (d : Desk) (now : ℕ) (w
   abbrev Unlearnt : NeedData → GotData → Type 0
   Unlearnt due got = (n : ℕ) → known_by due got t.births.command n false ≡ false
 
-  stay : (due : NeedData) (got : GotData) (n moment : ℕ) → known_by due got t.births.command n false ≡ false → was n moment → After due got n moment
-  stay due got n moment e w = subst (λ (b : Bool). IsFinishBy b (fails_by n f searched misread due got) now (was n moment) moment) (sym e) (inl w)
+  -- by which the finish of none fails
+  abbrev Unfailing : NeedData → GotData → Type 0
+  Unfailing due got = (n : ℕ) → fails_by n f searched misread due got ≡ false
 
-  base : (due : NeedData) (got : GotData) → Unlearnt due got → EachKnown (After due got) d.book.messages.known
-  base due got q = each_same was (After due got) d.book.messages.known (λ n moment w. stay due got n moment (q n) w) h
+  stay : (due : NeedData) (got : GotData) (n moment : ℕ) → known_by due got t.births.command n false ≡ false → fails_by n f searched misread due got ≡ false → moment ≡ was n → After due got n moment
+  stay due got n moment unlearnt unfailing w = w
+      ∙ sym (ap (λ (b : Bool). finish_by b (fails_by n f searched misread due got) now (was n)) unlearnt ∙ ap (λ (b : Bool). finish_by false b now (was n)) unfailing)
+
+  base : (due : NeedData) (got : GotData) → Unlearnt due got → Unfailing due got → EachKnown (After due got) d.book.messages.known
+  base due got q u = each_same (λ n moment. moment ≡ was n) (After due got) d.book.messages.known (λ n moment w. stay due got n moment (q n) (u n) w) h
+
+  unfailing : (due : NeedData) (got : GotData) → Fine f searched misread due → Unfailing due got
+  unfailing due got fine n = fine got n
 
   of_still : (due : NeedData) (got : GotData) → Still due → Unlearnt due got
   of_still due got still = λ n. still got t.births.command n false
@@ -443,29 +200,23 @@ module _ (S : ℕ → List ℕ → Type 0) (t : Facts) (d : Desk) (now : ℕ) (w
 
   -- one is learnt
 
-  learns : (due : NeedData) (got : GotData) (k : Known) → k.finish_at ≡ 0 → ((n : ℕ) → known_by due got t.births.command n false ≡ (k.n == n)) → EachKnown (After due got) (known.learned k d.book.messages.known)
-  learns due got k zero_is is = of_learned (λ (y : Known). was y.n y.finish_at) (λ (y : Known). After due got y.n y.finish_at) k new (λ y other w. old y.n y.finish_at other w) d.book.messages.known rise h where
+  learns : (due : NeedData) (got : GotData) (k : Known) → k.finish_at ≡ 0 → ((n : ℕ) → known_by due got t.births.command n false ≡ (k.n == n)) → Unfailing due got → EachKnown (After due got) (known.learned k d.book.messages.known)
+  learns due got k zero_is is u = of_learned (λ (y : Known). y.finish_at ≡ was y.n) (λ (y : Known). After due got y.n y.finish_at) k new (λ y other w. old y.n y.finish_at other w) d.book.messages.known rise h where
     new : After due got k.n k.finish_at
-    new = subst (λ (b : Bool). IsFinishBy b (fails_by k.n f searched misread due got) now (was k.n k.finish_at) k.finish_at) (sym (is k.n ∙ eq-eqb k.n k.n refl)) zero_is
+    new = zero_is ∙ sym (ap (λ (b : Bool). finish_by b (fails_by k.n f searched misread due got) now (was k.n)) (is k.n ∙ eq-eqb k.n k.n refl))
 
-    differs : (n : ℕ) → (n ≡ k.n → ⊥) → (k.n == n) ≡ false
-    differs n other = by (k.n == n) refl where
-      by : (b : Bool) → (k.n == n) ≡ b → b ≡ false
-      by true e = absurd (other (sym (eqb-true k.n n e)))
-      by false e = refl
-
-    old : (n moment : ℕ) → (n ≡ k.n → ⊥) → was n moment → After due got n moment
-    old n moment other w = stay due got n moment (is n ∙ differs n other) w
+    old : (n moment : ℕ) → (n ≡ k.n → ⊥) → moment ≡ was n → After due got n moment
+    old n moment other w = stay due got n moment (is n ∙ differs n k.n other) (u n) w
 
   -- a todo pass
 
   abbrev ToPass : PassRow → Pass → GotData → Type 0
   ToPass row p got = Of (Each (pass_table.due_at row p) got) (todo_went row got (moved_at d.book.controls row p now got) now d)
 
-  pass_on : (row : PassRow) (p : Pass) (got : GotData) → IsBefore row → let q : Pass = moved_at d.book.controls row p now got in Of (Each (pass_table.due_at row p) got) (todo_on q.row q now d)
-  pass_on row p got is =
+  pass_on : (row : PassRow) (p : Pass) (got : GotData) → IsBefore row → Unfailing (pass_table.due_at row p) got → let q : Pass = moved_at d.book.controls row p now got in Of (Each (pass_table.due_at row p) got) (todo_on q.row q now d)
+  pass_on row p got is u =
       let q : Pass = moved_at d.book.controls row p now got in
-      of_on (Each (pass_table.due_at row p) got) q.row q now d (base (pass_table.due_at row p) got (of_still (pass_table.due_at row p) got (pass_still row p is)))
+      of_on (Each (pass_table.due_at row p) got) q.row q now d (base (pass_table.due_at row p) got (of_still (pass_table.due_at row p) got (pass_still row p is)) u)
 
   both_false : (b : Bool) → (if b then false else false) ≡ false
   both_false true = refl
@@ -490,12 +241,12 @@ module _ (S : ℕ → List ℕ → Type 0) (t : Facts) (d : Desk) (now : ℕ) (w
     by : (good : Bool) → bytes_eq bytes (43 ∷ []) ≡ good
         → Of (Each (needs.Take port.Clean) got) (todo_over (if good then todo.Done else todo.Left left.Unclean) (pass_table.goes p (if good then todo.Done else todo.Left left.Unclean)) now d)
     by true e = of_over_pass (Each (needs.Take port.Clean) got) todo.Done (pass_table.goes p todo.Done) now d
-        (λ done. learns (needs.Take port.Clean) got (known_of (pass_table.goes p todo.Done)) refl (λ n. said_so true e n ∙ learnt_if (bytes_eq (command_text p.n) (command_text n)) ∙ same_texts command_text one_passed p.n n))
+        (λ done. learns (needs.Take port.Clean) got (known_of (pass_table.goes p todo.Done)) refl (λ n. said_so true e n ∙ learnt_if (bytes_eq (command_text p.n) (command_text n)) ∙ same_texts command_text one_passed p.n n) (λ n. refl))
         (λ done. absurd (cc))
     by false e = of_over_pass (Each (needs.Take port.Clean) got) (todo.Left left.Unclean) (pass_table.goes p (todo.Left left.Unclean)) now d (λ done. absurd (cc))
-        (λ done. base (needs.Take port.Clean) got (λ n. said_so false e n ∙ unlearnt_if (bytes_eq (command_text p.n) (command_text n))))
-  answer_to p came.End may gave = base (needs.Take port.Clean) came.End (λ n. refl)
-  answer_to p came.Failed may gave = base (needs.Take port.Clean) came.Failed (λ n. refl)
+        (λ done. base (needs.Take port.Clean) got (λ n. said_so false e n ∙ unlearnt_if (bytes_eq (command_text p.n) (command_text n))) (λ n. refl))
+  answer_to p came.End may gave = base (needs.Take port.Clean) came.End (λ n. refl) (λ n. refl)
+  answer_to p came.Failed may gave = base (needs.Take port.Clean) came.Failed (λ n. refl) (λ n. refl)
   answer_to p (came.Answered told) may gave = absurd may
   answer_to p (came.Ended status) may gave = absurd may
   answer_to p came.Crashed may gave = absurd may
@@ -503,22 +254,24 @@ module _ (S : ℕ → List ℕ → Type 0) (t : Facts) (d : Desk) (now : ℕ) (w
   answer_to p (came.Started pid) may gave = absurd may
   answer_to p came.Memory may gave = absurd may
 
-  pass_to : (row : PassRow) (p : Pass) (got : GotData) → MayCome (pass_table.due_at row p) got → PassSays S t row p → ToPass row p got
-  pass_to todo.Answer p got may says = answer_to p got may says.2
-  pass_to (todo.Clear part) p got may says = pass_on (todo.Clear part) p got tt
-  pass_to todo.StatMess p got may says = pass_on todo.StatMess p got tt
-  pass_to todo.OpenTodo p got may says = pass_on todo.OpenTodo p got tt
-  pass_to (todo.ReadTodo fd) p got may says = pass_on (todo.ReadTodo fd) p got tt
-  pass_to (todo.CloseTodo fd) p got may says = pass_on (todo.CloseTodo fd) p got tt
-  pass_to (todo.Create part) p got may says = pass_on (todo.Create part) p got tt
-  pass_to (todo.Append part fd done) p got may says = pass_on (todo.Append part fd done) p got tt
-  pass_to (todo.Sync part fd) p got may says = pass_on (todo.Sync part fd) p got tt
-  pass_to (todo.Close part fd) p got may says = pass_on (todo.Close part fd) p got tt
-  pass_to (todo.Shut fd why) p got may says = pass_on (todo.Shut fd why) p got tt
-  pass_to todo.Give p got may says = pass_on todo.Give p got tt
-  pass_to todo.Done p got may says = absurd may
-  pass_to (todo.Left why) p got may says = absurd may
-  pass_to todo.Lost p got may says = absurd may
+  pass_to : (row : PassRow) (p : Pass) (got : GotData) → MayCome (pass_table.due_at row p) got → PassSays S t row p → f ≡ None → PassSearched row searched → ToPass row p got
+  pass_to row p got may says idle first = by row may says (λ n. pass_fine f searched misread row p idle first got n) where
+    by : (row : PassRow) → MayCome (pass_table.due_at row p) got → PassSays S t row p → Unfailing (pass_table.due_at row p) got → ToPass row p got
+    by todo.Answer may says u = answer_to p got may says.2
+    by (todo.Clear part) may says u = pass_on (todo.Clear part) p got tt u
+    by todo.StatMess may says u = pass_on todo.StatMess p got tt u
+    by todo.OpenTodo may says u = pass_on todo.OpenTodo p got tt u
+    by (todo.ReadTodo fd) may says u = pass_on (todo.ReadTodo fd) p got tt u
+    by (todo.CloseTodo fd) may says u = pass_on (todo.CloseTodo fd) p got tt u
+    by (todo.Create part) may says u = pass_on (todo.Create part) p got tt u
+    by (todo.Append part fd done) may says u = pass_on (todo.Append part fd done) p got tt u
+    by (todo.Sync part fd) may says u = pass_on (todo.Sync part fd) p got tt u
+    by (todo.Close part fd) may says u = pass_on (todo.Close part fd) p got tt u
+    by (todo.Shut fd why) may says u = pass_on (todo.Shut fd why) p got tt u
+    by todo.Give may says u = pass_on todo.Give p got tt u
+    by todo.Done may says u = absurd may
+    by (todo.Left why) may says u = absurd may
+    by todo.Lost may says u = absurd may
 
   -- a finish and the sweep
 
@@ -526,40 +279,55 @@ module _ (S : ℕ → List ℕ → Type 0) (t : Facts) (d : Desk) (now : ℕ) (w
   removed_so k (came.Took bytes) gave = λ n. ap (λ (text : List ℕ). known_after text (bytes_eq bytes (43 ∷ [])) n false) gave ∙ both_false (bytes_eq (remove_text k) (remove_text n))
   removed_so k got gave = λ n. refl
 
-  -- it is put off if it fails
-  puts_off : (due : NeedData) (got : GotData) (n : ℕ) → Unlearnt due got → fails_by n f searched misread due got ≡ true → EachKnown (After due got) (known.put_off n (later now) d.book.messages.known)
-  puts_off due got n q fails = each_put_off (After due got) n (later now) d.book.messages.known
-      (subst (λ (b : Bool). IsFinishBy b (fails_by n f searched misread due got) now (was n (later now)) (later now)) (sym (q n))
-      (inr (subst (λ (b : Bool). IsLaterIf b now (later now)) (sym fails) refl))) (base due got q)
+  -- if it fails it is put off, and no other is
+  puts_off : (due : NeedData) (got : GotData) (n : ℕ) → Unlearnt due got → ((k : ℕ) → fails_by k f searched misread due got ≡ (n == k)) → EachKnown (After due got) (known.put_off n (later now) d.book.messages.known)
+  puts_off due got n q just = of_delayed (λ (y : Known). y.finish_at ≡ was y.n) (λ (y : Known). After due got y.n y.finish_at) n (later now) new old d.book.messages.known rise h where
+    new : (y : Known) → y.n ≡ n → y.finish_at ≡ was y.n → After due got y.n (later now)
+    new y same w = sym (ap (λ (b : Bool). finish_by b (fails_by y.n f searched misread due got) now (was y.n)) (q y.n)
+        ∙ ap (λ (b : Bool). finish_by false b now (was y.n)) (just y.n ∙ eq-eqb n y.n (sym same)))
+
+    old : (y : Known) → (y.n ≡ n → ⊥) → y.finish_at ≡ was y.n → After due got y.n y.finish_at
+    old y other w = stay due got y.n y.finish_at (q y.n) (just y.n ∙ differs y.n n other) w
+
+  -- where a finish leads, by whether just its message's failed
+  lands : (due : NeedData) (got : GotData) (n : ℕ) (b : Returning) (busy : Bool) → Unlearnt due got → (row : FinishRow) → ((k : ℕ) → fails_by k f searched misread due got ≡ (is_later row && (n == k)))
+      → Of (Each due got) (finish_at row n now (record d { bounce = b; busy = busy }))
+  lands due got n b busy q finish.Later just = of_past_finish (Each due got) now (put_off_to n (later now) (record d { bounce = b; busy = busy })) (puts_off due got n q just)
+  lands due got n b busy q finish.Over just = of_past_finish (Each due got) now (forgot n (record d { bounce = b; busy = busy })) (each_forgotten (After due got) n d.book.messages.known (base due got q just))
+  lands due got n b busy q finish.Lost just = base due got q just
+  lands due got n b busy q finish.OpenBounce just = base due got q just
+  lands due got n b busy q finish.Return just = base due got q just
+  lands due got n b busy q finish.UnlinkInfo just = base due got q just
+  lands due got n b busy q finish.Give just = base due got q just
+  lands due got n b busy q finish.Take just = base due got q just
+
+  none_later : (row : FinishRow) (n k : ℕ) → is_later row ≡ false → false ≡ (is_later row && (n == k))
+  none_later row n k e = sym (ap (λ (b : Bool). b && (n == k)) e)
 
   finish_each : (row : FinishRow) (n : ℕ) (got : GotData) → MayCome (due_at (at.Finish row n) d) got → FinishSays S t row n → ReturnAt (at.Finish row n) d.bounce.n f → LastAt (at.Finish row n) d.bounce searched misread → To (at.Finish row n) got
   finish_each finish.OpenBounce n got may says at_return last = by_file (due_at (at.Finish finish.OpenBounce n) d) tt (To (at.Finish finish.OpenBounce n)) got may (λ told fit.
       let due : NeedData = due_at (at.Finish finish.OpenBounce n) d in
-      let q : Unlearnt due (came.Answered told) = of_still due (came.Answered told) (finish_still finish.OpenBounce n d (λ e. cc)) in
       let it = bounce_on n now (came.Answered told) (return_begun n) d.book in
-      of_finish_at (Each due (came.Answered told)) (returned_to it.row) n now (record d { bounce = it; busy = true }) (λ e. absurd (not_over it.row e))
-      (λ e. puts_off due (came.Answered told) n q (open_fails n f searched misread told.answer (sym (goes_row (return_begun n) (notes_opened told.answer)) ∙ later_failed it.row e)))
-      (base due (came.Answered told) q))
+      lands due (came.Answered told) n it true (of_still due (came.Answered told) (finish_still finish.OpenBounce n d (λ e. cc))) (returned_to it.row)
+      (λ k. open_just k n f searched misread told.answer ∙ ap (λ (b : Bool). b && (n == k)) (sym (failed_goes (return_begun n) (notes_opened told.answer)) ∙ sym (later_is it.row))))
   finish_each finish.Return n got may says at_return last =
       let due : NeedData = return_due_at d.bounce.row d.bounce in
-      let q : Unlearnt due got = of_still due got (return_still d.bounce.row d.bounce) in
       let it = bounce_on n now got d.bounce d.book in
-      of_finish_at (Each due got) (returned_to it.row) n now (record d { bounce = it }) (λ e. absurd (not_over it.row e))
-      (λ e. puts_off due got n q (return_fails n f searched misread d.book.controls (sender_of n d.book.messages.known) d.bounce now at_return.1 d.bounce.row got may at_return.0 (later_failed it.row e) last))
-      (base due got q)
+      let same : f ≡ Some d.bounce.n = at_return.0 ∙ ap (λ (k : ℕ). Some k) (sym at_return.1) in
+      lands due got n it d.busy (of_still due got (return_still d.bounce.row d.bounce)) (returned_to it.row)
+      (λ k. return_just k f searched misread d.book.controls (sender_of n d.book.messages.known) d.bounce now same d.bounce.row got may last
+      ∙ ap (λ (b : Bool). b && (d.bounce.n == k)) (sym (later_is it.row)) ∙ ap (λ (m : ℕ). is_later (returned_to it.row) && (m == k)) at_return.1)
   finish_each finish.UnlinkInfo n got may says at_return last = by_file (due_at (at.Finish finish.UnlinkInfo n) d) tt (To (at.Finish finish.UnlinkInfo n)) got may (λ told fit.
       let due : NeedData = due_at (at.Finish finish.UnlinkInfo n) d in
-      let q : Unlearnt due (came.Answered told) = of_still due (came.Answered told) (finish_still finish.UnlinkInfo n d (λ e. cc)) in
-      of_finish_at (Each due (came.Answered told)) (finish_to finish.UnlinkInfo (replied told.answer told.bytes).way) n now d (λ e. absurd (info_not_over (replied told.answer told.bytes).way e))
-      (λ e. puts_off due (came.Answered told) n q (info_fails n f searched misread told.answer told.bytes last e)) (base due (came.Answered told) q))
+      lands due (came.Answered told) n d.bounce d.busy (of_still due (came.Answered told) (finish_still finish.UnlinkInfo n d (λ e. cc))) (finish_to finish.UnlinkInfo (replied told.answer told.bytes).way)
+      (λ k. info_just k n searched told.answer told.bytes last fit))
   finish_each finish.Give n got may says at_return last =
       let due : NeedData = due_at (at.Finish finish.Give n) d in
-      of_finish_at (Each due got) (finish_to finish.Give (said got).way) n now d (λ e. absurd (give_not_over (said got).way e)) (λ e. absurd (give_not_later (said got).way e))
-      (base due got (of_still due got (finish_still finish.Give n d (λ e. cc))))
+      lands due got n d.bounce d.busy (of_still due got (finish_still finish.Give n d (λ e. cc))) (finish_to finish.Give (said got).way)
+      (λ k. none_later (finish_to finish.Give (said got).way) n k (give_goes (said got).way))
   finish_each finish.Take n got may says at_return last =
-      let x : EachKnown (After (needs.Take port.Clean) got) d.book.messages.known = base (needs.Take port.Clean) got (removed_so n got says) in
-      of_finish_at (Each (needs.Take port.Clean) got) (finish_to finish.Take (said got).way) n now d (λ e. each_forgotten (After (needs.Take port.Clean) got) n d.book.messages.known x)
-      (λ e. absurd (take_not_later (said got).way e)) x
+      lands (needs.Take port.Clean) got n d.bounce d.busy (removed_so n got says) (finish_to finish.Take (said got).way)
+      (λ k. none_later (finish_to finish.Take (said got).way) n k (take_goes (said got).way))
   finish_each finish.Later n got may says at_return last = absurd may
   finish_each finish.Over n got may says at_return last = absurd may
   finish_each finish.Lost n got may says at_return last = absurd may
@@ -568,7 +336,7 @@ module _ (S : ℕ → List ℕ → Type 0) (t : Facts) (d : Desk) (now : ℕ) (w
   sweep_each row got may says =
       let due : NeedData = due_at (at.Sweep row) d in
       of_swept (Each due got) (sweep_to row now (said got) d.book) (looked_up row (said got) (sweep_begun row now d))
-      (of_looked (Each due got) row (said got) now d (base due got (unlearnt row got says)))
+      (of_looked (Each due got) row (said got) now d (base due got (unlearnt row got says) (unfailing due got (sweep_fine f searched misread row d))))
     where
       unlearnt : (row : SweepRow) (got : GotData) → SweepSays S t row → Unlearnt (due_at (at.Sweep row) d) got
       unlearnt (sweep.Take split n) got says = removed_so n got says
@@ -593,34 +361,40 @@ module _ (S : ℕ → List ℕ → Type 0) (t : Facts) (d : Desk) (now : ℕ) (w
     one remote = record { n = k; birth = birth; finish_at = 0; local = local; remote = remote; sender = sender_in d.book.read }
 
     by : (a : Answer) → told.answer ≡ a → IsAnswerTo (call.Stat (path (NameOf RemoteFile k))) a → EachKnown (After due (came.Answered told)) (remote_stated (replied a told.bytes).way split k birth local d.book).messages.known
-    by (answer.Stat stat) e fit = learns due (came.Answered told) (one true) refl (λ n. said_so (answer.Stat stat) e n ∙ or_false (k == n))
-    by (answer.Refused why.NotThere) e fit = learns due (came.Answered told) (one false) refl (λ n. said_so (answer.Refused why.NotThere) e n ∙ or_false (k == n))
-    by (answer.Refused why.Fault) e fit = base due (came.Answered told) (λ n. said_so (answer.Refused why.Fault) e n)
+    by (answer.Stat stat) e fit = learns due (came.Answered told) (one true) refl (λ n. said_so (answer.Stat stat) e n ∙ or_false (k == n)) (λ n. refl)
+    by (answer.Refused why.NotThere) e fit = learns due (came.Answered told) (one false) refl (λ n. said_so (answer.Refused why.NotThere) e n ∙ or_false (k == n)) (λ n. refl)
+    by (answer.Refused why.Fault) e fit = base due (came.Answered told) (λ n. said_so (answer.Refused why.Fault) e n) (λ n. refl)
     by a e fit = absurd fit
 
-  start_each : (row : StartRow) (got : GotData) → MayCome (due_at (at.Start row) d) got → To (at.Start row) got
-  start_each (start.StatRemote split k birth local) got may = by_file (due_at (at.Start (start.StatRemote split k birth local)) d) tt (To (at.Start (start.StatRemote split k birth local))) got may
+  start_each : (row : StartRow) (got : GotData) → MayCome (due_at (at.Start row) d) got → f ≡ None → To (at.Start row) got
+  start_each (start.StatRemote split k birth local) got may idle = by_file (due_at (at.Start (start.StatRemote split k birth local)) d) tt (To (at.Start (start.StatRemote split k birth local))) got may
       (λ told fit. stated_each split k birth local told fit)
-  start_each row got may = start_book (λ (m : Messages). EachKnown (After (due_at (at.Start row) d) got) m.known) row (said got) d.book (λ look. absurd look)
-      (base (due_at (at.Start row) d) got (of_still (due_at (at.Start row) d) got (start_still row d (λ look. absurd look))))
+  start_each row got may idle = start_book (λ (m : Messages). EachKnown (After (due_at (at.Start row) d) got) m.known) row (said got) d.book (λ look. absurd look)
+      (base (due_at (at.Start row) d) got (of_still (due_at (at.Start row) d) got (start_still row d (λ look. absurd look))) (unfailing (due_at (at.Start row) d) got (start_fine f searched misread row d idle)))
 
-  row_each : (row : Row) (got : GotData) → MayCome (due_at row d) got → KnowsAt S t row d → ReturnAt row d.bounce.n f → LastAt row d.bounce searched misread → To row got
-  row_each (at.Start row) got may says at_return last = start_each row got may
-  row_each (at.Turn p) got may says at_return last = absurd may
-  row_each (at.TakeLink c) got may says at_return last =
-      let due : NeedData = due_at (at.TakeLink c) d in of_took (Each due got) (works due got) (said got).way (said got).bytes c d (base due got (of_still due got (take_still c d)))
-  row_each (at.Mark row m) got may says at_return last = let due : NeedData = due_at (at.Mark row m) d in of_mark (Each due got) (works due got) row m got d (base due got (of_still due got (mark_still row m d)))
-  row_each (at.UnlinkFile c n p) got may says at_return last = let due : NeedData = due_at (at.UnlinkFile c n p) d in unlink_each due got (said got).way c n p (base due got (λ n. refl))
-  row_each (at.ReadFile c n b reading) got may says at_return last =
+  row_each : (row : Row) (got : GotData) → MayCome (due_at row d) got → KnowsAt S t row d → ReturnAt row d.bounce.n f → LastAt row d.bounce searched misread → IdleAt row f → SearchedAt row d.pass searched → To row got
+  row_each (at.Start row) got may says at_return last idle first = start_each row got may idle
+  row_each (at.Turn p) got may says at_return last idle first = absurd may
+  row_each (at.TakeLink c) got may says at_return last idle first =
+      let due : NeedData = due_at (at.TakeLink c) d in
+      of_took (Each due got) (works due got) (said got).way (said got).bytes c d (base due got (of_still due got (take_still c d)) (unfailing due got (take_fine f searched misread c d)))
+  row_each (at.Mark row m) got may says at_return last idle first =
+      let due : NeedData = due_at (at.Mark row m) d in
+      of_mark (Each due got) (works due got) row m got d (base due got (of_still due got (mark_still row m d)) (unfailing due got (mark_fine f searched misread row m d idle)))
+  row_each (at.UnlinkFile c n p) got may says at_return last idle first =
+      let due : NeedData = due_at (at.UnlinkFile c n p) d in unlink_each due got (said got).way c n p (base due got (λ n. refl) (unfailing due got (unlink_fine f searched misread c n)))
+  row_each (at.ReadFile c n b reading) got may says at_return last idle first =
       let due : NeedData = due_at (at.ReadFile c n b reading) d in
       file_each due got (read_on reading (said got)) c n (begun_at reading b now) reading (said got)
-      (base due got (of_still due got (reading_still reading (step.Open (file_of c n) how.Read) d.book.read (λ g command i was. refl))))
-  row_each (at.Request c) got may says at_return last = let due : NeedData = due_at (at.Request c) d in of_requested (Each due got) (said got).way c d (base due got (of_still due got (give_still c d)))
-  row_each (at.FindTodo search) got may says at_return last = let due : NeedData = due_at (at.FindTodo search) d in of_named (Each due got) (said got).way (said got).bytes search now d (base due got (λ n. refl))
-  row_each at.InTodo got may says at_return last = pass_to d.pass.row d.pass got may says.1
-  row_each (at.Finish row n) got may says at_return last = finish_each row n got may says.1 at_return last
-  row_each (at.Sweep row) got may says at_return last = sweep_each row got may says.1
-  row_each (at.Ended status) got may says at_return last = absurd may
+      (base due got (of_still due got (reading_still reading (step.Open (file_of c n) how.Read) d.book.read (λ g command i was. refl))) (unfailing due got (file_fine f searched misread reading c n b d idle)))
+  row_each (at.Request c) got may says at_return last idle first =
+      let due : NeedData = due_at (at.Request c) d in of_requested (Each due got) (said got).way c d (base due got (of_still due got (give_still c d)) (unfailing due got (give_fine f searched misread c d)))
+  row_each (at.FindTodo search) got may says at_return last idle first =
+      let due : NeedData = due_at (at.FindTodo search) d in of_named (Each due got) (said got).way (said got).bytes search now d (base due got (λ n. refl) (λ n. refl))
+  row_each at.InTodo got may says at_return last idle first = pass_to d.pass.row d.pass got may says.1 idle first
+  row_each (at.Finish row n) got may says at_return last idle first = finish_each row n got may says.1 at_return last
+  row_each (at.Sweep row) got may says at_return last idle first = sweep_each row got may says.1
+  row_each (at.Ended status) got may says at_return last idle first = absurd may
 
 -- The return under way, after each row
 
@@ -672,7 +446,7 @@ row_return (at.Finish finish.Return n) now got d f may h =
     let it = bounce_on n now got d.bounce d.book in
     let same : it.n ≡ d.bounce.n = returned_n d.book.controls (sender_of n d.book.messages.known) d.bounce now d.bounce.row got in
     finish_return n (returning_by f (return_due_at d.bounce.row d.bounce)) (returned_to it.row) it.n now (record d { bounce = it })
-    (λ e. (returning_on n f false false d.book.controls (sender_of n d.book.messages.known) d.bounce now h.1 d.bounce.row got may h.0, same ∙ h.1)) refl
+    (λ e. (returning_on n f d.bounce h.1 d.bounce.row got may h.0, same ∙ h.1)) refl
 row_return (at.Finish finish.UnlinkInfo n) now got d f may h = finish_return n (returning_by f (due_at (at.Finish finish.UnlinkInfo n) d)) (finish_to finish.UnlinkInfo (said got).way) d.bounce.n now d (λ e. absurd (info_no_return (said got).way e)) refl
 row_return (at.Finish finish.Give n) now got d f may h = finish_return n (returning_by f (due_at (at.Finish finish.Give n) d)) (finish_to finish.Give (said got).way) d.bounce.n now d (λ e. absurd (give_no_return (said got).way e)) refl
 row_return (at.Finish finish.Take n) now got d f may h = finish_return n (returning_by f (due_at (at.Finish finish.Take n) d)) (finish_to finish.Take (said got).way) d.bounce.n now d (λ e. absurd (take_no_return (said got).way e)) refl
@@ -761,24 +535,31 @@ arrives_return row d now ready f h = h
 
 -- After each run
 
-finishes_kept : (turns : Option ℕ) (past : List Own) → IsRunBy (Next turns) past
-    → let d : Desk = desk_after turns past in EachKnown (λ n moment. IsFinish n past moment) d.book.messages.known × ReturnAt d.row d.bounce.n (returning past)
-finishes_kept turns [] run = (tt, tt)
+return_kept : (turns : Option ℕ) (past : List Own) → IsRunBy (Next turns) past → let d : Desk = desk_after turns past in ReturnAt d.row d.bounce.n (returning past)
+return_kept turns [] run = tt
+return_kept turns (event ∷ before) run =
+    let d : Desk = desk_after turns before in
+    let row : Row = row_now d event.read event.ready in
+    let may : MayCome (due_at row d) event.came = subst (λ (x : NeedData). MayCome x event.came) (sym run.1.0) run.1.1 in
+    subst (λ (due : NeedData). ReturnAt (act row event.read event.came d).row (act row event.read event.came d).bounce.n (returning_by (returning before) due)) run.1.0
+    (row_return row event.read event.came d (returning before) may (arrives_return d.row d event.read event.ready (returning before) (return_kept turns before run.0)))
+
+finishes_kept : (turns : Option ℕ) (past : List Own) → IsRunBy (Next turns) past → EachKnown (λ n moment. moment ≡ finish_in n past) (desk_after turns past).book.messages.known
+finishes_kept turns [] run = tt
 finishes_kept turns (event ∷ before) run =
     let d : Desk = desk_after turns before in
     let row : Row = row_now d event.read event.ready in
-    let h = finishes_kept turns before run.0 in
     let may : MayCome (due_at row d) event.came = subst (λ (x : NeedData). MayCome x event.came) (sym run.1.0) run.1.1 in
     let says : KnowsAt (IsSaid before) (facts before) row d = arrive_says (IsSaid before) (facts before) d event.read event.ready d.row (all_kept turns before run.0).1 in
-    let at_return : ReturnAt row d.bounce.n (returning before) = arrives_return d.row d event.read event.ready (returning before) h.1 in (
-      subst (λ (due : NeedData).
-          EachKnown (λ n moment. IsFinishBy (known_by due event.came (births before).command n false) (fails_by n (returning before) (has_searched before) (has_misread before) due event.came) event.read (IsFinish n before moment) moment)
-          (act row event.read event.came d).book.messages.known) run.1.0
-          (row_each (IsSaid before) (facts before) d event.read (λ n moment. IsFinish n before moment) (returning before) (has_searched before) (has_misread before) h.0 (rise_past turns before) row event.came may says at_return
-          (arrives_last d.row d event.read event.ready (has_searched before) (has_misread before) (last_kept turns before run.0))),
-      subst (λ (due : NeedData). ReturnAt (act row event.read event.came d).row (act row event.read event.came d).bounce.n (returning_by (returning before) due)) run.1.0
-          (row_return row event.read event.came d (returning before) may at_return),
-    )
+    let f : Option ℕ = returning before in
+    subst (λ (due : NeedData).
+    EachKnown (λ n moment. moment ≡ finish_by (known_by due event.came (births before).command n false) (fails_by n f (has_searched before) (has_misread before) due event.came) event.read (finish_in n before))
+    (act row event.read event.came d).book.messages.known) run.1.0
+    (row_each (IsSaid before) (facts before) d event.read (λ n. finish_in n before) f (has_searched before) (has_misread before) (finishes_kept turns before run.0) (rise_past turns before) row event.came may says
+    (arrives_return d.row d event.read event.ready f (return_kept turns before run.0))
+    (arrives_last d.row d event.read event.ready (has_searched before) (has_misread before) (last_kept turns before run.0))
+    (arrives_idle d.row d event.read event.ready f (idle_kept turns before run.0))
+    (searched_here turns before event.read event.ready run.0))
 
 pub finishes_are_of_past : FinishesAreOfPast
-finishes_are_of_past turns past run = all_of (λ (k : Known). IsFinish k.n past k.finish_at) (desk_after turns past).book.messages.known (finishes_kept turns past run).0
+finishes_are_of_past turns past run = all_of (λ (k : Known). k.finish_at ≡ finish_in k.n past) (desk_after turns past).book.messages.known (finishes_kept turns past run)

@@ -121,6 +121,13 @@ of_remote_gone was F n new old ks rise h = by (position (known.is_of n) ks) refl
   by None e = none_changed was F (λ (k : Known). record k { remote = false }) n new old ks (λ some. none_passes (known.is_of n) ks e some) h
   by (Some i) e = let w = position-Some (known.is_of n) ks i known.nobody e in one_changed was F (λ (k : Known). record k { remote = false }) n new old 0 ks i known.nobody w.0 w.1 rise h
 
+pub of_delayed : (was F : Known → Type 0) (n moment : ℕ) → ((k : Known) → k.n ≡ n → was k → F (record k { finish_at = moment })) → ((k : Known) → (k.n ≡ n → ⊥) → was k → F k) → (ks : List Known) → RiseFrom 0 ks
+    → EachOf was ks → EachOf F (known.put_off n moment ks)
+of_delayed was F n moment new old ks rise h = by (position (known.is_of n) ks) refl where
+  by : (o : Option ℕ) → position (known.is_of n) ks ≡ o → EachOf F (known.put_off_at o moment ks)
+  by None e = none_changed was F (λ (k : Known). record k { finish_at = moment }) n new old ks (λ some. none_passes (known.is_of n) ks e some) h
+  by (Some i) e = let w = position-Some (known.is_of n) ks i known.nobody e in one_changed was F (λ (k : Known). record k { finish_at = moment }) n new old 0 ks i known.nobody w.0 w.1 rise h
+
 pub all_of : (F : Known → Type 0) (ks : List Known) → EachOf F ks → All F ks
 all_of F [] h = All-nil F
 all_of F (k ∷ ks) h = All-cons F k ks h.0 (all_of F ks h.1)

@@ -22,6 +22,8 @@ pub mod ReportLines
 pub mod Calm
 -- what comes before an unlink
 pub mod Clearing
+-- and before a todo pass
+pub mod Searching
 -- what is so of each known message
 pub mod Knowns
 -- what each row does to messages and jobs
@@ -48,3 +50,25 @@ pub mod Files
 pub mod DueMoments
 -- from when messages may be finished
 pub mod FinishMoments
+-- what is to be given, by a past
+pub mod Giving
+-- rows that leave the channels as they are
+pub mod Kept
+-- what becomes of passes
+pub mod Fates
+-- when nothing is left of a pass
+pub mod Bridges
+-- how each event leaves passes
+pub mod Passing
+-- which file is unlinked next
+pub mod Unlinks
+-- what each row makes due
+pub mod DueRows
+-- which record the mark at work is of
+pub mod FirstMarks
+-- exactly when messages are due
+pub mod Dues
+-- events by which no finish fails
+pub mod Unfailing
+-- the return of a message, and which events make finishes fail
+pub mod Returns

@@ -38,7 +38,7 @@ any_drop p (x ∷ xs) h = any_rest (p x) (list_any p xs) h
 flies_one : (n : ℕ) (s : Option Attempt) (a : Attempt) → s ≡ Some a → a.n ≡ n → is_on n s ≡ true
 flies_one n s a e same = ap (is_on n) e ∙ eq-eqb a.n n same
 
-none_on : (n : ℕ) (slots : List (Option Attempt)) (i : ℕ) (a : Attempt) → list_any (is_on n) slots ≡ false → attempt_in slots i ≡ Some a → a.n ≡ n → ⊥
+pub none_on : (n : ℕ) (slots : List (Option Attempt)) (i : ℕ) (a : Attempt) → list_any (is_on n) slots ≡ false → attempt_in slots i ≡ Some a → a.n ≡ n → ⊥
 none_on n [] i a none e same = absurd (cc)
 none_on n (s ∷ slots) zero a none e same = by (is_on n s) (flies_one n s a e same) none where
   by : (b : Bool) → b ≡ true → (b || list_any (is_on n) slots) ≡ false → ⊥
@@ -134,7 +134,7 @@ module _ (n : ℕ) (l : Lane) (a : Account) (agrees : (slot : ℕ) → option_ma
       let first : next l ≡ None = ap (λ (left : List Attempt). slice_get left 0) none in
       some_flies (busy_parts (is_in_flight n l) (sym (ap (λ (o : Option Attempt). is_none o && (not (is_on n o) && not (is_in_flight n l))) first) ∙ e))
 
-owed_any : (n : ℕ) (marks : List Mark) → list_any (is_owed n) (map owed_at marks) ≡ list_any (is_mark_on n) marks
+pub owed_any : (n : ℕ) (marks : List Mark) → list_any (is_owed n) (map owed_at marks) ≡ list_any (is_mark_on n) marks
 owed_any n [] = refl
 owed_any n (m ∷ marks) = ap (λ (b : Bool). (m.attempt.n == n) || b) (owed_any n marks)
 

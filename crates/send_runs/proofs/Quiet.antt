@@ -88,11 +88,11 @@ no_todo : (c : Channel) (n k : ℕ) → is_file c n (Some (NameOf TodoFile k)) �
 no_todo Local n k = refl
 no_todo Remote n k = refl
 
-no_bounce : (c : Channel) (n k : ℕ) → is_file c n (Some (NameOf BounceFile k)) ≡ false
+pub no_bounce : (c : Channel) (n k : ℕ) → is_file c n (Some (NameOf BounceFile k)) ≡ false
 no_bounce Local n k = refl
 no_bounce Remote n k = refl
 
-not_control : (file : ControlFile) → parse (control_text file) ≡ None
+pub not_control : (file : ControlFile) → parse (control_text file) ≡ None
 unfolding parse path
 not_control file = refl
 

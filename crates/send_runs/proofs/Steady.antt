@@ -76,7 +76,7 @@ over_is n l job e = by (finished n l && not (list_any (is_mark_on n) l.marks)) e
   by false e = absurd (cc)
 
 -- a request changes no job
-sent_jobs : (o : Option ℕ) (a : Option Attempt) (delivery : ℕ) (l : Lane) → (sent_in o a delivery l).jobs ≡ l.jobs
+pub sent_jobs : (o : Option ℕ) (a : Option Attempt) (delivery : ℕ) (l : Lane) → (sent_in o a delivery l).jobs ≡ l.jobs
 sent_jobs None a delivery l = refl
 sent_jobs (Some slot) None delivery l = refl
 sent_jobs (Some slot) (Some a) delivery l = refl

@@ -85,7 +85,7 @@ idle_tried now (Some Missing) is = refl
 idle_tried now (Some (Noting fd synced)) is = refl
 
 -- a row at which no reading goes on
-abbrev IsUnread : Row → Type 0
+abbrev pub IsUnread : Row → Type 0
 IsUnread (at.ReadFile c n begun Opening) = Unit {0}
 IsUnread (at.ReadFile c n begun reading) = ⊥
 IsUnread (at.Ended status) = ⊥
@@ -128,7 +128,7 @@ module _ (P : MarkRow → Option Mark → Marked → Writing → Type 0) (f : Op
   mark_idle (mark.Write fd) m d h = half_idle m.channel d h.0
   mark_idle (mark.Close fd done) m d h = half_idle m.channel d h
 
-  row_idle : (row : Row) (d : Desk) → IsUnread row → FitAt P f al ar row d → IsIdle f
+  pub row_idle : (row : Row) (d : Desk) → IsUnread row → FitAt P f al ar row d → IsIdle f
   row_idle (at.Start row) d is h = start_idle row d h
   row_idle (at.Turn p) d is h = none_idle f h.1
   row_idle (at.TakeLink c) d is h = none_idle f h.1

@@ -1,6 +1,6 @@
--- When the finish of each known message may begin, by the sender's past alone (qmail-send(8)): at once from when it becomes known, and 123 seconds
--- after a finish of it failed.
-use Rattle.std.specs.Prelude.{◌≡◌, ◌⊎◌, ℕ, List, [], ◌∷◌, Bool, true, false, not, ◌&&◌, ◌==◌, Option, Some, None, All}
+-- From when each known message may be finished, by the sender's past alone (qmail-send(8)): at once when it becomes known, and whenever a finish of
+-- it fails 123 seconds after that.
+use Rattle.std.specs.Prelude.{◌≡◌, ℕ, List, [], ◌∷◌, Bool, true, false, not, ◌&&◌, ◌==◌, Option, Some, None, All}
 use Rattle.call_fs.specs.Past.{IsRunBy}
 use Rattle.call_fs.specs.declared.calls.Answer.{Answer}
 use Rattle.call_fs.specs.declared.calls.Answer.TheVariants as answer
@@ -102,29 +102,27 @@ isnt_queued got = true
 
 abbrev pub fails_by : ℕ → Option ℕ → Bool → Bool → NeedData → GotData → Bool
 fails_by n at_work searched misread (needs.File (call.Open name how.Read)) (came.Answered told) = isnt_opened n (parse name) told.answer
-fails_by n at_work searched misread (needs.File (call.Close fd)) (came.Answered told) = is_message n at_work && misread
+fails_by n at_work searched misread (needs.File (call.Close fd)) (came.Answered told) = misread && is_message n at_work
 fails_by n at_work searched misread (needs.File (call.Unlink name)) (came.Answered told) = isnt_unlinked searched n (parse name) told.answer
-fails_by n at_work searched misread (needs.Start child) got = is_message n at_work && isnt_started got
-fails_by n at_work searched misread (needs.Give (port.Program k) text) got = is_message n at_work && isnt_given got
-fails_by n at_work searched misread (needs.Take (port.Status k)) got = is_message n at_work && isnt_queued got
+fails_by n at_work searched misread (needs.Start child) got = isnt_started got && is_message n at_work
+fails_by n at_work searched misread (needs.Give (port.Program k) text) got = isnt_given got && is_message n at_work
+fails_by n at_work searched misread (needs.Take (port.Status k)) got = isnt_queued got && is_message n at_work
 fails_by n at_work searched misread due got = false
 
 -- From when
 
-abbrev pub IsLaterIf : Bool → ℕ → ℕ → Type 0
-IsLaterIf true now moment = moment ≡ later now
-IsLaterIf false now moment = ⊥
+-- after an event by which it becomes known, or doesn't, and by which a finish of it fails, or doesn't
+abbrev pub finish_by : Bool → Bool → ℕ → ℕ → ℕ
+finish_by true fails now was = 0
+finish_by false true now was = later now
+finish_by false false now was = was
 
--- after an event by which it becomes known, or doesn't
-abbrev pub IsFinishBy : Bool → Bool → ℕ → Type 0 → ℕ → Type 0
-IsFinishBy true fails now was moment = moment ≡ 0
-IsFinishBy false fails now was moment = was ⊎ IsLaterIf fails now moment
-
-abbrev pub IsFinish : ℕ → List Own → ℕ → Type 0
-IsFinish n [] moment = ⊥
-IsFinish n (event ∷ before) moment =
-    IsFinishBy (known_by event.due event.came (births before).command n false) (fails_by n (returning before) (has_searched before) (has_misread before) event.due event.came) event.read (IsFinish n before moment) moment
+-- When `bounce/7` couldn't be opened at 500, that is 623 for message 7, until it becomes known again or a finish of it fails again.
+abbrev pub finish_in : ℕ → List Own → ℕ
+finish_in n [] = 0
+finish_in n (event ∷ before) =
+    finish_by (known_by event.due event.came (births before).command n false) (fails_by n (returning before) (has_searched before) (has_misread before) event.due event.came) event.read (finish_in n before)
 
 -- so it is of each message that a sender knows
 abbrev pub FinishesAreOfPast : Type 0
-FinishesAreOfPast = (turns : Option ℕ) (past : List Own) → IsRunBy (Next turns) past → All (λ (k : Known). IsFinish k.n past k.finish_at) (desk_after turns past).book.messages.known
+FinishesAreOfPast = (turns : Option ℕ) (past : List Own) → IsRunBy (Next turns) past → All (λ (k : Known). k.finish_at ≡ finish_in k.n past) (desk_after turns past).book.messages.known

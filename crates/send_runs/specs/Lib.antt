@@ -8,6 +8,8 @@ pub mod Known
 pub mod Knowing
 -- when each is due
 pub mod DueMoments
+-- and exactly when
+pub mod Dues
 -- which channel files each has
 pub mod Files
 -- from when each may be finished

@@ -1,5 +1,5 @@
 -- Worked pasts: what reports say, the numbers of deliveries, and what is known. Each was worked out by hand.
-use Rattle.std.specs.Prelude.{ℕ, List, [], ◌∷◌, ◌++◌, true, false, None, codes}
+use Rattle.std.specs.Prelude.{ℕ, List, [], ◌∷◌, ◌++◌, take, true, false, None, codes}
 use Rattle.call_fs.specs.declared.calls.CallData.TheVariants as call
 use Rattle.call_fs.specs.declared.calls.Answer.TheVariants as answer
 use Rattle.call_fs.specs.declared.calls.How.TheVariants as how
@@ -9,7 +9,7 @@ use Rattle.call_fs.specs.declared.past.NeedData.{NeedData}
 use Rattle.call_fs.specs.declared.past.NeedData.TheVariants as needs
 use Rattle.call_fs.specs.declared.past.Own.{Own}
 use Rattle.call_fs.specs.declared.program.Port.TheVariants as port
-use Rattle.send_runs.specs.Worked.{Event, absent, done, failed, fd, opened, stated}
+use Rattle.send_runs.specs.Worked.{Event, absent, deferred_dues, deferred_run, done, failed, fd, named, opened, stated}
 
 abbrev pub own : NeedData → GotData → Own
 own due came = record { read = 0; ready = record { links = false ∷ (false ∷ (true ∷ (false ∷ []))); child = None }; due = due; came = came }
@@ -85,3 +85,25 @@ unopened_7 = record (own (needs.File (call.Open (codes "remote/7/7") how.Read)) 
 
 abbrev pub left_7 : Own
 left_7 = record (own (needs.File (call.Unlink (codes "remote/7/7"))) failed) { read = 9 }
+
+-- at 500 the bounce file of 7 can't be opened; or it is missing and the info file can't be unlinked then, or a todo pass can't unlink that, which comes
+-- after a search
+abbrev pub later_at : NeedData → GotData → Own
+later_at due came = record (own due came) { read = 500 }
+
+abbrev pub unreturned_7 : List Own
+unreturned_7 = later_at (needs.File (call.Open (codes "bounce/7") how.Read)) failed ∷ found_7
+
+abbrev pub unfinished_7 : List Own
+unfinished_7 = later_at (needs.File (call.Unlink (codes "info/7/7"))) failed ∷ (own (needs.File (call.Open (codes "bounce/7") how.Read)) absent ∷ found_7)
+
+abbrev pub uncleared_7 : List Own
+uncleared_7 = later_at (needs.File (call.Unlink (codes "info/7/7"))) failed ∷ (own (needs.File (call.NextName (codes "todo") [])) (named (codes "7")) ∷ found_7)
+
+-- then 7 is known again
+abbrev pub again_7 : List Own
+again_7 = own (needs.File (call.Stat (codes "remote/7/7"))) absent ∷ unreturned_7
+
+-- so many events of the run in which one of two recipients is deferred
+abbrev pub deferred_for : ℕ → List Own
+deferred_for k = past_of (take k deferred_run) deferred_dues []

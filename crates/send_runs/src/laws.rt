@@ -1,19 +1,23 @@
 // Worked runs, as laws: contracts of functions that do nothing.
 ghost use Rattle.std.specs.Prelude.{◌≡◌, ◌∷◌, ◌++◌, [], None, Some, codes, take, true, false};
+ghost use Rattle.call_fs.specs.declared.calls.CallData.TheVariants as call;
+ghost use Rattle.call_fs.specs.declared.past.NeedData.TheVariants as needs;
+ghost use Rattle.send_core.specs.Desk.{never};
 ghost use Rattle.send_core.specs.Table.{begun};
 ghost use Rattle.send_jobs.specs.Bookings.Booking.{Reported};
 ghost use Rattle.send_jobs.specs.declared.channels.Channel.TheVariants.{Local, Remote};
 ghost use Rattle.send_runs.specs.Deliveries.{DeliveriesAreNumbered, number_in, requests_given};
 ghost use Rattle.send_runs.specs.DueMoments.{DuesAreOfPast, begun_in, shift};
 ghost use Rattle.send_runs.specs.DueMoments.Shift.{Fails, Learns, Same};
+ghost use Rattle.send_runs.specs.Dues.{DueExactly, due_in};
 ghost use Rattle.send_runs.specs.Files.{FilesAreOfPast, has_in, there_in};
-ghost use Rattle.send_runs.specs.FinishMoments.{FinishesAreOfPast};
+ghost use Rattle.send_runs.specs.FinishMoments.{FinishesAreOfPast, finish_in};
 ghost use Rattle.send_runs.specs.Knowing.{KnownExactly, known_in};
 ghost use Rattle.send_runs.specs.Known.{KnownAreOfPast};
 ghost use Rattle.send_runs.specs.Reports.{EntriesAreReports, EntriesWereReported, FlightsWereGiven, said_at};
 ghost use Rattle.send_runs.specs.ReportLines.{ReportsAreLogged, report_lines};
 ghost use Rattle.send_runs.specs.Rising.{KnownNumbersRise};
-ghost use Rattle.send_runs.specs.WorkedPasts.{answers, cleared_7, deferred_0, delivered_0, dropped_7, failed_1, found_7, given_8, left_7, looked_7, past_of, removed_7, stray_2, stray_line, success_line, takes, two_given, unopened_7};
+ghost use Rattle.send_runs.specs.WorkedPasts.{again_7, answers, cleared_7, deferred_0, deferred_for, delivered_0, dropped_7, failed_1, found_7, given_8, left_7, looked_7, past_of, removed_7, stray_2, stray_line, success_line, takes, two_given, uncleared_7, unfinished_7, unopened_7, unreturned_7};
 ghost use Rattle.send_runs.specs.Worked.{asks, logs, remote_log, deferred_log, remote_run, remote_dues, deferred_run, deferred_dues, restarted_run, restarted_dues, swept_run, swept_dues, faulted_run, faulted_dues};
 
 /// One message to a remote recipient, from the start until its number is free.
@@ -79,8 +83,16 @@ pub fn dues_are_of_past()
     ensures { DuesAreOfPast }
 {}
 
-/// From when a known message may be finished is told by the past: at once from when it becomes known, and 123 seconds after an event by
-/// which a finish of it failed; a todo pass that fails to unlink its info file is none.
+/// Exactly when, at each event of a run: as said above, and nothing else changes it. A message of which a pass goes on is due never; the event
+/// after which nothing of that is to be given, in flight or to be marked any more makes it due at the next retry, unless the sender unlinks
+/// the channel file next: then that is gone, or the unlink fails and it is due 123 seconds later. So none stays at never once its pass is over.
+pub fn due_exactly()
+    ensures { DueExactly }
+{}
+
+/// From when a known message may be finished is told by the past: at once when it becomes known, and 123 seconds after each event by which a
+/// finish of it fails. So each failure puts it off, and nothing else does: neither a todo pass that fails to unlink its info file nor another
+/// message's finish.
 pub fn finishes_are_of_past()
     ensures { FinishesAreOfPast }
 {}
@@ -175,4 +187,28 @@ pub fn worked_dues()
     ensures unopened { shift Remote 7 two_given unopened_7 ≡ Fails }
     ensures left { shift Remote 7 two_given left_7 ≡ Fails }
     ensures cleared { shift Remote 7 (left_7 ∷ two_given) left_7 ≡ Same }
+{}
+
+/// From when a message may be finished: when its bounce file couldn't be opened, or its info file couldn't be unlinked, but for a todo pass; of
+/// another message; and when it is known again.
+pub fn worked_finishes()
+    ensures unreturned { finish_in 7 unreturned_7 ≡ 623 }
+    ensures unfinished { finish_in 7 unfinished_7 ≡ 623 }
+    ensures cleared { finish_in 7 uncleared_7 ≡ 0 }
+    ensures other { finish_in 8 unreturned_7 ≡ 0 }
+    ensures again { finish_in 7 again_7 ≡ 0 }
+{}
+
+/// When a message is due of which one of two recipients is deferred: at once when its todo pass is done; never from when its pass begins, also
+/// while its file is open for the mark of the other one; at the next retry when that is closed; and never again from when the second pass
+/// begins, also when that is over and the file is unlinked next. And one of which the unlink failed.
+pub fn worked_moments()
+    ensures learnt { due_in Remote 1 needs.Wait (deferred_for 55) ≡ 0 }
+    ensures started { due_in Remote 1 needs.Wait (deferred_for 82) ≡ never }
+    ensures reported { due_in Remote 1 needs.Wait (deferred_for 87) ≡ never }
+    ensures marked { due_in Remote 1 needs.Wait (deferred_for 89) ≡ never }
+    ensures over { due_in Remote 1 needs.Wait (deferred_for 90) ≡ 400 }
+    ensures second { due_in Remote 1 needs.Wait (deferred_for 96) ≡ never }
+    ensures unlinked { due_in Remote 1 (needs.File (call.Unlink (codes "remote/1/1"))) (deferred_for 103) ≡ never }
+    ensures failed { due_in Remote 7 needs.Wait (left_7 ∷ two_given) ≡ 132 }
 {}

@@ -22,15 +22,17 @@
 //! - A known message has the channel files that were there when it became known, as they were looked for or made,
 //!   and that weren't unlinked since, when nothing of them was left to do. It is due on just the channels of these:
 //!   `files_are_of_past` (`specs/Files.antt`), with the rows `worked_files`.
-//! - At which moment a message that is due on a channel may be due. Found by the scan: 0. After its todo pass: the
-//!   moment of the `+`. After its channel file couldn't be opened, read or unlinked, wasn't records alone, or was
-//!   read while an attempt at it was in flight: 123 seconds later. Since its last pass began: never. And once
-//!   nothing of it is in flight or to be marked, the next retry, from its birth and the moment of that pass's open:
-//!   `dues_are_of_past` (`specs/DueMoments.antt`), with the rows `worked_dues`. It isn't claimed when "never" gives
-//!   way to the retry, nor that each record of the pass was given by then.
-//! - From when a known message may be finished: 0 once it becomes known, then what it was, or 123 seconds after an
-//!   event by which a finish of it failed. What a todo pass unlinks puts nothing off: `finishes_are_of_past`
-//!   (`specs/FinishMoments.antt`). It isn't claimed that each such event puts the moment off.
+//! - At which moment a message that is due on a channel is due, at each event of a run. Found by the scan: 0. After its
+//!   todo pass: the moment of the `+`. After its channel file couldn't be opened, read or unlinked, wasn't records
+//!   alone, or was read while an attempt at it was in flight: 123 seconds later. From when a pass of it begins: never.
+//!   Once each record of that was given and reported, and each mark of it was made or given up: the next retry, from
+//!   its birth and the moment of that pass's open, unless its file is unlinked next. Nothing else changes it:
+//!   `due_exactly` (`specs/Dues.antt`), with the rows `worked_moments` and `worked_dues`. Which of these moments it
+//!   may be is said of a sender that has ended too: `dues_are_of_past` (`specs/DueMoments.antt`). It isn't claimed
+//!   that the file is unlinked next just if each of its records reads `D`.
+//! - From when a known message may be finished: 0 once it becomes known, and 123 seconds after each event by which a
+//!   finish of it fails. What a todo pass unlinks puts nothing off, nor does the finish of another message:
+//!   `finishes_are_of_past` (`specs/FinishMoments.antt`), with the rows `worked_finishes`.
 //! - What is entered as delivered or failed is just what the final reports say of the records in flight in their
 //!   slots, as delivered just by `K`: `entries_are_reports`, `entries_were_reported`. What is in flight in a slot is
 //!   the record of the last request that was given for it, if no report of that slot was taken since:
@@ -49,8 +51,9 @@ mod laws;
 
 pub use laws::{
     a_deferred_message, a_faulted_message, a_remote_message, a_restarted_sender, a_swept_message,
-    deliveries_are_numbered, dues_are_of_past, entries_are_reports, entries_were_reported,
-    files_are_of_past, finishes_are_of_past, flights_were_given, known_are_of_past, known_exactly,
-    known_numbers_rise, logs_of_worked_runs, reports_are_logged, worked_deliveries, worked_dues,
-    worked_files, worked_knowledge, worked_pasts, worked_reports,
+    deliveries_are_numbered, due_exactly, dues_are_of_past, entries_are_reports,
+    entries_were_reported, files_are_of_past, finishes_are_of_past, flights_were_given,
+    known_are_of_past, known_exactly, known_numbers_rise, logs_of_worked_runs, reports_are_logged,
+    worked_deliveries, worked_dues, worked_files, worked_finishes, worked_knowledge,
+    worked_moments, worked_pasts, worked_reports,
 };

@@ -1,0 +1,61 @@
+//! Children as processes, and the posts of their channels: what runs a program with channels over real programs.
+//!
+//! `Children` is a spawner. It starts this same program, the remote program, and `/bin/sh` for the command of a user, each
+//! with its input and its output piped. `ChildPosts` are the posts of their channels, of which channel 0 is the program's
+//! own input. What the system does for both is one trait, `System`, so that they are proved, and tested, over a system in
+//! memory; its lines over std (`HostSystem`) are the trusted edge.
+//!
+//! What runs besides the program's own thread:
+//!
+//! - One that starts the others. `Children::new` starts it, and what a start or a feeding needs is put before it (`desk`).
+//! - A reader for each channel. It reads pieces of at most 4096 bytes and pushes them into the queue of piece_queue; if that
+//!   is full it sleeps. A child's reader waits, at the end of its output, until the child has exited, and pushes `End` then.
+//!   So the end of a child is known before its status is asked for, `status` doesn't wait for a program, and no zombie is
+//!   left. One that can't be started gives its channel's failure as the only post, and the child is ended.
+//! - A writer for each child that was fed or whose input was ended. It owns the input, writes what was fed in order, closes
+//!   the input when it was ended, and, if the child doesn't end within the time that it has then, kills it. While nothing
+//!   is to be done it sleeps. So a feeding never waits for the child. A child whose feeding fails is killed, since it would
+//!   take a part for the whole.
+//!
+//! What is bounded: the room of the queue; what a delivery may print (1 MiB; at one byte more it is killed, and its channel
+//! fails and is counted). What lies before a writer is what the program fed, copied once. Room for a child, its reader and its
+//! pass are taken before it is started, so that no child runs that isn't known. Nobody spins: the program's thread rests in
+//! `RestingGate`, until a piece is pushed or a limit is over.
+//!
+//! What a child may touch: descriptors 0 and 1, and no other of ours; descriptor 2 is ours for this same program, and
+//! /dev/null for the programs of others. A local delivery and a remote program have a session, and so a process group, of
+//! their own.
+//!
+//! # What is claimed
+//!
+//! - Each post is what the piece that was taken holds, and the rest of a piece comes before the next one. The pieces of a
+//!   channel come in order, each once, with `End` or a failure as the last: `ChildPosts` (by `IsPostOf`).
+//! - What was taken of a channel is a prefix of what its reader has pushed: `Taker::compare`. What it pushes is what its
+//!   reading brought (`ReadsBytes`), with the end only once the process has ended (`EndsAfter`).
+//! - A start, a feeding and a status of `Children` are those of the child of this channel and no other (by `RunsMore`,
+//!   `TellsStatus`).
+#![tactic(auto)]
+
+mod children;
+mod desk;
+mod drain;
+mod feeding;
+mod host_system;
+mod outflow;
+mod own_input;
+mod posts;
+mod resting;
+mod running;
+mod shared;
+mod start;
+mod system;
+
+pub use children::{Children, MOST_PRINTED};
+pub use drain::{DRAIN, LONGEST_DRAIN, drain_limit};
+pub use host_system::{HostProcess, HostSystem};
+pub use own_input::read_own_input;
+pub use posts::ChildPosts;
+pub use resting::RestingGate;
+pub use shared::{Opener, Reader, Shared, Taker, Through, share};
+pub use start::{Kind, Start};
+pub use system::{Born, Exit, Process, System};

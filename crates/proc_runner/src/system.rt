@@ -1,0 +1,75 @@
+// What a system does for children.
+
+use crate::start::Start;
+use std::alloc::Global;
+use std::io::{self, Read, Write};
+use std::sync::Arc;
+use std::time::Duration;
+
+/// How a process ended.
+#[derive(Clone, Copy)]
+pub enum Exit {
+    /// It exited with this status.
+    Code(u8),
+    /// It was ended by a signal.
+    Signal,
+}
+
+/// A process that was started. The program, its reader and its writer share it.
+pub trait Process: Drop {
+    ghost use Rattle.std.specs.Prelude.{IfOk, IfSome};
+    ghost use Rattle.proc_runner.specs.declared.system.Exit.{Exit};
+
+    /// An end that the system may tell of it.
+    ghost ends: { Self → Exit → Type 0 };
+
+    /// How it ended, None if it runs; as waitpid(2) with `WNOHANG`. It doesn't wait, and an end is told again.
+    fn ask(&self) -> io::Result<Option<Exit>>
+        ensures { IfOk result (λ exit. IfSome exit (ends self.now)) };
+
+    /// Ends it by SIGKILL. Nothing is done to one whose end was told.
+    fn kill(&self);
+
+    /// Sleeps so long, before it is asked again.
+    fn nap(&self, time: Duration);
+}
+
+/// A process that was started, its number, and our ends of its input and its output.
+#[derive(Drop)]
+pub struct Born<P: Process, I: Write + Drop, O: Read + Drop> {
+    /// The process.
+    pub process: Arc<P, Global>,
+    /// Its number, 0 if the system tells none.
+    pub number: u32,
+    /// What is written there is its input; letting go of it ends the input.
+    pub input: I,
+    /// What is read there is its output.
+    pub output: O,
+}
+
+/// A system, by the calls that `Children` makes of it.
+pub trait System: Drop {
+    ghost use Rattle.std.specs.Prelude.{ℕ, IfOk};
+    ghost use Rattle.std.specs.Arc.{arc_value};
+    ghost use Rattle.proc_runner.specs.declared.start.Start.{Start};
+
+    /// A process.
+    type Process: Process;
+
+    /// Our end of a process's input. A write to a process that has gone fails, and raises no signal.
+    type Input: Write + Drop;
+
+    /// Our end of a process's output.
+    type Output: Read + Drop;
+
+    /// What the system may give for a start: the number of a process, and the process.
+    ghost gives: { Self → Start → ℕ → Self.Process → Type 0 };
+
+    /// Starts a process, as posix_spawn(3), its input and output piped. All memory is taken before it is started.
+    fn spawn(
+        &self,
+        alloc: Global,
+        start: &Start<'_>,
+    ) -> io::Result<Born<Self::Process, Self::Input, Self::Output>>
+        ensures { IfOk result (λ born. gives self.now start.now born.number (arc_value born.process)) };
+}

@@ -1,0 +1,4 @@
+mod channels;
+mod many;
+mod scripted;
+mod shells;
