@@ -15,21 +15,7 @@ try:
 play: build
 	./qmail play < examples/first_message.play
 
-# The libraries that the program stands on: each after those that it names in crates.txt, and those that don't need each other side by
-# side. Nothing is proved here of tests, and no must-fail edit is tried.
-named_by = $(shell sed -n 's/^$(1)://p' crates.txt)
-crates := $(shell sed -n 's/^\([a-z_]*\):.*/\1/p' crates.txt)
-libraries_of = $(patsubst %,library-%,$(filter $(crates),$(call named_by,$(1))))
-
-define library
-.PHONY: library-$(1)
-library-$(1): $(call libraries_of,$(1))
-	cd crates/$(1) && rt lib
-endef
-$(foreach crate,$(crates),$(eval $(call library,$(crate))))
-
 build:
-	$(MAKE) --jobs=$$(nproc) --output-sync=target $(call libraries_of,qmail_cli)
 	cd crates/qmail_cli && rt run -- play < /dev/null > /dev/null
 	cp crates/qmail_cli/out/qmail_cli qmail
 
