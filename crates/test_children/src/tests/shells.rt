@@ -49,7 +49,10 @@ fn collect<R: Wait + Drop>(
     Ok(true)
 }
 
-/// Runs a child of these words, feeds it these bytes so many times, ends its input and waits for it.
+/// Of how many bytes a feeding is at most.
+const FED_AT_ONCE: usize = 50_000;
+
+/// Runs a child of these words, feeds it these bytes so many times, in parts, ends its input and waits for it.
 fn run<R: Threads + Wait + Processes + Clock + Copy + Send + Sync + Drop + 'static>(
     rt: R,
     alloc: Global,
@@ -80,7 +83,9 @@ where
         Started::Failed | Started::Memory => return Ok(told),
     };
     for _ in 0..times {
-        told.is_fed = children.feed(chan, input) == Gave::Done && told.is_fed;
+        for part in input.chunks(FED_AT_ONCE) {
+            told.is_fed = children.feed(chan, part) == Gave::Done && told.is_fed;
+        }
     }
     children.finish(chan);
     told.is_failed = collect(&mut posts, &gate, &mut told.bytes)?;
@@ -161,7 +166,7 @@ fn feedings(rt: HostRuntime) -> Result<(), Fail> {
     for at in 0..1u32 << 20 {
         large.push((at % 251) as u8)?;
     }
-    // all of it comes back, and of 64 MiB nothing is lost
+    // all of it comes back in its order, and of 64 MiB nothing is lost
     assert!(rt;
         prints(
             rt,
@@ -184,6 +189,37 @@ fn feedings(rt: HostRuntime) -> Result<(), Fail> {
             Status::Ended(0)
         )?
     );
+    Ok(())
+}
+
+/// Whether a child whose input was ended, and a channel that no child has, can't be fed, each counted once.
+fn refuses<R: Threads + Wait + Processes + Clock + Copy + Send + Sync + Drop + 'static>(
+    rt: R,
+    alloc: Global,
+) -> Result<bool, AllocError>
+where
+    R::Started: Drop + Send + 'static,
+    <R::Started as OpenProcess>::Stdin: Send + 'static,
+    <R::Started as OpenProcess>::Stdout: Send + 'static,
+    <R::Started as OpenProcess>::Stderr: Send + 'static,
+{
+    let (mut opener, _taker) = share(alloc, 16)?;
+    let _own = opener.open()?;
+    let mut children = Children::new(rt, alloc, HostSystem::new(rt, 0), opener, LONG)?;
+    let chan = match children.start(alloc, &[b"sh", b"-c", b"exec cat"]) {
+        Started::Chan { chan, pid: _ } => chan,
+        Started::Failed | Started::Memory => return Ok(false),
+    };
+    children.finish(chan);
+    let is_late = children.feed(chan, b"late") == Gave::Failed && children.faults() == 1;
+    let is_unknown = children.feed(99, b"lost") == Gave::Failed && children.faults() == 2;
+    Ok(is_late && is_unknown)
+}
+
+#[test]
+fn feedings_that_fail(rt: HostRuntime) -> Result<(), Fail> {
+    let alloc = rt.alloc();
+    assert!(rt; refuses(rt, alloc)?);
     Ok(())
 }
 
