@@ -179,10 +179,10 @@ told.append(('each clause of `qmail`', *count()))
 old = open('docs/TRUST.md').read() if os.path.isfile('docs/TRUST.md') else '# What a sceptic reads\n\n'
 head = old.split('<!-- counted -->')[0]
 out = [head + '<!-- counted -->\n', '## How much that is\n',
-       'Each row has what the rows above it have, and more. What a sender enters in ledgers (`told_by`) is not counted in the first two: the state has it, but nothing there reads a ledger. A line is a line of a definition with the comment over it.\n',
+       'Each row has what the rows above it have, and more. What a sender enters in ledgers (`told_by`) is not counted in the first two: nothing there reads a ledger. A line is a line of a definition with the comment over it.\n',
        '| What | Definitions | Lines | Files | Crates | Rust types |', '|---|---|---|---|---|---|']
 out += ['| ' + ' | '.join(str(x) for x in row) + ' |' for row in told]
-out += ['', '## File by file\n', 'In the order of crates.txt, lowest first: the Rust types of each crate, and each file of its specs/ with how many lines that is, and the line of each definition.']
+out += ['', '## File by file\n', 'In the order of crates.txt: the Rust types of each crate, each file of its specs/ with its lines, and the line of each definition.']
 rows = collections.OrderedDict()
 for c, rel, n in sorted(reached, key=lambda r: (place[r[0]], r[1], reached[r][0])):
     rows.setdefault(c, collections.OrderedDict()).setdefault(rel, []).append((n, reached[(c, rel, n)]))

@@ -20,7 +20,7 @@ use Rattle.call_fs.proofs.Maps.{put_same}
 use Rattle.bounce_record.specs.declared.note_row.NoteRow.{NoteRow}
 use Rattle.bounce_record.specs.declared.note_row.NoteRow.TheVariants as at
 use Rattle.bounce_record.specs.Runs.{NoteOf, IsWriting, begun, written_after}
-use Rattle.bounce_record.specs.Writing.{Writing, appended_row, bounce_path, created_row, next_piece, opened_row, piece, stated_row, synced_row, tail_read_row, tail_row, writing_due_at, written_on}
+use Rattle.bounce_record.specs.Writing.{Writing, appended_row, bounce_path, created_row, next_piece, opened_row, piece, stated_row, synced_row, tail_read_row, tail_row, due_at, moved}
 use Rattle.call_fs.proofs.Coming.{by_fit}
 
 -- a descriptor by which may be appended
@@ -93,9 +93,9 @@ module _ (n : ℕ) (text : List ℕ) (h : ℕ → Option Mode) where
   in_row row = record { n = n; row = row; text = text }
 
   abbrev pub StepOf : NoteRow → GotData → Type 0
-  StepOf row got = HoldsNote (held_by h (writing_due_at row (in_row row)) got) (written_on (in_row row) got).row
+  StepOf row got = HoldsNote (held_by h (due_at row (in_row row)) got) (moved (in_row row) got).row
 
-  pub step : (row : NoteRow) (got : GotData) → HoldsNote h row → MayCome (writing_due_at row (in_row row)) got → StepOf row got
+  pub step : (row : NoteRow) (got : GotData) → HoldsNote h row → MayCome (due_at row (in_row row)) got → StepOf row got
   step at.Open got own may = by_fit (call.Open (bounce_path n) how.Append) (StepOf at.Open) got may (λ told fit. opens h (bounce_path n) told.answer fit)
   step at.Create got own may = by_fit (call.CreateExcl (bounce_path n)) (StepOf at.Create) got may (λ told fit. creates h (bounce_path n) told.answer fit)
   step (at.Stat fd) got own may = by_fit (call.Stat (bounce_path n)) (StepOf (at.Stat fd)) got may (λ told fit. states h fd (bounce_path n) told.answer own fit)
@@ -114,10 +114,10 @@ holds it [] run = tt
 holds it (event ∷ before) run =
     let w : Writing = written_after (begun it) before in
     let may = subst (λ x. MayCome x event.came) (sym run.1.0) run.1.1 in
-    subst (λ x. HoldsNote (held_by (held before) x event.came) (written_on w event.came).row) run.1.0
+    subst (λ x. HoldsNote (held_by (held before) x event.came) (moved w event.came).row) run.1.0
     (step w.n w.text (held before) w.row event.came (holds it before run.0) may)
 
-pub uses_row : (h : ℕ → Option Mode) (w : Writing) (row : NoteRow) → HoldsNote h row → UsesHeld h (writing_due_at row w)
+pub uses_row : (h : ℕ → Option Mode) (w : Writing) (row : NoteRow) → HoldsNote h row → UsesHeld h (due_at row w)
 uses_row h w at.Open own = tt
 uses_row h w at.Create own = tt
 uses_row h w (at.Stat fd) own = tt
@@ -129,5 +129,5 @@ uses_row h w (at.Shut fd) own = is_held (h fd.0) own
 uses_row h w at.Written own = tt
 uses_row h w at.Failed own = tt
 
-pub uses : (it : NoteOf) (past : List Own) → IsWriting it past → UsesHeld (held past) (writing_due_at (written_after (begun it) past).row (written_after (begun it) past))
+pub uses : (it : NoteOf) (past : List Own) → IsWriting it past → UsesHeld (held past) (due_at (written_after (begun it) past).row (written_after (begun it) past))
 uses it past run = uses_row (held past) (written_after (begun it) past) (written_after (begun it) past).row (holds it past run)

@@ -20,7 +20,7 @@ use Rattle.call_fs.proofs.Maps.{put_same}
 use Rattle.bounce_record.specs.declared.bounces.Bounce.{Bounce}
 use Rattle.bounce_record.specs.declared.return_row.ReturnRow.{ReturnRow}
 use Rattle.bounce_record.specs.declared.return_row.ReturnRow.TheVariants as at
-use Rattle.bounce_record.specs.Returning.{Returning, awaited_row, bounce_at, given_row, goes, made, message_opened, message_path, message_read, notes_opened, notes_read, return_due_at, returned_at, started_row, unlinked_row}
+use Rattle.bounce_record.specs.Returning.{Returning, awaited_row, bounce_at, given_row, goes, made, message_opened, message_path, message_read, notes_opened, notes_read, due_at, moved_at, started_row, unlinked_row}
 use Rattle.bounce_record.specs.Runs.{IsReturn, returned_after}
 use Rattle.bounce_record.specs.Writing.{bounce_path}
 use Rattle.call_fs.proofs.Coming.{by_fit}
@@ -115,9 +115,9 @@ module _ (r : Returning) (h : ℕ → Option Mode) where
 
 module _ (controls : Controls) (sender : List ℕ) (r : Returning) (now : ℕ) (h : ℕ → Option Mode) where
   abbrev pub StepOf : ReturnRow → GotData → Type 0
-  StepOf row got = HoldsReturn (held_by h (return_due_at row r) got) (returned_at controls sender row r now got).row
+  StepOf row got = HoldsReturn (held_by h (due_at row r) got) (moved_at controls sender row r now got).row
 
-  pub step : (row : ReturnRow) (got : GotData) → HoldsReturn h row → MayCome (return_due_at row r) got → StepOf row got
+  pub step : (row : ReturnRow) (got : GotData) → HoldsReturn h row → MayCome (due_at row r) got → StepOf row got
   step at.Open got own may = by_fit (call.Open (bounce_path r.n) how.Read) (StepOf at.Open) got may (λ told fit. opens_notes r h (bounce_path r.n) told.answer fit)
   step (at.ReadNotes fd) got own may =
       by_fit (call.ReadAt fd (length r.notes) 8192) (StepOf (at.ReadNotes fd)) got may (λ told fit. reads_notes r h fd (length r.notes) told.answer told.bytes own fit)
@@ -128,9 +128,9 @@ module _ (controls : Controls) (sender : List ℕ) (r : Returning) (now : ℕ) (
   step (at.CloseMessage fd) got own may =
       by_fit (call.Close fd) (StepOf (at.CloseMessage fd)) got may (λ told fit. made_holds (held_after h (call.Close fd) told.answer) r (bounce_at controls sender r now))
   step (at.Shut fd) got own may = by_fit (call.Close fd) (StepOf (at.Shut fd)) got may (λ told fit. tt)
-  step at.Start got own may = starts r h (held_by h (return_due_at at.Start r) got) got
-  step (at.Give pid) got own may = gives r h (held_by h (return_due_at (at.Give pid) r) got) pid got
-  step (at.Await pid) got own may = awaits r h (held_by h (return_due_at (at.Await pid) r) got) got
+  step at.Start got own may = starts r h (held_by h (due_at at.Start r) got) got
+  step (at.Give pid) got own may = gives r h (held_by h (due_at (at.Give pid) r) got) pid got
+  step (at.Await pid) got own may = awaits r h (held_by h (due_at (at.Await pid) r) got) got
   step at.Unlink got own may = by_fit (call.Unlink (bounce_path r.n)) (StepOf at.Unlink) got may (λ told fit. unlinks r h (bounce_path r.n) told.answer)
   step at.Discard got own may = by_fit (call.Unlink (bounce_path r.n)) (StepOf at.Discard) got may (λ told fit. unlinks r h (bounce_path r.n) told.answer)
   step at.Over got own may = absurd may
@@ -141,10 +141,10 @@ holds controls sender n [] run = tt
 holds controls sender n (event ∷ before) run =
     let r : Returning = returned_after controls sender n before in
     let may = subst (λ x. MayCome x event.came) (sym run.1.0) run.1.1 in
-    subst (λ x. HoldsReturn (held_by (held before) x event.came) (returned_at controls sender r.row r event.read event.came).row) run.1.0
+    subst (λ x. HoldsReturn (held_by (held before) x event.came) (moved_at controls sender r.row r event.read event.came).row) run.1.0
     (step controls sender r event.read (held before) r.row event.came (holds controls sender n before run.0) may)
 
-pub uses_row : (h : ℕ → Option Mode) (r : Returning) (row : ReturnRow) → HoldsReturn h row → UsesHeld h (return_due_at row r)
+pub uses_row : (h : ℕ → Option Mode) (r : Returning) (row : ReturnRow) → HoldsReturn h row → UsesHeld h (due_at row r)
 uses_row h r at.Open own = tt
 uses_row h r (at.ReadNotes fd) own = (is_held (h fd.0) (Mode.Opened how.Read) own, lit≤ tt)
 uses_row h r (at.CloseNotes fd) own = is_held (h fd.0) (Mode.Opened how.Read) own
@@ -161,5 +161,5 @@ uses_row h r at.Over own = tt
 uses_row h r at.Failed own = tt
 
 pub uses : (controls : Controls) (sender : List ℕ) (n : ℕ) (past : List Own) → IsReturn controls sender n past
-    → UsesHeld (held past) (return_due_at (returned_after controls sender n past).row (returned_after controls sender n past))
+    → UsesHeld (held past) (due_at (returned_after controls sender n past).row (returned_after controls sender n past))
 uses controls sender n past run = uses_row (held past) (returned_after controls sender n past) (returned_after controls sender n past).row (holds controls sender n past run)

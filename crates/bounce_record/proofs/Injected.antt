@@ -29,7 +29,7 @@ use Rattle.bounce_record.specs.declared.bounces.Bounce.{Bounce}
 use Rattle.bounce_record.specs.declared.return_row.ReturnRow.{ReturnRow}
 use Rattle.bounce_record.specs.declared.return_row.ReturnRow.TheVariants as at
 use Rattle.bounce_record.specs.Bounces.{bounce_of}
-use Rattle.bounce_record.specs.Returning.{Returning, awaited_row, bounce_at, due_of_return, given_row, goes, input_of, made, message_opened, message_path, message_read, notes_opened, notes_read, return_due_at, returned_at, room_of, started_row, unlinked_row}
+use Rattle.bounce_record.specs.Returning.{Returning, awaited_row, bounce_at, due_by, given_row, goes, input_of, made, message_opened, message_path, message_read, notes_opened, notes_read, due_at, moved_at, room_of, started_row, unlinked_row}
 use Rattle.bounce_record.specs.Runs.{IsInjected, IsReturn, IsReturned, IsSettled, bytes_at, bytes_of, returned_after}
 use Rattle.bounce_record.specs.Writing.{bounce_path}
 use Rattle.call_fs.proofs.Coming.{by_fit}
@@ -134,7 +134,7 @@ module _ (controls : Controls) (sender : List ℕ) (n : ℕ) (notes message : Li
 
   module _ (r : Returning) (past : List Own) (event : Own) (d e : Disk) where
     abbrev After : ReturnRow → GotData → Type 0
-    After row got = let x : Returning = returned_at controls sender row r event.read got in Says x.row x (event ∷ past) e
+    After row got = let x : Returning = moved_at controls sender row r event.read got in Says x.row x (event ∷ past) e
 
     notes_open : (told : Answer) → Says at.Open r past d → IsAnswerTo (call.Open (bounce_path n) how.Read) told → Apply d event.read (call.Open (bounce_path n) how.Read) told e
         → let x : Returning = goes r (notes_opened told) in Says x.row x (event ∷ past) e
@@ -209,7 +209,7 @@ module _ (controls : Controls) (sender : List ℕ) (n : ℕ) (notes message : Li
         let f : List ℕ → List ℕ → Option Bounce = λ x y. bounce_of controls.bounce_from controls.bounce_host controls.double_bounce_to controls.double_bounce_host sender x y event.read in
         ap (λ x. f x r.message) h.0 ∙ ap (λ y. f notes y) h.1
 
-    starts : Says at.Start r past d → event.due ≡ return_due_at at.Start r → (got : GotData) → event.came ≡ got → let x : Returning = goes r (started_row got) in Says x.row x (event ∷ past) e
+    starts : Says at.Start r past d → event.due ≡ due_at at.Start r → (got : GotData) → event.came ≡ got → let x : Returning = goes r (started_row got) in Says x.row x (event ∷ past) e
     starts h due (came.Started pid) is = (h.0, h.1, h.2, h.3, (event, past, pid, refl, due ∙ ap (λ room. needs.Start (child.Bounce room)) h.4, is))
     starts h due (came.Answered told) is = tt
     starts h due (came.Took bytes) is = tt
@@ -220,7 +220,7 @@ module _ (controls : Controls) (sender : List ℕ) (n : ℕ) (notes message : Li
     starts h due came.Failed is = tt
     starts h due came.Memory is = tt
 
-    gives : (pid : ℕ) → Says (at.Give pid) r past d → event.due ≡ return_due_at (at.Give pid) r → (got : GotData) → event.came ≡ got
+    gives : (pid : ℕ) → Says (at.Give pid) r past d → event.due ≡ due_at (at.Give pid) r → (got : GotData) → event.came ≡ got
         → let x : Returning = goes r (given_row pid got) in Says x.row x (event ∷ past) e
     gives pid h due came.Gave is = (h.0, h.1, h.2, (event, past, h.4, refl, due ∙ ap (λ t. needs.Give (port.Program 0) t) h.3, is))
     gives pid h due (came.Started other) is = tt
@@ -248,7 +248,7 @@ module _ (controls : Controls) (sender : List ℕ) (n : ℕ) (notes message : Li
       zero = is;
     }
 
-    awaits : (pid : ℕ) → Says (at.Await pid) r past d → event.due ≡ return_due_at (at.Await pid) r → (got : GotData) → event.came ≡ got
+    awaits : (pid : ℕ) → Says (at.Await pid) r past d → event.due ≡ due_at (at.Await pid) r → (got : GotData) → event.came ≡ got
         → let x : Returning = goes r (awaited_row got) in Says x.row x (event ∷ past) e
     awaits pid h due (came.Ended status) is = by_status (nat_eq status 0) refl
       where
@@ -276,9 +276,9 @@ module _ (controls : Controls) (sender : List ℕ) (n : ℕ) (notes message : Li
 
     -- a step, by what came of it
     abbrev StepOf : ReturnRow → GotData → Type 0
-    StepOf row got = Says row r past d → event.came ≡ got → event.due ≡ return_due_at row r → Makes d event.read (return_due_at row r) got e → After row got
+    StepOf row got = Says row r past d → event.came ≡ got → event.due ≡ due_at row r → Makes d event.read (due_at row r) got e → After row got
 
-    step : (row : ReturnRow) (got : GotData) → r.n ≡ n → MayCome (return_due_at row r) got → StepOf row got
+    step : (row : ReturnRow) (got : GotData) → r.n ≡ n → MayCome (due_at row r) got → StepOf row got
     step at.Open got same may = by_fit (call.Open (bounce_path r.n) how.Read) (StepOf at.Open) got may
         (λ told fit h is due it. notes_open told.answer h fit (subst (λ k. Apply d event.read (call.Open (bounce_path k) how.Read) told.answer e) same it.0))
     step (at.ReadNotes fd) got same may = by_fit (call.ReadAt fd (length r.notes) 8192) (StepOf (at.ReadNotes fd)) got may (λ told fit h is due it. notes_go fd told.answer told.bytes h fit it.0 it.1)
@@ -317,9 +317,9 @@ module _ (controls : Controls) (sender : List ℕ) (r : Returning) (now : ℕ) w
   made_same (Some b) = refl
 
   abbrev IsSame : ReturnRow → GotData → Type 0
-  IsSame row got = (returned_at controls sender row r now got).n ≡ r.n
+  IsSame row got = (moved_at controls sender row r now got).n ≡ r.n
 
-  number_same : (row : ReturnRow) (got : GotData) → MayCome (return_due_at row r) got → IsSame row got
+  number_same : (row : ReturnRow) (got : GotData) → MayCome (due_at row r) got → IsSame row got
   number_same at.Open got may = by_fit (call.Open (bounce_path r.n) how.Read) (IsSame at.Open) got may (λ told fit. goes_on (notes_opened told.answer))
   number_same (at.ReadNotes fd) got may = by_fit (call.ReadAt fd (length r.notes) 8192) (IsSame (at.ReadNotes fd)) got may (λ told fit. notes_same fd told.answer told.bytes)
   number_same (at.CloseNotes fd) got may = by_fit (call.Close fd) (IsSame (at.CloseNotes fd)) got may (λ told fit. refl)
@@ -336,7 +336,7 @@ module _ (controls : Controls) (sender : List ℕ) (r : Returning) (now : ℕ) w
   number_same at.Failed got may = absurd may
 
 module _ (controls : Controls) (sender : List ℕ) (n : ℕ) where
-  may_come : (event : Own) (before : List Own) → IsReturn controls sender n (event ∷ before) → MayCome (due_of_return (returned_after controls sender n before)) event.came
+  may_come : (event : Own) (before : List Own) → IsReturn controls sender n (event ∷ before) → MayCome (due_by (returned_after controls sender n before)) event.came
   may_come event before run = subst (λ x. MayCome x event.came) (sym run.1.0) run.1.1
 
   number_is : (past : List Own) → IsReturn controls sender n past → (returned_after controls sender n past).n ≡ n
@@ -355,7 +355,7 @@ module _ (controls : Controls) (sender : List ℕ) (n : ℕ) where
       (number_is before run.0) (may_come event before run) (says before first leads.0 run.0 leads.1) refl (sym run.1.0) makes
 
 pub unlinked : (controls : Controls) (sender : List ℕ) (n : ℕ) (past : List Own) (first last : Disk) (name : List ℕ) → IsReturn controls sender n past → LeadsTo first past last
-    → due_of_return (returned_after controls sender n past) ≡ needs.File (call.Unlink name) → IsReturned controls sender (bytes_at first (bounce_path n)) (bytes_at first (message_path n)) past
+    → due_by (returned_after controls sender n past) ≡ needs.File (call.Unlink name) → IsReturned controls sender (bytes_at first (bounce_path n)) (bytes_at first (message_path n)) past
 unlinked controls sender n past first last name run leads is = by_row r.row (says controls sender n past first last run leads) is
   where
     r : Returning
@@ -367,7 +367,7 @@ unlinked controls sender n past first last name run leads is = by_row r.row (say
     message : List ℕ
     message = bytes_at first (message_path n)
 
-    by_row : (row : ReturnRow) → Says controls sender n notes message row r past last → return_due_at row r ≡ needs.File (call.Unlink name) → IsReturned controls sender notes message past
+    by_row : (row : ReturnRow) → Says controls sender n notes message row r past last → due_at row r ≡ needs.File (call.Unlink name) → IsReturned controls sender notes message past
     by_row at.Unlink h e = (h.0, subst (IsSettled past) (sym h.2) h.3)
     by_row at.Discard h e = (h.0, subst (IsSettled past) (sym h.1) tt)
     by_row at.Open h e = absurd (cc)

@@ -27,7 +27,7 @@ use Rattle.bounce_record.specs.declared.note_row.NoteRow.{NoteRow}
 use Rattle.bounce_record.specs.declared.note_row.NoteRow.TheVariants as at
 use Rattle.bounce_record.specs.Notes.{note_text, parting, with_note}
 use Rattle.bounce_record.specs.Runs.{NoteOf, IsWriting, IsWrittenRow, begun, bytes_at, bytes_of, written_after}
-use Rattle.bounce_record.specs.Writing.{Writing, appended_row, bounce_path, created_row, left_out, next_piece, opened_row, piece, stated_row, synced_row, tail_read_row, tail_row, writing_due_at, written_on}
+use Rattle.bounce_record.specs.Writing.{Writing, appended_row, bounce_path, created_row, left_out, next_piece, opened_row, piece, stated_row, synced_row, tail_read_row, tail_row, due_at, moved}
 use Rattle.call_fs.proofs.Coming.{by_fit}
 use Rattle.bounce_record.proofs.Counting.{parting_tail}
 
@@ -225,9 +225,9 @@ in_row n note row = record { n = n; row = row; text = 10 ∷ 10 ∷ note }
 
 module _ (n : ℕ) (file note : List ℕ) (d : Disk) (now : ℕ) where
   abbrev StepOf : NoteRow → GotData → Type 0
-  StepOf row got = (e : Disk) → Rests (bounce_path n) file note row d → Makes d now (writing_due_at row (in_row n note row)) got e → Rests (bounce_path n) file note (written_on (in_row n note row) got).row e
+  StepOf row got = (e : Disk) → Rests (bounce_path n) file note row d → Makes d now (due_at row (in_row n note row)) got e → Rests (bounce_path n) file note (moved (in_row n note row) got).row e
 
-  step : (row : NoteRow) (got : GotData) → MayCome (writing_due_at row (in_row n note row)) got → StepOf row got
+  step : (row : NoteRow) (got : GotData) → MayCome (due_at row (in_row n note row)) got → StepOf row got
   step at.Open got may = by_fit (call.Open (bounce_path n) how.Append) (StepOf at.Open) got may (λ told fit e r made. opens (bounce_path n) file note d now told.answer e r fit made.0)
   step at.Create got may = by_fit (call.CreateExcl (bounce_path n)) (StepOf at.Create) got may (λ told fit e r made. creates (bounce_path n) file note d now told.answer e r fit made.0)
   step (at.Stat fd) got may = by_fit (call.Stat (bounce_path n)) (StepOf (at.Stat fd)) got may (λ told fit e r made. states (bounce_path n) file note d now fd told.answer e r fit made.0)
@@ -243,7 +243,7 @@ module _ (n : ℕ) (file note : List ℕ) (d : Disk) (now : ℕ) where
 
 -- the number of the message and the text stay
 module _ (it : NoteOf) where
-  number_stays : (w : Writing) (got : GotData) → (written_on w got).n ≡ w.n
+  number_stays : (w : Writing) (got : GotData) → (moved w got).n ≡ w.n
   number_stays w (came.Answered told) = refl
   number_stays w (came.Took bytes) = refl
   number_stays w came.End = refl
@@ -254,7 +254,7 @@ module _ (it : NoteOf) where
   number_stays w came.Failed = refl
   number_stays w came.Memory = refl
 
-  text_stays : (w : Writing) (got : GotData) → (written_on w got).text ≡ w.text
+  text_stays : (w : Writing) (got : GotData) → (moved w got).text ≡ w.text
   text_stays w (came.Answered told) = refl
   text_stays w (came.Took bytes) = refl
   text_stays w came.End = refl
@@ -294,14 +294,14 @@ module _ (it : NoteOf) where
       let made = subst (λ x. Makes mid event.read x event.came last) (sym run.1.0) leads.2 in
       moves w (number_is before) (text_is before) event mid last may (rests before first mid run.0 leads.1) made
     where
-      moves : (w : Writing) → w.n ≡ it.n → w.text ≡ 10 ∷ 10 ∷ note → (event : Own) (d e : Disk) → MayCome (writing_due_at w.row w) event.came
-          → Rests (bounce_path it.n) (bytes_at first (bounce_path it.n)) note w.row d → Makes d event.read (writing_due_at w.row w) event.came e
-          → Rests (bounce_path it.n) (bytes_at first (bounce_path it.n)) note (written_on w event.came).row e
+      moves : (w : Writing) → w.n ≡ it.n → w.text ≡ 10 ∷ 10 ∷ note → (event : Own) (d e : Disk) → MayCome (due_at w.row w) event.came
+          → Rests (bounce_path it.n) (bytes_at first (bounce_path it.n)) note w.row d → Makes d event.read (due_at w.row w) event.came e
+          → Rests (bounce_path it.n) (bytes_at first (bounce_path it.n)) note (moved w event.came).row e
       moves w number text event d e may r made =
           let is = kept_as w number text in
-          subst (λ v. Rests (bounce_path it.n) (bytes_at first (bounce_path it.n)) note (written_on v event.came).row e) (sym is)
+          subst (λ v. Rests (bounce_path it.n) (bytes_at first (bounce_path it.n)) note (moved v event.came).row e) (sym is)
           (step it.n (bytes_at first (bounce_path it.n)) note d event.read w.row event.came
-          (subst (λ v. MayCome (writing_due_at w.row v) event.came) is may) e r (subst (λ v. Makes d event.read (writing_due_at w.row v) event.came e) is made))
+          (subst (λ v. MayCome (due_at w.row v) event.came) is may) e r (subst (λ v. Makes d event.read (due_at w.row v) event.came e) is made))
 
 pub written : (it : NoteOf) (past : List Own) (first last : Disk) → IsWriting it past → LeadsTo first past last → IsWrittenRow (written_after (begun it) past).row
     → IsWhole last (bounce_path it.n) (with_note (bytes_at first (bounce_path it.n)) (stripped it.controls.virtual_domains it.address) it.report)

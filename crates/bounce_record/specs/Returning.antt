@@ -131,37 +131,37 @@ answered c sender at.Discard r now told bytes = goes r (unlinked_row told)
 answered c sender row r now told bytes = r
 
 -- after what came at this row, at this moment
-abbrev pub returned_at : Controls → List ℕ → ReturnRow → Returning → ℕ → GotData → Returning
-returned_at c sender at.Start r now got = goes r (started_row got)
-returned_at c sender (at.Give pid) r now got = goes r (given_row pid got)
-returned_at c sender (at.Await pid) r now got = goes r (awaited_row got)
-returned_at c sender row r now (came.Answered told) = answered c sender row r now told.answer told.bytes
-returned_at c sender row r now got = r
+abbrev pub moved_at : Controls → List ℕ → ReturnRow → Returning → ℕ → GotData → Returning
+moved_at c sender at.Start r now got = goes r (started_row got)
+moved_at c sender (at.Give pid) r now got = goes r (given_row pid got)
+moved_at c sender (at.Await pid) r now got = goes r (awaited_row got)
+moved_at c sender row r now (came.Answered told) = answered c sender row r now told.answer told.bytes
+moved_at c sender row r now got = r
 
 -- by these controls, and the sender of the message
-abbrev pub returned_on : Controls → List ℕ → Returning → ℕ → GotData → Returning
-returned_on c sender r now got = returned_at c sender r.row r now got
+abbrev pub moved : Controls → List ℕ → Returning → ℕ → GotData → Returning
+moved c sender r now got = moved_at c sender r.row r now got
 
 -- What is due
 
 abbrev pub message_path : ℕ → List ℕ
 message_path n = path (Of MessFile n)
 
-abbrev pub return_due_at : ReturnRow → Returning → NeedData
-return_due_at at.Open r = needs.File (call.Open (bounce_path r.n) how.Read)
-return_due_at (at.ReadNotes fd) r = needs.File (call.ReadAt fd (length r.notes) PIECE)
-return_due_at (at.CloseNotes fd) r = needs.File (call.Close fd)
-return_due_at at.OpenMessage r = needs.File (call.Open (message_path r.n) how.Read)
-return_due_at (at.ReadMessage fd) r = needs.File (call.ReadAt fd (length r.message) PIECE)
-return_due_at (at.CloseMessage fd) r = needs.File (call.Close fd)
-return_due_at (at.Shut fd) r = needs.File (call.Close fd)
-return_due_at at.Start r = needs.Start (child.Bounce r.room)
-return_due_at (at.Give pid) r = needs.Give (port.Program 0) r.input
-return_due_at (at.Await pid) r = needs.Take (port.Status 0)
-return_due_at at.Unlink r = needs.File (call.Unlink (bounce_path r.n))
-return_due_at at.Discard r = needs.File (call.Unlink (bounce_path r.n))
-return_due_at at.Over r = needs.Wait
-return_due_at at.Failed r = needs.Wait
+abbrev pub due_at : ReturnRow → Returning → NeedData
+due_at at.Open r = needs.File (call.Open (bounce_path r.n) how.Read)
+due_at (at.ReadNotes fd) r = needs.File (call.ReadAt fd (length r.notes) PIECE)
+due_at (at.CloseNotes fd) r = needs.File (call.Close fd)
+due_at at.OpenMessage r = needs.File (call.Open (message_path r.n) how.Read)
+due_at (at.ReadMessage fd) r = needs.File (call.ReadAt fd (length r.message) PIECE)
+due_at (at.CloseMessage fd) r = needs.File (call.Close fd)
+due_at (at.Shut fd) r = needs.File (call.Close fd)
+due_at at.Start r = needs.Start (child.Bounce r.room)
+due_at (at.Give pid) r = needs.Give (port.Program 0) r.input
+due_at (at.Await pid) r = needs.Take (port.Status 0)
+due_at at.Unlink r = needs.File (call.Unlink (bounce_path r.n))
+due_at at.Discard r = needs.File (call.Unlink (bounce_path r.n))
+due_at at.Over r = needs.Wait
+due_at at.Failed r = needs.Wait
 
-abbrev pub due_of_return : Returning → NeedData
-due_of_return r = return_due_at r.row r
+abbrev pub due_by : Returning → NeedData
+due_by r = due_at r.row r

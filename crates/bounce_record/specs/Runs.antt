@@ -17,16 +17,16 @@ use Rattle.bounce_record.specs.declared.note_row.NoteRow.{NoteRow}
 use Rattle.bounce_record.specs.declared.note_row.NoteRow.TheVariants as at
 use Rattle.bounce_record.specs.Bounces.{bounce_of}
 use Rattle.bounce_record.specs.Notes.{with_note}
-use Rattle.bounce_record.specs.Returning.{Returning, due_of_return, input_of, message_path, return_begun, returned_on, room_of}
-use Rattle.bounce_record.specs.Writing.{Writing, bounce_path, due_of_writing, writing_begun, written_on}
+use Rattle.bounce_record.specs.Returning.{Returning, due_by as return_due, input_of, message_path, return_begun, moved as return_moved, room_of}
+use Rattle.bounce_record.specs.Writing.{Writing, bounce_path, due_by as note_due, writing_begun, moved as note_moved}
 
 -- the note after a past, newest event first
 abbrev pub written_after : Writing → List Own → Writing
 written_after first [] = first
-written_after first (event ∷ before) = written_on (written_after first before) event.came
+written_after first (event ∷ before) = note_moved (written_after first before) event.came
 
 abbrev pub WritingNext : Writing → List Own → ℕ → Ready → NeedData
-WritingNext first past now ready = due_of_writing (written_after first past)
+WritingNext first past now ready = note_due (written_after first past)
 
 -- the writing of the note of this recipient of message n
 pub record NoteOf : Type 0 where
@@ -44,19 +44,19 @@ IsWriting it past = IsRunBy (WritingNext (begun it)) past
 -- the return after a past, of a message of this sender
 abbrev pub returned_after : Controls → List ℕ → ℕ → List Own → Returning
 returned_after controls sender n [] = return_begun n
-returned_after controls sender n (event ∷ before) = returned_on controls sender (returned_after controls sender n before) event.read event.came
+returned_after controls sender n (event ∷ before) = return_moved controls sender (returned_after controls sender n before) event.read event.came
 
 abbrev pub ReturnNext : Controls → List ℕ → ℕ → List Own → ℕ → Ready → NeedData
-ReturnNext controls sender n past now ready = due_of_return (returned_after controls sender n past)
+ReturnNext controls sender n past now ready = return_due (returned_after controls sender n past)
 
 abbrev pub IsReturn : Controls → List ℕ → ℕ → List Own → Type 0
 IsReturn controls sender n past = IsRunBy (ReturnNext controls sender n) past
 
 -- a call uses only what is held open then
 pub record CallsUseWhatIsHeld : Type 0 where
-  pub writing : (it : NoteOf) (past : List Own) → IsWriting it past → UsesHeld (held past) (due_of_writing (written_after (begun it) past))
+  pub writing : (it : NoteOf) (past : List Own) → IsWriting it past → UsesHeld (held past) (note_due (written_after (begun it) past))
   pub returning : (controls : Controls) (sender : List ℕ) (n : ℕ) (past : List Own) → IsReturn controls sender n past
-      → UsesHeld (held past) (due_of_return (returned_after controls sender n past))
+      → UsesHeld (held past) (return_due (returned_after controls sender n past))
 
 -- the bytes of a name; none if it is missing
 abbrev pub bytes_of : Option ℕ → (ℕ → File) → List ℕ
@@ -107,5 +107,5 @@ IsReturned c sender notes message past =
 -- held was injected, or if nothing comes of them.
 abbrev pub UnlinksWhatIsReturned : Type 0
 UnlinksWhatIsReturned = (controls : Controls) (sender : List ℕ) (n : ℕ) (past : List Own) (first last : Disk) (name : List ℕ) → IsReturn controls sender n past
-    → LeadsTo first past last → due_of_return (returned_after controls sender n past) ≡ needs.File (call.Unlink name)
+    → LeadsTo first past last → return_due (returned_after controls sender n past) ≡ needs.File (call.Unlink name)
     → IsReturned controls sender (bytes_at first (bounce_path n)) (bytes_at first (message_path n)) past

@@ -94,9 +94,9 @@ written_row at.Written text told bytes = at.Written
 written_row at.Failed text told bytes = at.Failed
 
 -- after what came
-abbrev pub written_on : Writing → GotData → Writing
-written_on w (came.Answered told) = record w { row = written_row w.row w.text told.answer told.bytes }
-written_on w other = w
+abbrev pub moved : Writing → GotData → Writing
+moved w (came.Answered told) = record w { row = written_row w.row w.text told.answer told.bytes }
+moved w other = w
 
 -- What is due
 
@@ -107,17 +107,17 @@ bounce_path n = path (Of BounceFile n)
 abbrev pub piece : List ℕ → ℕ → List ℕ
 piece text done = take piece_size (drop done text)
 
-abbrev pub writing_due_at : NoteRow → Writing → NeedData
-writing_due_at at.Open w = needs.File (call.Open (bounce_path w.n) how.Append)
-writing_due_at at.Create w = needs.File (call.CreateExcl (bounce_path w.n))
-writing_due_at (at.Stat fd) w = needs.File (call.Stat (bounce_path w.n))
-writing_due_at (at.Read fd place len) w = needs.File (call.ReadAt fd place len)
-writing_due_at (at.Append fd done) w = needs.File (call.Append fd (piece w.text done))
-writing_due_at (at.Sync fd) w = needs.File (call.Sync fd)
-writing_due_at (at.Close fd) w = needs.File (call.Close fd)
-writing_due_at (at.Shut fd) w = needs.File (call.Close fd)
-writing_due_at at.Written w = needs.Wait
-writing_due_at at.Failed w = needs.Wait
+abbrev pub due_at : NoteRow → Writing → NeedData
+due_at at.Open w = needs.File (call.Open (bounce_path w.n) how.Append)
+due_at at.Create w = needs.File (call.CreateExcl (bounce_path w.n))
+due_at (at.Stat fd) w = needs.File (call.Stat (bounce_path w.n))
+due_at (at.Read fd place len) w = needs.File (call.ReadAt fd place len)
+due_at (at.Append fd done) w = needs.File (call.Append fd (piece w.text done))
+due_at (at.Sync fd) w = needs.File (call.Sync fd)
+due_at (at.Close fd) w = needs.File (call.Close fd)
+due_at (at.Shut fd) w = needs.File (call.Close fd)
+due_at at.Written w = needs.Wait
+due_at at.Failed w = needs.Wait
 
-abbrev pub due_of_writing : Writing → NeedData
-due_of_writing w = writing_due_at w.row w
+abbrev pub due_by : Writing → NeedData
+due_by w = due_at w.row w

@@ -2,7 +2,7 @@
 ghost use Rattle.std.specs.Prelude.{◌≡◌, false, IfOk, IsOk, OnOk, OnErr};
 ghost use Rattle.call_fs.specs.Program.{due_of, came_of};
 ghost use Rattle.mail_bytes.specs.Moments.{IsMoment};
-ghost use Rattle.bounce_record.specs.Returning.{answered, awaited_row, bare, bounce_at, due_of_return, given_row, goes, made, message_opened, message_read, message_row, notes_opened, notes_read, notes_row, return_begun, returned_on, started_row, unlinked_row};
+ghost use Rattle.bounce_record.specs.Returning.{answered, awaited_row, bare, bounce_at, due_by, given_row, goes, made, message_opened, message_read, message_row, notes_opened, notes_read, notes_row, return_begun, moved, started_row, unlinked_row};
 ghost use Rattle.bounce_record.specs.Rows.{takes_memory};
 
 use crate::input::input_of;
@@ -80,7 +80,7 @@ impl BounceSender {
 
     /// What it does next; once it has ended, nothing. Takes no memory.
     pub fn need(&self) -> Need<'_>
-        ensures { due_of result ≡ due_of_return self.now }
+        ensures { due_of result ≡ due_by self.now }
     {
         let name = self.lent.as_slice();
         match self.row {
@@ -114,7 +114,7 @@ impl BounceSender {
         got: &Got<'_>,
     ) -> Result<(), Memory>
         requires { IsMoment now }
-        ensures ok { OnOk result (self.new ≡ returned_on controls.now sender.now self.old now (came_of got.now)) }
+        ensures ok { OnOk result (self.new ≡ moved controls.now sender.now self.old now (came_of got.now)) }
         ensures memory { takes_memory self.old.row ≡ false → IsOk result }
         ensures err { OnErr result (self.new ≡ self.old) }
     {

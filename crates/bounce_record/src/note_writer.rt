@@ -3,7 +3,7 @@ ghost use Rattle.std.specs.Prelude.{◌≡◌, ◌≤◌, ◌∷◌, [], IfOk, O
 ghost use Rattle.call_fs.specs.Program.{due_of, came_of};
 ghost use Rattle.bounce_record.specs.Notes.{note_text};
 ghost use Rattle.bounce_record.specs.Rows.{CountsOn};
-ghost use Rattle.bounce_record.specs.Writing.{appended_row, created_row, due_of_writing, left_out, next_piece, opened_row, parted_note, piece, stated_row, synced_row, tail_read_row, tail_row, writing_begun, written_on, written_row};
+ghost use Rattle.bounce_record.specs.Writing.{appended_row, created_row, due_by, left_out, next_piece, opened_row, parted_note, piece, stated_row, synced_row, tail_read_row, tail_row, writing_begun, moved, written_row};
 
 use crate::names::put_note_name;
 use crate::{NoteRow, note};
@@ -85,7 +85,7 @@ impl NoteWriter {
 
     /// What it does next; once it has ended, nothing. Takes no memory.
     pub fn need(&self) -> Need<'_>
-        ensures { due_of result ≡ due_of_writing self.now }
+        ensures { due_of result ≡ due_by self.now }
     {
         let name = self.lent.as_slice();
         match self.row {
@@ -104,7 +104,7 @@ impl NoteWriter {
 
     /// Hands in what came of its need. Takes no memory.
     pub fn done(&mut self, got: &Got<'_>)
-        ensures { self.new ≡ written_on self.old (came_of got.now) }
+        ensures { self.new ≡ moved self.old (came_of got.now) }
     {
         if let Got::File(answer, bytes) = got {
             let row = self.next_row(answer, bytes);

@@ -3,12 +3,12 @@ use Rattle.std.proofs.Common.{◌≡◌, ◌≢◌, Bool, true, false, List, ℕ
 use Rattle.std.specs.String.{string_bytes}
 use Rattle.std.proofs.lemmas.Option.{slice_get-map}
 use Rattle.std.proofs.lemmas.Slice.Eq.{bytes_eq-Decides}
-use Rattle.clap.specs.Words.{Text, first_of, matches_of}
+use Rattle.clap.specs.Words.{matches_of}
 use Rattle.command_words.specs.declared.command.Command.{Command}
-use Rattle.command_words.specs.declared.command.Command.TheVariants.{Play, Queue, Audit, Clean}
-use Rattle.command_words.specs.declared.command.QueueWords.{QueueWords}
-use Rattle.command_words.specs.Lines.{audit_line, clean_line, play_line, queue_line, takes_words}
-use Rattle.command_words.specs.Reads.{dir_words, command_named, command_of, play_words, queue_words, told_by}
+use Rattle.command_words.specs.declared.command.Command.TheVariants.{Play, Queue, Audit, Clean, Lspawn, Rspawn, Local}
+use Rattle.command_words.specs.Delivery.{local_words}
+use Rattle.command_words.specs.Lines.{audit_line, clean_line, lspawn_line, play_line, queue_line, takes_words}
+use Rattle.command_words.specs.Reads.{dir_words, command_named, command_of, others_named, play_words, queue_words, rspawn_words, told_by}
 
 -- the command of words whose first one is known
 pub named : (ws : List (String Global)) (word : Option (String Global)) → slice_get ws 0 ≡ word → command_of (map string_bytes ws) ≡ command_named (option_map string_bytes word) (map string_bytes ws)
@@ -24,42 +24,45 @@ differs : (b : Bool) (x y : List ℕ) → Decides b (x ≡ y) → x ≢ y → b 
 differs true x y same other = absurd (other (same.0 refl))
 differs false x y same other = refl
 
+-- a choice whose test fails
+passed : (b : Bool) (here there : Option Command) → b ≡ false → cond b here there ≡ there
+passed b here there fails = ap (λ test. cond test here there) fails
+
 -- a first word that names no command
 pub names_none : (ws : List (String Global)) (word : String Global) (text : List ℕ) → slice_get ws 0 ≡ Some word → text ≡ string_bytes word → text ≢ codes "play" → text ≢ codes "queue" → text ≢ codes "audit" → text ≢ codes "clean"
-    → command_of (map string_bytes ws) ≡ None
-names_none ws word text first is play queue audit clean =
-    let words = map string_bytes ws in
+    → text ≢ codes "lspawn" → text ≢ codes "rspawn" → text ≢ codes "local" → command_of (map string_bytes ws) ≡ None
+names_none ws word text first is play queue audit clean lspawn rspawn local =
+    let differ : (name : List ℕ) → text ≢ name → bytes_eq text name ≡ false = λ name other. differs (bytes_eq text name) text name (bytes_eq-Decides text name) other in
     named_word ws word text text first is refl
-    ∙ ap (λ b. cond b (play_words words) (cond (bytes_eq text (codes "queue")) (queue_words words) (cond (bytes_eq text (codes "audit")) (option_map Audit (dir_words audit_line words)) (cond (bytes_eq text (codes "clean")) (option_map Clean (dir_words clean_line words)) None))))
-    (differs _ _ _ (bytes_eq-Decides text (codes "play")) play)
-    ∙ ap (λ b. cond b (queue_words words) (cond (bytes_eq text (codes "audit")) (option_map Audit (dir_words audit_line words)) (cond (bytes_eq text (codes "clean")) (option_map Clean (dir_words clean_line words)) None))) (differs _ _ _ (bytes_eq-Decides text (codes "queue")) queue)
-    ∙ ap (λ b. cond b (option_map Audit (dir_words audit_line words)) (cond (bytes_eq text (codes "clean")) (option_map Clean (dir_words clean_line words)) None)) (differs _ _ _ (bytes_eq-Decides text (codes "audit")) audit)
-    ∙ ap (λ b. cond b (option_map Clean (dir_words clean_line words)) None) (differs _ _ _ (bytes_eq-Decides text (codes "clean")) clean)
+    ∙ passed _ _ _ (differ (codes "play") play)
+    ∙ passed _ _ _ (differ (codes "queue") queue)
+    ∙ passed _ _ _ (differ (codes "audit") audit)
+    ∙ passed _ _ _ (differ (codes "clean") clean)
+    ∙ passed _ _ _ (differ (codes "lspawn") lspawn)
+    ∙ passed _ _ _ (differ (codes "rspawn") rspawn)
+    ∙ passed _ _ _ (differ (codes "local") local)
 
 -- the words of another command are never `play`
-queue_or_none : (takes : Bool) (queue : Option QueueWords) → cond takes (option_map Queue queue) None ≢ Some Play
-queue_or_none true (Some queue) e = cc
-queue_or_none true None e = cc
-queue_or_none false queue e = cc
+mapped_never : {A : Type 0} (make : A → Command) (told : Option A) → ((x : A) → make x ≢ Play) → option_map make told ≢ Some Play
+mapped_never make None other e = cc
+mapped_never make (Some x) other e = other x (cc)
 
-audit_never_play : (dir : Option Text) → option_map Audit dir ≢ Some Play
-audit_never_play (Some dir) e = cc
-audit_never_play None e = cc
+never_of : (b : Bool) (here there : Option Command) → here ≢ Some Play → there ≢ Some Play → cond b here there ≢ Some Play
+never_of true here there a b e = a e
+never_of false here there a b e = b e
 
-clean_never_play : (dir : Option Text) → option_map Clean dir ≢ Some Play
-clean_never_play (Some dir) e = cc
-clean_never_play None e = cc
-
-queue_never_play : (words : List (List ℕ)) → queue_words words ≢ Some Play
+queue_never : (words : List (List ℕ)) → queue_words words ≢ Some Play
 unfolding queue_words
-queue_never_play words e = queue_or_none (takes_words queue_line words) (told_by (matches_of queue_line words)) e
+queue_never words = never_of (takes_words queue_line words) _ None (mapped_never Queue (told_by (matches_of queue_line words)) (λ x e. cc)) (λ e. cc)
 
-others_never_play : (queue audit clean : Bool) (words : List (List ℕ)) (dir other : Option Text)
-    → cond queue (queue_words words) (cond audit (option_map Audit dir) (cond clean (option_map Clean other) None)) ≢ Some Play
-others_never_play true audit clean words dir other e = queue_never_play words e
-others_never_play false true clean words dir other e = audit_never_play dir e
-others_never_play false false true words dir other e = clean_never_play other e
-others_never_play false false false words dir other e = cc
+others_never : (name : List ℕ) (words : List (List ℕ)) → others_named name words ≢ Some Play
+others_never name words =
+    never_of (bytes_eq name (codes "queue")) _ _ (queue_never words)
+    (never_of (bytes_eq name (codes "audit")) _ _ (mapped_never Audit (dir_words audit_line words) (λ x e. cc))
+    (never_of (bytes_eq name (codes "clean")) _ _ (mapped_never Clean (dir_words clean_line words) (λ x e. cc))
+    (never_of (bytes_eq name (codes "lspawn")) _ _ (mapped_never Lspawn (dir_words lspawn_line words) (λ x e. cc))
+    (never_of (bytes_eq name (codes "rspawn")) _ _ (mapped_never Rspawn (rspawn_words words) (λ x e. cc))
+    (never_of (bytes_eq name (codes "local")) _ None (mapped_never Local (local_words words) (λ x e. cc)) (λ e. cc))))))
 
 by_tests : (play takes : Bool) (other : Option Command) (name : List ℕ) → Decides play (name ≡ codes "play") → other ≢ Some Play → cond play (cond takes (Some Play) None) other ≡ Some Play
     → (Some name ≡ Some (codes "play")) × (takes ≡ true)
@@ -70,9 +73,7 @@ by_tests false takes other name is never e = absurd (never e)
 by_first : (first : Option (List ℕ)) (words : List (List ℕ)) → command_named first words ≡ Some Play → (first ≡ Some (codes "play")) × (takes_words play_line words ≡ true)
 unfolding play_words
 by_first None words e = absurd (cc)
-by_first (Some name) words e =
-    by_tests (bytes_eq name (codes "play")) (takes_words play_line words) _ name (bytes_eq-Decides name (codes "play"))
-    (others_never_play (bytes_eq name (codes "queue")) (bytes_eq name (codes "audit")) (bytes_eq name (codes "clean")) words (dir_words audit_line words) (dir_words clean_line words)) e
+by_first (Some name) words e = by_tests (bytes_eq name (codes "play")) (takes_words play_line words) _ name (bytes_eq-Decides name (codes "play")) (others_never name words) e
 
 -- words that are `play` begin with it, and clap takes the others
 pub play_begins : (words : List (List ℕ)) → command_of words ≡ Some Play → (slice_get words 0 ≡ Some (codes "play")) × (takes_words play_line words ≡ true)

@@ -2,5 +2,9 @@
 pub mod Commands
 -- what a parse by clap says of the words
 pub mod Parses
+-- a parse by clap, word by word
+pub mod Steps
 -- words of `queue` that aren't written out
 pub mod Walks
+-- words of `local` that aren't written out
+pub mod Delivered

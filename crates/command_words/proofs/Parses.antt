@@ -1,5 +1,5 @@
 -- A parse by a simple clap command, and what it says of the words.
-use Rattle.std.proofs.Common.{◌≡◌, ◌≢◌, ◌&&◌, ℕ, Bool, true, false, List, [], ◌∷◌, Option, Some, None, Ok, Err, codes, cond, option_map, sym, ap, ◌∙◌, ⊎_elim, rules}
+use Rattle.std.proofs.Common.{◌≡◌, ◌≢◌, ◌&&◌, ℕ, Bool, true, false, List, [], ◌∷◌, Option, Some, None, Ok, Err, codes, cond, option_and_then, option_map, refl, sym, ap, ◌∙◌, ⊎_elim, rules}
 use Rattle.clap.specs.Walk.{is_empty}
 use Rattle.clap.specs.Words.{App, FailsBy, HasMatchesOf, IsAmong, Kinds, Row, Text, fault_of, first_of, first_value, found_of, is_simple, is_simple_and_free, kind_of, matches_of, rows_of}
 use Rattle.clap.specs.declared.error.Error.{Error}
@@ -8,10 +8,13 @@ use Rattle.clap.specs.declared.error.kind.ErrorKind.TheVariants.{OutOfMemory}
 use Rattle.clap.specs.declared.parser.matches.ArgMatches.{ArgMatches}
 use Rattle.clap.specs.declared.parser.matches.Found.{Found}
 use Rattle.clap.proofs.WalkLemmas.{first_value-rows}
-use Rattle.command_words.specs.Lines.{play_line, queue_line, takes_words}
+use Rattle.call_fs.specs.declared.past.DeliveryWordsData.{DeliveryWordsData}
+use Rattle.command_words.specs.Lines.{local_line, play_line, queue_line, rspawn_line, takes_words}
 use Rattle.command_words.specs.declared.command.Command.TheVariants.{Play, Queue}
 use Rattle.command_words.specs.declared.command.QueueWords.{QueueWords}
-use Rattle.command_words.specs.Reads.{dir_words, env_of, is_on, play_words, queue_words, told, told_by, uid_of}
+use Rattle.command_words.specs.Delivery.{delivery_told, local_told, local_told_by, local_words, marked, told_as}
+use Rattle.command_words.specs.Numbers.{uid_of}
+use Rattle.command_words.specs.Reads.{dir_words, env_of, is_on, play_words, queue_words, rspawn_words, spawner_told, spawner_told_by, told, told_by}
 
 -- an `Ok` says that no step failed
 pub taken : (a line : App) (words : List Text) (m : ArgMatches) → a ≡ line → is_simple_and_free line ≡ true → (is_simple_and_free a ≡ true → FailsBy (fault_of a words) (Ok m)) → takes_words line words ≡ true
@@ -78,6 +81,54 @@ dir_read line words found dir takes is read =
 pub dir_refused : (line : App) (words : List Text) → takes_words line words ≡ false → dir_words line words ≡ None
 unfolding dir_words
 dir_refused line words refuses = ap (λ t. cond t (first_of (codes "dir") (matches_of line words)) None) refuses
+
+-- the words of `rspawn` that are taken tell it what clap found; what it is told, by what the getters of the matches read
+pub rspawn_read : (words : List Text) (rows : List Row) → takes_words rspawn_line words ≡ true → rows ≡ matches_of rspawn_line words → rspawn_words words ≡ spawner_told_by rows
+unfolding rspawn_words
+rspawn_read words rows takes is = ap (λ t. cond t (spawner_told_by (matches_of rspawn_line words)) None) takes ∙ ap spawner_told_by (sym is)
+
+pub rspawn_refused : (words : List Text) → takes_words rspawn_line words ≡ false → rspawn_words words ≡ None
+unfolding rspawn_words
+rspawn_refused words refuses = ap (λ t. cond t (spawner_told_by (matches_of rspawn_line words)) None) refuses
+
+pub spawner_found : (found : Found) (dir program : Option Text) → dir ≡ first_value found (codes "dir") → program ≡ first_value found (codes "program") → spawner_told_by (rows_of found) ≡ spawner_told dir program
+spawner_found found dir program d p =
+    ap (λ x. spawner_told x (first_of (codes "program") (rows_of found))) (sym (d ∙ first_value-rows found (codes "dir")))
+    ∙ ap (λ x. spawner_told dir x) (sym (p ∙ first_value-rows found (codes "program")))
+
+pub no_program : (dir : Option Text) → spawner_told dir None ≡ None
+no_program None = refl
+no_program (Some dir) = refl
+
+-- the words of `local` that are taken tell it what clap found; what it is told, by what the getters of the matches read
+pub local_read : (words : List Text) (rows : List Row) → takes_words local_line words ≡ true → rows ≡ matches_of local_line words → local_words words ≡ local_told_by rows
+unfolding local_words
+local_read words rows takes is = ap (λ t. cond t (local_told_by (matches_of local_line words)) None) takes ∙ ap local_told_by (sym is)
+
+pub local_refused : (words : List Text) → takes_words local_line words ≡ false → local_words words ≡ None
+unfolding local_words
+local_refused words refuses = ap (λ t. cond t (local_told_by (matches_of local_line words)) None) refuses
+
+pub local_found : (found : Found) (dir uid : Option Text) → dir ≡ first_value found (codes "dir") → uid ≡ first_value found (codes "uid") → local_told_by (rows_of found) ≡ local_told dir (delivery_told (rows_of found)) (uid_of uid)
+local_found found dir uid d u =
+    ap (λ x. local_told x (delivery_told (rows_of found)) (uid_of (first_of (codes "uid") (rows_of found)))) (sym (d ∙ first_value-rows found (codes "dir")))
+    ∙ ap (λ x. local_told dir (delivery_told (rows_of found)) (uid_of x)) (sym (u ∙ first_value-rows found (codes "uid")))
+
+pub no_user : (dir : Option Text) (words : Option DeliveryWordsData) → local_told dir words None ≡ None
+no_user None words = refl
+no_user (Some dir) None = refl
+no_user (Some dir) (Some words) = refl
+
+no_delivery : (dir : Option Text) (uid : Option ℕ) → local_told dir None uid ≡ None
+no_delivery None uid = refl
+no_delivery (Some dir) uid = refl
+
+pub bad_delivery : (found : Found) (dir uid : Option Text) → dir ≡ first_value found (codes "dir") → uid ≡ first_value found (codes "uid") → delivery_told (rows_of found) ≡ None → local_told_by (rows_of found) ≡ None
+bad_delivery found dir uid d u none = local_found found dir uid d u ∙ ap (λ w. local_told dir w (uid_of uid)) none ∙ no_delivery dir (uid_of uid)
+
+-- what a word stands for that a getter of the matches reads
+pub word_found : (found : Found) (id : Text) (word : Option Text) → word ≡ first_value found id → told_as id (rows_of found) ≡ option_and_then marked word
+word_found found id word is = ap (option_and_then marked) (sym (is ∙ first_value-rows found id))
 
 -- the matches of a command are those of its words
 pub matched : (a line : App) (words : List Text) (m : ArgMatches) → a ≡ line → is_simple line ≡ true → HasMatchesOf a words m → rows_of (found_of m) ≡ matches_of line words

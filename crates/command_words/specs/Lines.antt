@@ -3,6 +3,7 @@ use Rattle.std.specs.Prelude.{◌&&◌, Bool, true, List, Some, codes}
 use Rattle.clap.specs.Words.{App, Rule, Text, new_app, new_rule, with_rule, fault_of, is_simple_and_free}
 use Rattle.clap.specs.Walk.{is_empty}
 use Rattle.clap.specs.declared.builder.action.ArgAction.TheVariants.{SetTrue}
+use Rattle.clap.specs.declared.builder.value_parser.ValueParser.TheVariants.{NonEmptyString}
 
 -- a word that has to stand, in its place
 abbrev pub word_rule : Text → Rule
@@ -32,6 +33,27 @@ audit_line = with_rule (new_app (codes "audit")) (word_rule (codes "dir"))
 -- `clean DIR`
 abbrev pub clean_line : App
 clean_line = with_rule (new_app (codes "clean")) (word_rule (codes "dir"))
+
+-- one more word that has to stand
+abbrev pub with_word : App → Text → App
+with_word line id = with_rule line (word_rule id)
+
+-- `lspawn DIR`
+abbrev pub lspawn_line : App
+lspawn_line = with_word (new_app (codes "lspawn")) (codes "dir")
+
+-- `rspawn DIR PROGRAM`; the empty word is no program
+abbrev pub rspawn_line : App
+rspawn_line =
+    with_rule (with_word (new_app (codes "rspawn")) (codes "dir")) (record (word_rule (codes "program")) { parser = Some NonEmptyString })
+
+-- `local DIR =USER =HOME =LOCAL =DASH =EXT =DOMAIN =SENDER =LINE --uid N`
+abbrev pub local_line : App
+local_line =
+    let user = with_word (with_word (new_app (codes "local")) (codes "dir")) (codes "user") in
+    let dash = with_word (with_word (with_word user (codes "home")) (codes "local")) (codes "dash") in
+    let sender = with_word (with_word (with_word dash (codes "ext")) (codes "domain")) (codes "sender") in
+    with_rule (with_word sender (codes "line")) (option_rule (codes "uid"))
 
 -- clap reads the words by this simple command, and no step of that fails
 abbrev pub takes_words : App → List Text → Bool

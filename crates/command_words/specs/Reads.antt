@@ -1,26 +1,19 @@
 -- Which command words are.
-use Rattle.std.specs.Prelude.{◌≡◌, ◌≢◌, ◌^◌, ℕ, Bool, false, List, Option, Some, None, codes, if◌then◌else◌, nat_lt, slice_get, option_and_then, option_map}
+use Rattle.std.specs.Prelude.{◌≡◌, ◌≢◌, ℕ, Bool, false, List, Option, Some, None, codes, if◌then◌else◌, slice_get, option_map}
 use Rattle.std.specs.Option.{option_map_or}
 use Rattle.std.specs.Str.{bytes_eq}
-use Rattle.mail_bytes.specs.Decimal.{number_of}
 use Rattle.clap.specs.Words.{App, Row, Text, first_of, matches_of}
 use Rattle.command_words.specs.declared.command.Command.{Command}
-use Rattle.command_words.specs.declared.command.Command.TheVariants.{Play, Queue, Audit, Clean}
+use Rattle.command_words.specs.declared.command.Command.TheVariants.{Play, Queue, Audit, Clean, Lspawn, Rspawn, Local}
 use Rattle.command_words.specs.declared.command.QueueWords.{QueueWords}
-use Rattle.command_words.specs.Lines.{audit_line, clean_line, play_line, queue_line, takes_words}
+use Rattle.command_words.specs.declared.command.RspawnWords.{RspawnWords}
+use Rattle.command_words.specs.Delivery.{local_words}
+use Rattle.command_words.specs.Numbers.{uid_of}
+use Rattle.command_words.specs.Lines.{audit_line, clean_line, lspawn_line, play_line, queue_line, rspawn_line, takes_words}
 
 -- the file of the envelope; `-` is none
 abbrev pub env_of : Text → Option Text
 env_of word = if bytes_eq word (codes "-") then None else Some word
-
--- the number, if a u32 holds it
-abbrev pub as_u32 : ℕ → Option ℕ
-as_u32 n = if nat_lt n (2 ^ 32) then Some n else None
-
--- the user of a decimal text; 0 if there is no text
-abbrev pub uid_of : Option Text → Option ℕ
-uid_of None = Some 0
-uid_of (Some text) = option_and_then as_u32 (number_of text)
 
 -- a flag that stands has the value `true`
 abbrev pub is_on : Option Text → Bool
@@ -48,13 +41,32 @@ queue_words words = if takes_words queue_line words then option_map Queue (told_
 unfoldable pub dir_words : App → List Text → Option Text
 dir_words line words = if takes_words line words then first_of (codes "dir") (matches_of line words) else None
 
+-- what `rspawn` is told, if both words stand
+abbrev pub spawner_told : Option Text → Option Text → Option RspawnWords
+spawner_told (Some dir) (Some program) = Some (record { dir = dir; program = program })
+spawner_told _ _ = None
+
+-- the same, of what clap found
+abbrev pub spawner_told_by : List Row → Option RspawnWords
+spawner_told_by rows = spawner_told (first_of (codes "dir") rows) (first_of (codes "program") rows)
+
+-- the words after the name `rspawn`, whatever the first word is
+unfoldable pub rspawn_words : List Text → Option RspawnWords
+rspawn_words words = if takes_words rspawn_line words then spawner_told_by (matches_of rspawn_line words) else None
+
+-- the command that this name names, if it isn't `play`
+abbrev pub others_named : Text → List Text → Option Command
+others_named name words = if bytes_eq name (codes "queue") then queue_words words
+    else (if bytes_eq name (codes "audit") then option_map Audit (dir_words audit_line words)
+    else (if bytes_eq name (codes "clean") then option_map Clean (dir_words clean_line words)
+    else (if bytes_eq name (codes "lspawn") then option_map Lspawn (dir_words lspawn_line words)
+    else (if bytes_eq name (codes "rspawn") then option_map Rspawn (rspawn_words words)
+    else (if bytes_eq name (codes "local") then option_map Local (local_words words) else None)))))
+
 -- the command that the first word names
 abbrev pub command_named : Option Text → List Text → Option Command
 command_named None words = None
-command_named (Some name) words = if bytes_eq name (codes "play") then play_words words
-    else (if bytes_eq name (codes "queue") then queue_words words
-    else (if bytes_eq name (codes "audit") then option_map Audit (dir_words audit_line words)
-    else (if bytes_eq name (codes "clean") then option_map Clean (dir_words clean_line words) else None)))
+command_named (Some name) words = if bytes_eq name (codes "play") then play_words words else others_named name words
 
 -- the command that the words are, if they are one
 unfoldable pub command_of : List Text → Option Command

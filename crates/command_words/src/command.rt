@@ -1,5 +1,6 @@
 // A command with what it is told.
 
+use call_fs::DeliveryWordsData;
 use mail_bytes::ByteText;
 use std::alloc::AllocError;
 use thiserror::Error;
@@ -15,6 +16,12 @@ pub enum Command {
     Audit(ByteText),
     /// `clean`: runs the cleaner; with the directory of the queue.
     Clean(ByteText),
+    /// `lspawn`: runs the local spawner; with the directory of the queue.
+    Lspawn(ByteText),
+    /// `rspawn`: runs the remote spawner.
+    Rspawn(RspawnWords),
+    /// `local`: makes a local delivery.
+    Local(LocalWords),
 }
 
 /// What `queue` is told.
@@ -30,6 +37,26 @@ pub struct QueueWords {
     pub bounce: bool,
 }
 
+/// What `rspawn` is told.
+#[derive(Drop)]
+pub struct RspawnWords {
+    /// The directory of the queue.
+    pub dir: ByteText,
+    /// The program that delivers to remote recipients. It isn't empty.
+    pub program: ByteText,
+}
+
+/// What `local` is told.
+#[derive(Drop)]
+pub struct LocalWords {
+    /// The directory of the queue.
+    pub dir: ByteText,
+    /// To whom the message is delivered, and how.
+    pub words: DeliveryWordsData,
+    /// The user's number, for forwards; 0 if none is told.
+    pub uid: u32,
+}
+
 /// The file and the directory that a command is told.
 #[derive(Drop)]
 pub struct Places {
@@ -37,6 +64,17 @@ pub struct Places {
     pub env: Option<ByteText>,
     /// The directory of the queue, if there is one.
     pub dir: Option<ByteText>,
+}
+
+/// Which channels a command has.
+#[derive(Clone, Copy, Debug, PartialEq, Eq)]
+pub enum Channels {
+    /// None; its input is a source.
+    Nothing,
+    /// Those of its children; its input is a source.
+    Children,
+    /// Its input, and those of its children.
+    InputAndChildren,
 }
 
 /// Why words weren't read.

@@ -1,8 +1,10 @@
 // What follows of words alone.
 ghost use Rattle.std.specs.Prelude.{◌≡◌, ◌<◌, ◌^◌, ◌↔◌, ◌∷◌, [], List, ℕ, Some, None, true, false, codes, slice_get};
+ghost use Rattle.call_fs.specs.declared.past.DeliveryWordsData.{DeliveryWordsData};
 ghost use Rattle.mail_bytes.specs.Decimal.{digits};
 ghost use Rattle.command_words.specs.declared.command.Command.{Command as Told};
-ghost use Rattle.command_words.specs.declared.command.Command.TheVariants.{Play, Queue, Audit, Clean};
+ghost use Rattle.command_words.specs.declared.command.Command.TheVariants.{Play, Queue, Audit, Clean, Lspawn, Rspawn, Local};
+ghost use Rattle.command_words.specs.Delivery.{HasBytes, delivery_words};
 ghost use Rattle.command_words.specs.Lines.{play_line, takes_words};
 ghost use Rattle.command_words.specs.Reads.{IsNoCommand, IsNoOption, Reads};
 
@@ -29,6 +31,31 @@ pub fn words_by_row()
     ensures audit_extra { IsNoCommand (codes "audit" ∷ codes "DIR" ∷ codes "more" ∷ []) }
     ensures clean { Reads (codes "clean" ∷ codes "DIR" ∷ []) (Clean (codes "DIR")) }
     ensures clean_no_directory { IsNoCommand (codes "clean" ∷ []) }
+    ensures lspawn { Reads (codes "lspawn" ∷ codes "DIR" ∷ []) (Lspawn (codes "DIR")) }
+    ensures rspawn { Reads (codes "rspawn" ∷ codes "DIR" ∷ codes "PROGRAM" ∷ [])
+        (Rspawn (record { dir = codes "DIR"; program = codes "PROGRAM" })) }
+    ensures no_program { IsNoCommand (codes "rspawn" ∷ codes "DIR" ∷ []) }
+    ensures empty_program { IsNoCommand (codes "rspawn" ∷ codes "DIR" ∷ [] ∷ []) }
+    ensures local { Reads (codes "local" ∷ codes "DIR" ∷ codes "=j" ∷ codes "=home/j" ∷ codes "=j" ∷ codes "=" ∷ codes "="
+        ∷ codes "=x" ∷ codes "=a%40x" ∷ codes "=./Maildir/" ∷ codes "--uid" ∷ codes "1000" ∷ [])
+        (Local (record {
+          dir = codes "DIR";
+          words = record {
+            user = codes "j";
+            home = codes "home/j";
+            local = codes "j";
+            dash = [];
+            ext = [];
+            domain = codes "x";
+            sender = codes "a@x";
+            line = codes "./Maildir/";
+          };
+          uid = 1000;
+        })) }
+    ensures unmarked { IsNoCommand (codes "local" ∷ codes "DIR" ∷ codes "j" ∷ codes "=home/j" ∷ codes "=j" ∷ codes "=" ∷ codes "="
+        ∷ codes "=x" ∷ codes "=a@x" ∷ codes "=./Maildir/" ∷ []) }
+    ensures bad_escape { IsNoCommand (codes "local" ∷ codes "DIR" ∷ codes "=j" ∷ codes "=home/j" ∷ codes "=j" ∷ codes "=" ∷ codes "="
+        ∷ codes "=x" ∷ codes "=a%4x" ∷ codes "=./Maildir/" ∷ []) }
     ensures help { IsNoCommand (codes "queue" ∷ codes "-" ∷ codes "DIR" ∷ codes "--help" ∷ []) }
     ensures version { IsNoCommand (codes "play" ∷ codes "--version" ∷ []) }
     ensures no_directory { IsNoCommand (codes "queue" ∷ codes "-" ∷ []) }
@@ -50,4 +77,11 @@ pub fn words_of_queue()
     ensures forward { (dir : List ℕ) (n : ℕ) → IsNoOption dir → n < 2 ^ 32
         → Reads (codes "queue" ∷ codes "-" ∷ dir ∷ codes "--uid" ∷ digits n ∷ [])
         (Queue (record { env = None; dir = dir; uid = n; bounce = false })) }
+{}
+
+/// Words of `local` that are written out except for DIR, which doesn't begin with `-`, and what is told of the delivery:
+/// what a spawner wrote is what is read.
+pub fn words_of_local()
+    ensures { (dir : List ℕ) (d : DeliveryWordsData) (n : ℕ) → IsNoOption dir → HasBytes d → n < 2 ^ 32
+        → Reads (codes "local" ∷ dir ∷ delivery_words d n) (Local (record { dir = dir; words = d; uid = n })) }
 {}

@@ -11,19 +11,29 @@
 //! | `queue ENV DIR --uid N --bounce` | puts a message into the queue of DIR, as qmail-queue(8) |
 //! | `audit DIR` | prints what the queue of DIR holds |
 //! | `clean DIR` | runs the cleaner over the queue of DIR |
+//! | `lspawn DIR` | runs the local spawner over the queue of DIR |
+//! | `rspawn DIR PROGRAM` | runs the remote spawner, which delivers by PROGRAM; the empty word is no program |
+//! | `local DIR =USER =HOME =LOCAL =DASH =EXT =DOMAIN =SENDER =LINE --uid N` | makes a local delivery, as qmail-local(8) |
+//!
+//! Each word of `local` after DIR begins with `=`, which isn't part of it, and is escaped as in scripts: `%` and two
+//! hexadecimal digits stand for a byte. So it may hold any bytes.
 //!
 //! # What is claimed
 //!
-//! - Which command the words are, as a simple `clap` command for each takes them, and what it is told; and the
-//!   places that they name: `read_words`: `ok` (by `Reads`), `usage` (by `IsNoCommand`); `places`; the laws
-//!   `words_are_one_command`, `words_by_row`, `words_of_queue`.
+//! - Which command the words are, as a simple `clap` command for each takes them, and what it is told; the
+//!   places that they name, and which channels it has: `read_words`: `ok` (by `Reads`), `usage` (by `IsNoCommand`);
+//!   `places`; `channels`; the laws
+//!   `words_are_one_command`, `words_by_row`, `words_of_queue`, `words_of_local`.
 #![tactic(auto)]
 
 mod command;
+mod delivery;
+mod given;
 mod laws;
 mod lines;
 mod read;
 
-pub use command::{Command, Places, QueueWords, WordsError};
-pub use laws::{words_are_one_command, words_by_row, words_of_queue};
-pub use read::{places, read_words};
+pub use command::{Channels, Command, LocalWords, Places, QueueWords, RspawnWords, WordsError};
+pub use given::{channels, places};
+pub use laws::{words_are_one_command, words_by_row, words_of_local, words_of_queue};
+pub use read::read_words;

@@ -1,8 +1,9 @@
 // The simple `clap` commands.
 ghost use Rattle.std.specs.Prelude.{◌≡◌, IfOk};
 ghost use Rattle.clap.specs.Words.{app_of};
-ghost use Rattle.command_words.specs.Lines.{audit_line, clean_line, play_line, queue_line};
+ghost use Rattle.command_words.specs.Lines.{audit_line, clean_line, local_line, lspawn_line, play_line, queue_line, rspawn_line, with_word};
 
+use clap::builder::ValueParser;
 use clap::{Arg, ArgAction, Command};
 use mail_bytes::Memory;
 use std::alloc::Global;
@@ -41,4 +42,45 @@ pub fn clean_line<'a>(alloc: Global) -> Result<Command<'a>, Memory>
     ensures { IfOk result (λ line. app_of line ≡ clean_line) }
 {
     Command::new(alloc, "clean").arg(Arg::new(alloc, "dir").required(true))
+}
+
+/// The words of `lspawn`. The error: out of memory.
+pub fn lspawn_line<'a>(alloc: Global) -> Result<Command<'a>, Memory>
+    ensures { IfOk result (λ line. app_of line ≡ lspawn_line) }
+{
+    with_word(alloc, Command::new(alloc, "lspawn"), "dir")
+}
+
+/// The words of `rspawn`, of which the program isn't empty. The error: out of memory.
+pub fn rspawn_line<'a>(alloc: Global) -> Result<Command<'a>, Memory>
+    ensures { IfOk result (λ line. app_of line ≡ rspawn_line) }
+{
+    with_word(alloc, Command::new(alloc, "rspawn"), "dir")?.arg(
+        Arg::new(alloc, "program")
+            .required(true)
+            .value_parser(ValueParser::NonEmptyString),
+    )
+}
+
+/// The words of `local`. The error: out of memory.
+pub fn local_line<'a>(alloc: Global) -> Result<Command<'a>, Memory>
+    ensures { IfOk result (λ line. app_of line ≡ local_line) }
+{
+    let line = with_word(alloc, Command::new(alloc, "local"), "dir")?;
+    let line = with_word(alloc, line, "user")?;
+    let line = with_word(alloc, line, "home")?;
+    let line = with_word(alloc, line, "local")?;
+    let line = with_word(alloc, line, "dash")?;
+    let line = with_word(alloc, line, "ext")?;
+    let line = with_word(alloc, line, "domain")?;
+    let line = with_word(alloc, line, "sender")?;
+    let line = with_word(alloc, line, "line")?;
+    line.arg(Arg::new(alloc, "uid").long("uid"))
+}
+
+/// This command with one more word that has to stand. The error: out of memory.
+fn with_word<'a>(alloc: Global, line: Command<'a>, id: &'a str) -> Result<Command<'a>, Memory>
+    ensures { IfOk result (λ more. app_of more ≡ with_word (app_of line.entry) id.entry.now) }
+{
+    line.arg(Arg::new(alloc, id).required(true))
 }

@@ -3,15 +3,16 @@ ghost use Rattle.std.specs.Prelude.{◌≡◌, ◌≢◌, Some, None, Err, true,
 ghost use Rattle.clap.specs.Words.{app_of, found_of, is_simple, is_simple_and_free, kind_of, rows_of};
 ghost use Rattle.clap.specs.declared.error.kind.ErrorKind.TheVariants.{OutOfMemory};
 ghost use Rattle.std.specs.Option.{option_map};
-ghost use Rattle.command_words.specs.Places.{places_of};
-ghost use Rattle.command_words.specs.Reads.{IsNoCommand, command_of, Reads, dir_words, env_of, is_on, play_words, queue_words, told_by, uid_of};
+ghost use Rattle.command_words.specs.Reads.{IsNoCommand, Reads, dir_words, env_of, is_on, play_words, queue_words, rspawn_words, spawner_told_by, told_by};
+ghost use Rattle.command_words.specs.Numbers.{uid_of};
 
-use crate::lines::{audit_line, clean_line, play_line, queue_line};
-use crate::{Command, Places, QueueWords, WordsError};
+use crate::delivery::read_local;
+use crate::lines::{audit_line, clean_line, lspawn_line, play_line, queue_line, rspawn_line};
+use crate::{Command, QueueWords, RspawnWords, WordsError};
 use clap::error::ErrorKind;
 use clap::{ArgMatches, Command as Line};
 use mail_bytes::{ByteText, Memory, undec};
-use std::alloc::{AllocError, Global};
+use std::alloc::Global;
 
 /// The command that the words after the program's name are. `Usage` only if they are none: the first word names no
 /// command, `clap` refuses the others, or a number isn't a decimal text without a leading zero, or isn't in its range.
@@ -34,29 +35,19 @@ pub fn read_words(alloc: Global, words: &[String]) -> Result<Command, WordsError
             Ok(dir) => Ok(Command::Clean(dir)),
             Err(why) => Err(why),
         },
+        "lspawn" => match read_dir(alloc, lspawn_line(alloc)?, words) {
+            Ok(dir) => Ok(Command::Lspawn(dir)),
+            Err(why) => Err(why),
+        },
+        "rspawn" => match read_rspawn(alloc, words) {
+            Ok(spawner) => Ok(Command::Rspawn(spawner)),
+            Err(why) => Err(why),
+        },
+        "local" => match read_local(alloc, words) {
+            Ok(delivery) => Ok(Command::Local(delivery)),
+            Err(why) => Err(why),
+        },
         _ => Err(WordsError::Usage),
-    }
-}
-
-/// The file and the directory that the words name, if they are a command that has them; else neither.
-/// The error: out of memory.
-pub fn places(alloc: Global, words: &[String]) -> Result<Places, Memory>
-    ensures { IfOk result (λ places. places ≡ places_of (command_of (map string_bytes words.now))) }
-{
-    match read_words(alloc, words) {
-        Ok(Command::Queue(queue)) => Ok(Places {
-            env: queue.env,
-            dir: Some(queue.dir),
-        }),
-        Ok(Command::Audit(dir) | Command::Clean(dir)) => Ok(Places {
-            env: None,
-            dir: Some(dir),
-        }),
-        Ok(Command::Play) | Err(WordsError::Usage) => Ok(Places {
-            env: None,
-            dir: None,
-        }),
-        Err(WordsError::Memory) => Err(AllocError),
     }
 }
 
@@ -103,6 +94,34 @@ fn read_dir<'a>(alloc: Global, line: Line<'a>, words: &'a [String]) -> Result<By
     }
 }
 
+/// Reads the words after the name `rspawn`.
+fn read_rspawn(alloc: Global, words: &[String]) -> Result<RspawnWords, WordsError>
+    ensures ok { IfOk result (λ told. rspawn_words (map string_bytes words.now) ≡ Some told) }
+    ensures usage { result ≡ Err WordsError.Usage → rspawn_words (map string_bytes words.now) ≡ None }
+{
+    match rspawn_line(alloc)?.try_get_matches_from(words) {
+        Ok(matches) => spawner_told(alloc, &matches),
+        Err(why) => Err(refusal(&why)),
+    }
+}
+
+/// What `rspawn` is told by what `clap` found. `Usage` only if a word is missing.
+fn spawner_told(alloc: Global, matches: &ArgMatches<'_>) -> Result<RspawnWords, WordsError>
+    ensures ok { IfOk result (λ told. spawner_told_by (rows_of (found_of matches.now)) ≡ Some told) }
+    ensures usage { result ≡ Err WordsError.Usage → spawner_told_by (rows_of (found_of matches.now)) ≡ None }
+{
+    let Some(dir) = matches.get_str("dir") else {
+        return Err(WordsError::Usage);
+    };
+    let Some(program) = matches.get_str("program") else {
+        return Err(WordsError::Usage);
+    };
+    Ok(RspawnWords {
+        dir: ByteText::from_slice(alloc, dir.as_bytes())?,
+        program: ByteText::from_slice(alloc, program.as_bytes())?,
+    })
+}
+
 /// What `queue` is told by what `clap` found; None if a word is missing or the user is no number.
 fn told_by(alloc: Global, matches: &ArgMatches<'_>) -> Result<Option<QueueWords>, Memory>
     ensures { IfOk result (λ queue. queue ≡ told_by (rows_of (found_of matches.now))) }
@@ -125,7 +144,7 @@ fn told_by(alloc: Global, matches: &ArgMatches<'_>) -> Result<Option<QueueWords>
 }
 
 /// A refusal by `clap`.
-fn refusal(why: &clap::Error) -> WordsError
+pub(crate) fn refusal(why: &clap::Error) -> WordsError
     ensures { result ≡ WordsError.Usage → kind_of why.now ≢ OutOfMemory }
 {
     match why.kind() {
@@ -145,7 +164,7 @@ fn env_of(alloc: Global, word: &str) -> Result<Option<ByteText>, Memory>
 }
 
 /// The user's number, 0 if none is told. None exactly if the text is no decimal text of a u32.
-fn uid_of(text: Option<&str>) -> Option<u32>
+pub(crate) fn uid_of(text: Option<&str>) -> Option<u32>
     ensures { result ≡ uid_of (option_map (λ s. s.now) text.entry) }
 {
     let Some(text) = text else {

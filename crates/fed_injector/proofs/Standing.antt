@@ -8,9 +8,9 @@ use Rattle.queue_inject.specs.declared.injection.Arguments.{Arguments}
 use Rattle.queue_inject.specs.Machine.{Machine, due_now, late_now, call_now}
 use Rattle.queue_inject.specs.Stands.{Stands, IsStartedBy}
 use Rattle.queue_inject.specs.Table.{has_input, in_time}
-use Rattle.fed_injector.specs.declared.fed.FedInjector.{FedInjector}
-use Rattle.fed_injector.specs.declared.fed.Input.{Input}
-use Rattle.fed_injector.specs.declared.fed.Input.TheVariants.{Awaited, Given, Cut}
+use Rattle.fed_injector.specs.declared.machine.FedInjector.{FedInjector}
+use Rattle.fed_injector.specs.declared.machine.Input.{Input}
+use Rattle.fed_injector.specs.declared.machine.Input.TheVariants.{Awaited, Given, Cut}
 use Rattle.fed_injector.specs.Inputs.{AreInputs, IsNoInput, with_input, is_awaited, awaits, IsWaiting, StandsWith, FedStands}
 
 -- one that waits goes on waiting while its input isn't ready

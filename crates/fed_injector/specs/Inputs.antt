@@ -8,9 +8,9 @@ use Rattle.queue_inject.specs.declared.injection.Part.{Part}
 use Rattle.queue_inject.specs.declared.injection.Part.TheVariants.{Message, Envelope}
 use Rattle.queue_inject.specs.Machine.{Machine, due_now}
 use Rattle.queue_inject.specs.Stands.{Stands, IsStartedBy}
-use Rattle.fed_injector.specs.declared.fed.FedInjector.{FedInjector}
-use Rattle.fed_injector.specs.declared.fed.Input.{Input}
-use Rattle.fed_injector.specs.declared.fed.Input.TheVariants.{Awaited, Given, Cut}
+use Rattle.fed_injector.specs.declared.machine.FedInjector.{FedInjector}
+use Rattle.fed_injector.specs.declared.machine.Input.{Input}
+use Rattle.fed_injector.specs.declared.machine.Input.TheVariants.{Awaited, Given, Cut}
 
 -- these are the message and the envelope, both whole
 pub record AreInputs (args : Arguments) (message envelope : List ℕ) : Type 0 where

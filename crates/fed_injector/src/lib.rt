@@ -12,9 +12,9 @@
 //!   `texts_to_give` (by `GivesTexts`).
 #![tactic(auto)]
 
-mod fed;
 mod feeding;
+mod machine;
 mod texts;
 
-pub use fed::{FedInjector, Input};
+pub use machine::{FedInjector, Input};
 pub use texts::{texts_of, texts_to_give};

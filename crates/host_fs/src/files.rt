@@ -45,9 +45,22 @@ fn is_dir<S: System>(system: &S, path: &str) -> bool {
     }
 }
 
-/// Opens a file for reading, and for what else is asked.
-/// `NotThere` if the system says that it is missing; a directory, and any other refusal, is a fault.
+/// Opens a file for reading, and for what else is asked. What is there is looked at first, since the opening of a FIFO
+/// waits for somebody at its other end.
+/// `NotThere` if the system says that it is missing; what is no regular file, and any other refusal, is a fault.
 pub fn open_file<S: System>(system: &S, path: &str, how: How) -> Result<S::File, FsError>
+    ensures exists { ¬ (IsErrOf result FsError.Exists) }
+    ensures memory { ¬ (IsErrOf result FsError.Memory) }
+{
+    match system.stat(path) {
+        Ok(facts) if facts.is_file => open_regular(system, path, how),
+        Ok(_) => Err(FsError::Fault),
+        Err(why) => Err(missing_or_fault(why.kind())),
+    }
+}
+
+/// Opens what was a regular file just now. What is none any more is a fault too.
+fn open_regular<S: System>(system: &S, path: &str, how: How) -> Result<S::File, FsError>
     ensures exists { ¬ (IsErrOf result FsError.Exists) }
     ensures memory { ¬ (IsErrOf result FsError.Memory) }
 {
@@ -56,7 +69,7 @@ pub fn open_file<S: System>(system: &S, path: &str, how: How) -> Result<S::File,
         Err(why) => return Err(missing_or_fault(why.kind())),
     };
     match system.fstat(&file) {
-        Ok(facts) if !facts.is_dir => Ok(file),
+        Ok(facts) if facts.is_file => Ok(file),
         _ => Err(FsError::Fault),
     }
 }

@@ -14,7 +14,8 @@ use std::alloc::Global;
 use std::io::Read;
 
 /// Puts the least name of a directory after that one into the buffer and answers true, or answers false if there is
-/// none. Directories are passed over, and names that aren't UTF-8 or over 255 bytes.
+/// none. Directories are passed over, and names that aren't UTF-8 or over 255 bytes. What can't be looked at counts as no
+/// directory.
 ///
 /// If the directory is at rest, its names are kept, and searched as long as the system tells just the same of the
 /// directory. Else, or when memory for them runs out, it is listed at each call, which takes the memory of one path at a
@@ -153,7 +154,8 @@ impl<'a, S: System> Place<'a, S> {
         Ok(found)
     }
 
-    /// Whether an entry counts: it has a name that calls take, it is no directory, and it is still there.
+    /// Whether an entry counts: it has a name that calls take, it is no directory, and it is still there. One that can't be
+    /// looked at, as a link to itself, counts: to open it is a fault, and those beside it are told all the same.
     fn is_file(&self, name: &[u8]) -> Result<bool, FsError>
         ensures entry { IfOk result (λ counts. IsTrue counts → IsEntry name.now) }
         ensures fault { OnErr result (IsErrOf result FsError.Fault) }
@@ -167,8 +169,7 @@ impl<'a, S: System> Place<'a, S> {
         };
         match self.system.stat(path.as_str()) {
             Ok(facts) => Ok(!facts.is_dir),
-            Err(why) if missing_or_fault(why.kind()) == FsError::NotThere => Ok(false),
-            Err(_) => Err(FsError::Fault),
+            Err(why) => Ok(missing_or_fault(why.kind()) != FsError::NotThere),
         }
     }
 }

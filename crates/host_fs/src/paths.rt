@@ -44,7 +44,7 @@ fn name_text(name: &[u8]) -> Option<&str>
 }
 
 /// The root as text; None exactly if it is no path.
-fn root_text(root: &[u8]) -> Option<&str>
+pub fn root_text(root: &[u8]) -> Option<&str>
     ensures some { IfSome result (λ text. (text.now ≡ root.now) × IsRoot root.now) }
     ensures none { IfNone result (¬ (IsRoot root.now)) }
 {

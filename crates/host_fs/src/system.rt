@@ -16,6 +16,8 @@ const NEW_FILE_MODE: u32 = 0o644;
 pub struct Facts {
     /// Whether it is a directory.
     pub is_dir: bool,
+    /// Whether it is a regular file: neither a directory, nor a FIFO, a socket or a device.
+    pub is_file: bool,
     /// Its inode number.
     pub number: u64,
     /// How many bytes it has.
@@ -89,6 +91,7 @@ pub trait System: Drop {
 fn facts_of(metadata: Metadata) -> Facts {
     Facts {
         is_dir: metadata.is_dir(),
+        is_file: metadata.is_file(),
         number: metadata.ino(),
         length: metadata.len(),
         modified: metadata.mtime(),

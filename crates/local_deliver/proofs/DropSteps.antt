@@ -24,7 +24,7 @@ use Rattle.maildir_drop.specs.Names.{is_name, pair_at}
 use Rattle.maildir_drop.specs.Table.{appended, begin_row, create_row, due_at, failed, is_complete, link_row, moved, next_row, sync_row, taken_row}
 use Rattle.local_deliver.specs.declared.place.Place.{Place}
 use Rattle.local_deliver.specs.Drops.{Drop, due_drop, end_drop, is_linked, moved_drop}
-use Rattle.local_deliver.specs.DropAfter.{after_of, is_answer, is_made, went}
+use Rattle.local_deliver.specs.inside.DropAfter.{after_of, is_answer, is_made, went}
 use Rattle.local_deliver.specs.Table.{due_by_drop, dropped, dropped_by, line_done}
 
 abbrev after_row : DropNames → Row → List ℕ → GotData → Option EndData

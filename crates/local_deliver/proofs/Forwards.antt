@@ -27,7 +27,7 @@ use Rattle.local_deliver.specs.declared.row.Row.TheVariants as at
 use Rattle.local_deliver.specs.Deeds.{starts}
 use Rattle.local_deliver.specs.Drops.{Drop}
 use Rattle.local_deliver.specs.Forwards.{HasGiven, HasStarted, IsForwardInput}
-use Rattle.local_deliver.specs.Table.{Next, act, due_at, due_by_drop, due_of_place, place_after}
+use Rattle.local_deliver.specs.Table.{Next, act, due_at, due_by_drop, due_by, place_after}
 use Rattle.local_deliver.proofs.Carrying.{holds}
 use Rattle.local_deliver.proofs.Underway.{AtFeed, Inv}
 use Rattle.local_deliver.proofs.Deeds.{deeds_of}
@@ -166,7 +166,7 @@ next args (event ∷ before) run h =
     let p : Place = place_after args before in
     let is : p.row ≡ at.Start = subst (OnlyAt p.row) (run.1.0 ∙ h.1.1.0) (only_at args p p.row) in (
       p.text,
-      λ now ready. ap (λ row. due_of_place args (act args event.read row event.came p)) is ∙ ap (λ got. due_of_place args (act args event.read at.Start got p)) h.1.1.1,
+      λ now ready. ap (λ row. due_by args (act args event.read row event.came p)) is ∙ ap (λ got. due_by args (act args event.read at.Start got p)) h.1.1.1,
     )
 
 pub given : (args : LocalArgs) (past : List Own) (now : ℕ) (ready : Ready) (slot : ℕ) (text : List ℕ) → IsRunBy (Next args) past

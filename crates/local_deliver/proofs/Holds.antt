@@ -53,7 +53,7 @@ use Rattle.call_fs.proofs.Coming.{by_fit}
 abbrev pub HoldsRow : (ℕ → Option Mode) → Row → Option Drop → Type 0
 HoldsRow h (at.Read what fd) d = h fd.0 ≡ Some (Mode.Opened how.Read)
 HoldsRow h (at.Close what fd went) d = h fd.0 ≡ Some (Mode.Opened how.Read)
-HoldsRow h at.Drop None = Unit {0}
+HoldsRow h at.Drop None = ⊥
 HoldsRow h at.Drop (Some d) = HoldsDrop h d.place.row
 HoldsRow h at.TakeInput d = Unit {0}
 HoldsRow h (at.Open what) d = Unit {0}
@@ -317,3 +317,9 @@ uses_row args p h (at.Ended status) own = tt
 
 pub uses : (args : LocalArgs) (past : List Own) → IsRunBy (Next args) past → UsesHeld (held past) (due_at args (place_after args past).row (place_after args past))
 uses args past run = uses_row args (place_after args past) (held past) (place_after args past).row (holds args past run)
+
+-- at the row of a drop there is one
+pub at_work : (args : LocalArgs) (past : List Own) → IsRunBy (Next args) past → (place_after args past).row ≡ at.Drop → (place_after args past).dropping ≡ None → ⊥
+at_work args past run is none =
+    let p : Place = place_after args past in
+    subst (λ o. HoldsRow (held past) at.Drop o) none (subst (λ row. HoldsRow (held past) row p.dropping) is (holds args past run))

@@ -24,3 +24,5 @@ pub mod Whole
 pub mod Forwards
 -- why a delivery has ended as it did
 pub mod Causing
+-- what a delivery asks for
+pub mod Asked

@@ -6,11 +6,11 @@ use Rattle.call_fs.specs.declared.program.Ready.{Ready}
 use Rattle.local_parts.specs.declared.arguments.LocalArgs.{LocalArgs}
 use Rattle.local_deliver.specs.declared.machine.Local.{Local}
 use Rattle.local_deliver.specs.Stands.{Stands, due_now, gone_on}
-use Rattle.local_deliver.specs.Table.{Next, due_of_place, moved, place_after}
+use Rattle.local_deliver.specs.Table.{Next, due_by, moved, place_after}
 
 -- what it needs is the next of its table
 pub due_is : (m : Local) (args : LocalArgs) (past : List Own) (now : ℕ) (ready : Ready) → Stands m args past → due_now m ≡ Next args past now ready
-due_is m args past now ready s = ap (λ a. due_of_place a m.place) s.args_are ∙ ap (due_of_place args) s.place_is
+due_is m args past now ready s = ap (λ a. due_by a m.place) s.args_are ∙ ap (due_by args) s.place_is
 
 pub stands_on : (m n : Local) (args : LocalArgs) (past : List Own) (event : Own) → Stands m args past → n ≡ gone_on m event.came → m.present ≡ event.read → Stands n args (event ∷ past)
 stands_on m n args past event s on same = record {

@@ -8,8 +8,6 @@ pub mod Failures
 pub mod Table
 -- which delivery stands for which past
 pub mod Stands
--- what becomes of a delivery at a step of its drop
-pub mod DropAfter
 -- what a delivery met and did
 pub mod Deeds
 -- when instructions were carried out
@@ -20,5 +18,9 @@ pub mod Writes
 pub mod Causes
 -- how the injector of forwards gets its input
 pub mod Forwards
+-- what a delivery asks for at all
+pub mod Asked
 -- worked runs
 pub mod Worked
+-- definitions that only proofs and private code need
+pub mod inside

@@ -315,10 +315,10 @@ abbrev pub place_after : LocalArgs → List Own → Place
 place_after args [] = begun
 place_after args (event ∷ before) = moved args (place_after args before) event.read event.came
 
-abbrev pub due_of_place : LocalArgs → Place → NeedData
-due_of_place args p = due_at args p.row p
+abbrev pub due_by : LocalArgs → Place → NeedData
+due_by args p = due_at args p.row p
 
 -- What a local delivery does next: after this past, newest event first. Neither the moment nor what is ready makes a difference;
 -- the moments of its past do, in the names of files in maildirs.
 abbrev pub Next : LocalArgs → List Own → ℕ → Ready → NeedData
-Next args past now ready = due_of_place args (place_after args past)
+Next args past now ready = due_by args (place_after args past)

@@ -30,10 +30,14 @@
 //!   anything else. The input is two netstrings: the message with its Delivered-To line, and the envelope for the
 //!   addresses to which the lines that were reached forward it: the laws `forwards_are_single` and
 //!   `forwards_are_fed`, by `IsForwardInput` (`specs/Forwards.antt`).
+//! - It asks for nothing but file calls, its input and its output, commands, and that injector, and never has to wait.
+//!   The message that a command gets is the one that was taken: the laws `deliveries_ask_for_this` and
+//!   `commands_get_the_message`, and `Local::message`.
 //! - With which exit status it has ended, and why, one way: 0, 100, 111 and 51 alone, each only with a cause in its
 //!   past: the law `statuses_have_causes`, by `IsCausedBy` (`specs/Causes.antt`).
 #![tactic(auto)]
 
+mod asking;
 mod dropping;
 mod failures;
 mod laws;
@@ -45,6 +49,7 @@ mod row;
 mod step;
 mod steps;
 
+pub use asking::{commands_get_the_message, deliveries_ask_for_this};
 pub use dropping::Dropping;
 pub use laws::{
     deliveries_write_on, forwards_are_fed, forwards_are_single, links_are_of_whole_files,

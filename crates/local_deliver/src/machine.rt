@@ -5,7 +5,7 @@ ghost use Rattle.call_fs.specs.declared.past.Own.{Own};
 ghost use Rattle.mail_bytes.specs.Moments.{IsMoment};
 ghost use Rattle.local_parts.specs.declared.arguments.LocalArgs.{LocalArgs as Words};
 ghost use Rattle.local_deliver.specs.Stands.{Stands, due_now, gone_on};
-ghost use Rattle.local_deliver.specs.Table.{Next, act, begun, due_at, due_by_drop, due_of_place, file_wanted};
+ghost use Rattle.local_deliver.specs.Table.{Next, act, begun, due_at, due_by_drop, due_by, file_wanted};
 
 use crate::failures::{status_of, text_of};
 use crate::reading::{closed, named_with, opened_with, read_with};
@@ -38,6 +38,13 @@ impl Local {
             present: 0,
             ready: UNREADY,
         })
+    }
+
+    /// The message that it delivers, once it has taken its input: what a command gets (qmail-command(8)). Takes no memory.
+    pub fn message(&self) -> &Blocks
+        ensures { result.now ≡ self.now.place.message }
+    {
+        &self.place.message
     }
 
     /// Tells it the moment, and what is ready. Takes no memory. The condition: a clock may tell the moment.
@@ -93,7 +100,7 @@ fn begun(alloc: Global) -> Place
 
 /// What is done where it stands.
 fn need_at<'a>(args: &'a LocalArgs, place: &'a Place) -> Need<'a>
-    ensures { due_of result ≡ due_of_place args.now place.now }
+    ensures { due_of result ≡ due_by args.now place.now }
 {
     match place.row {
         Row::TakeInput => Need::Take(Port::Input),
@@ -145,7 +152,7 @@ fn act(
     now: u64,
     got: Got<'_>,
 ) -> Result<(), Memory>
-    requires { IsKind (due_of_place args.now place.old) (came_of got) }
+    requires { IsKind (due_by args.now place.old) (came_of got) }
     ensures ok { OnOk result (place.new ≡ act args.now now place.old.row (came_of got.entry) place.old) }
     ensures err { OnErr result (place.new ≡ place.old) }
 {

@@ -2,7 +2,7 @@
 ghost use Rattle.std.specs.Prelude.{◌≡◌, false, None, OnOk, OnErr, ℕ};
 ghost use Rattle.call_fs.specs.Program.{came_of, IsKind};
 ghost use Rattle.local_deliver.specs.Drops.{end_drop};
-ghost use Rattle.local_deliver.specs.DropAfter.{after_of, is_answer, is_made, went};
+ghost use Rattle.local_deliver.specs.inside.DropAfter.{after_of, is_answer, is_made, went};
 ghost use Rattle.local_parts.specs.declared.arguments.LocalArgs.{LocalArgs as Words};
 ghost use Rattle.local_deliver.specs.Table.{command_failed, due_by_drop, dropped, exited, fed, forward_failed, forwarded, gave, injected, injected_with, input_ended, line_done, ran, started, took};
 

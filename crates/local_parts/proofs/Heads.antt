@@ -13,7 +13,7 @@ use Rattle.std.proofs.lemmas.Slice.Eq.{bytes_eq-Decides}
 use Rattle.mail_bytes.specs.Decimal.{digits, number_of}
 use Rattle.mail_bytes.proofs.Digits.{digits_zero, digits_more, number_of_some}
 use Rattle.local_parts.specs.declared.inputs.Head.{Head}
-use Rattle.local_parts.specs.Heads.{head_with, head_at, head_of}
+use Rattle.local_parts.specs.inside.Heads.{head_with, head_at, head_of}
 use Rattle.local_parts.specs.Inputs.{length_text, sized, message_in}
 
 -- Tests

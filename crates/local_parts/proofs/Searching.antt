@@ -12,7 +12,7 @@ use Rattle.local_parts.proofs.Joined.{joined_append, joined_more}
 use Rattle.local_parts.specs.declared.looping.Scan.{Scan}
 use Rattle.local_parts.specs.declared.looping.Scan.TheVariants as scan
 use Rattle.local_parts.specs.Looping.{is_looping, until_empty}
-use Rattle.local_parts.specs.Scanning.{is_found, is_open, is_next, scan_step, scanned, line_ended, gone_on}
+use Rattle.local_parts.specs.inside.Scanning.{is_found, is_open, is_next, scan_step, scanned, line_ended, gone_on}
 
 -- more bytes
 pub scanned_append : (line : List ℕ) (s : Scan) (a b : List ℕ) → scanned line s (a ++ b) ≡ scanned line (scanned line s a) b

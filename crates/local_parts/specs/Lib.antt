@@ -4,14 +4,10 @@ pub mod Arguments
 pub mod Names
 -- what the fields of blocks keep
 pub mod BlocksInside
--- the head of an input
-pub mod Heads
 -- which input is a message
 pub mod Inputs
 -- the lines before a message
 pub mod Texts
--- how a header is searched
-pub mod Scanning
 -- which message is looping
 pub mod Looping
 -- the name of the host
@@ -28,3 +24,5 @@ pub mod Forwarding
 pub mod Endings
 -- what a delivery that went well prints
 pub mod Tally
+-- definitions that only proofs and private code need
+pub mod inside

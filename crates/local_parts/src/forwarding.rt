@@ -143,7 +143,8 @@ fn owner_sender(alloc: Global, args: &LocalArgs, is_each: bool) -> Result<ByteTe
     Ok(text)
 }
 
-/// The injection of a message, which goes with this line before it, with this envelope.
+/// The injection of a message, which goes with this line before it, with this envelope. Its text is made at once in its
+/// whole room, so that no part of the message is there a third time while it grows.
 fn injected(
     alloc: Global,
     line: &[u8],
@@ -152,8 +153,9 @@ fn injected(
 ) -> Result<Injection, Memory>
     ensures { IfOk result (λ it. it ≡ injected (line.now ++ message.now) envelope.now) }
 {
-    let mut text = ByteText::new(alloc);
     let len = sum(line.len(), message.len())?;
+    let both = sum(len, envelope.len())?;
+    let mut text = roomy(alloc, sum(both, HEADS_ROOM)?)?;
     put_head(&mut text, len)?;
     text.extend(line)?;
     message.put_into(&mut text)?;
@@ -161,8 +163,18 @@ fn injected(
     put_head(&mut text, envelope.len())?;
     text.extend(envelope)?;
     text.extend(b",")?;
-    let room = sum(len, envelope.len())? as u64;
+    let room = both as u64;
     Ok(Injection { text, room })
+}
+
+/// The heads of two netstrings and their commas have no more bytes.
+const HEADS_ROOM: usize = 2 * (20 + 1 + 1);
+
+/// An empty text with room for so many bytes.
+fn roomy(alloc: Global, room: usize) -> Result<ByteText, Memory>
+    ensures { IfOk result (λ text. text ≡ []) }
+{
+    Ok(ByteText::from_vec(Vec::with_capacity(alloc, room)?))
 }
 
 /// Puts the head of a netstring of so many bytes at the end of a text. After an `Err` it is to be let go.

@@ -1,6 +1,6 @@
 // Which input is a message.
 ghost use Rattle.std.specs.Prelude.{◌≡◌, ◌==◌, ◌<◌, ◌≤◌, ◌-◌, ◌∷◌, [], Some, IfOk, length, drop, bytes_eq, position};
-ghost use Rattle.local_parts.specs.Heads.{head_at, head_of};
+ghost use Rattle.local_parts.specs.inside.Heads.{head_at, head_of};
 ghost use Rattle.local_parts.specs.Inputs.{message_in, sized};
 
 use crate::Blocks;

@@ -2,7 +2,7 @@
 ghost use Rattle.std.specs.Prelude.{◌≡◌, ◌++◌};
 ghost use Rattle.mail_bytes.specs.Blocks.{joined};
 ghost use Rattle.local_parts.specs.Looping.{is_looping};
-ghost use Rattle.local_parts.specs.Scanning.{gone_on, is_found, is_open, line_ended, scan_step, scanned};
+ghost use Rattle.local_parts.specs.inside.Scanning.{gone_on, is_found, is_open, line_ended, scan_step, scanned};
 
 use crate::Blocks;
 

@@ -17,10 +17,10 @@ use Rattle.call_fs.specs.declared.program.TheConstants.{INPUT_READY}
 use Rattle.queue_inject.specs.declared.injection.Arguments.{Arguments}
 use Rattle.queue_inject.specs.declared.row.Row.TheVariants as at
 use Rattle.queue_inject.specs.Machine.{Machine}
-use Rattle.queue_inject.specs.Table.{has_input, in_time, is_late, call_of, Next}
-use Rattle.fed_injector.specs.declared.fed.FedInjector.{FedInjector}
-use Rattle.fed_injector.specs.declared.fed.Input.{Input}
-use Rattle.fed_injector.specs.declared.fed.Input.TheVariants.{Awaited, Given, Cut}
+use Rattle.queue_inject.specs.Table.{has_input, in_time, is_late, due_by as inject_due, Next}
+use Rattle.fed_injector.specs.declared.machine.FedInjector.{FedInjector}
+use Rattle.fed_injector.specs.declared.machine.Input.{Input}
+use Rattle.fed_injector.specs.declared.machine.Input.TheVariants.{Awaited, Given, Cut}
 use Rattle.fed_injector.specs.Inputs.{IsWaiting, StandsWith, is_awaited}
 use Rattle.world_events.specs.declared.event.Event.{Event as Kept}
 use Rattle.world_events.specs.declared.event.Program.{Program}
@@ -248,7 +248,7 @@ owes_none x events program past rest at o follows awaits =
 no_input : (s : State) (a : List ℕ) (args : Arguments) → is_awaiting s a ≡ true → has_input (found_by s a (Injector args)) ≡ false
 no_input s a args awaits = ap (λ (t : Bool). has_input (if t then input_alone false else INPUT_READY)) awaits
 
-first_waits : (late : Bool) (args : Arguments) → in_time false late (call_of args (at.Create 1)) ≡ needs.Wait
+first_waits : (late : Bool) (args : Arguments) → in_time false late (inject_due args (at.Create 1)) ≡ needs.Wait
 first_waits late args = refl
 
 pub due_waits : (s : State) (a : List ℕ) (m : AnyMachine) (program : Program) (past : List Own) (now : ℕ) → Follows m program past → awaits_of m ≡ true → is_awaiting s a ≡ true
@@ -256,7 +256,7 @@ pub due_waits : (s : State) (a : List ℕ) (m : AnyMachine) (program : Program) 
 due_waits s a m program past now follows awaits is =
     let w = it_waits m program past follows awaits in
     ap (λ (program : Program). next_of program past now (found_by s a program)) w.runs ∙ ap (λ (past : List Own). Next w.args past now (found_by s a (Injector w.args))) w.past_is
-    ∙ ap (λ (t : Bool). in_time t (is_late w.args now) (call_of w.args (at.Create 1))) (no_input s a w.args is) ∙ first_waits (is_late w.args now) w.args
+    ∙ ap (λ (t : Bool). in_time t (is_late w.args now) (inject_due w.args (at.Create 1))) (no_input s a w.args is) ∙ first_waits (is_late w.args now) w.args
 
 -- and it may be told what it finds
 mail_can : (s : State) (a : List ℕ) (m : FedInjector) (program : Program) (past : List Own) → Mails m program past → (IsMail program → is_awaited m.input ≡ is_awaiting s a) → CanFind (Mail m) (found_by s a program)

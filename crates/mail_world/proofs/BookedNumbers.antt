@@ -23,7 +23,7 @@ use Rattle.queue_inject.proofs.Acts.{IsAlone, next_alone}
 use Rattle.queue_inject.specs.declared.injection.Arguments.{Arguments}
 use Rattle.queue_inject.specs.declared.row.Row.{Row}
 use Rattle.queue_inject.specs.declared.row.Row.TheVariants as at
-use Rattle.queue_inject.specs.Table.{Work, work_of, call_of, in_time, moved, row_after, goes_to, past_bytes, past_piece}
+use Rattle.queue_inject.specs.Table.{Work, work_of, due_by as inject_due, in_time, moved, place_after as inject_after, goes_to, past_bytes, past_piece}
 use Rattle.queue_paths.specs.Names.{Name, path, parse, is_number, used}
 use Rattle.queue_paths.specs.Names.Name.{Pid, Of}
 use Rattle.queue_paths.specs.Names.Part.{Mess, Intd, Todo, Info, Local, Remote, Bounce}
@@ -236,7 +236,7 @@ to_todo old k answer n begins =
     let w = link_number old (path (Of Todo k)) answer n begins in
     let both : ◌≡◌ {A = Option ℕ} None (Some n) = sym (ap mess_number (exact.parse_path (Of Todo k))) ∙ w.1 in absurd (cc)
 
-at_link : (args : Arguments) (row : Row) (c : CallData) (answer : Answer) (n : ℕ) → call_of args row ≡ needs.File c → begun_by c answer ≡ Some n → IsAtLink row answer
+at_link : (args : Arguments) (row : Row) (c : CallData) (answer : Answer) (n : ℕ) → inject_due args row ≡ needs.File c → begun_by c answer ≡ Some n → IsAtLink row answer
 at_link args (at.Create seq) c answer n due begins = absurd (begins_none_else _ c answer n due refl begins)
 at_link args (at.LinkMess seq k fd) c answer n due begins =
     let own : CallData = call.Link (path (Pid args.pid args.start seq)) (path (Of Mess k)) in
@@ -322,7 +322,7 @@ timely input late due c h = absurd (cc)
 -- What holds of the program and the past of an actor
 
 abbrev HasBegun : Program → List Own → Type 0
-HasBegun (Injector args) past = IsPastLink (row_after args past)
+HasBegun (Injector args) past = IsPastLink (inject_after args past)
 HasBegun other past = ⊥
 
 abbrev Runs : (Program → List Own → Type 0) → Option Actor → Type 0
@@ -459,10 +459,10 @@ call_told : (h : List Event) (s : State) (b : List ℕ) (read : ℕ) (ready : Re
     → EachIn (books_after (bouncer_of s b) s.books b program past read ready (needs.File c) (Answered got))
     (IsTold (Act b (own_call read ready c got) wrote ∷ h) (put_at s.actors b (Some (record { program = program; past = own_call read ready c got ∷ past; life = life }))))
 call_told h s b read ready c got wrote (Injector args) past life runs is due mailed all =
-    let row = row_after args past in
+    let row = inject_after args past in
     let own : Own = own_call read ready c got in
     let now : Actor = record { program = Injector args; past = own ∷ past; life = life } in
-    let call_is : call_of args row ≡ needs.File c = timely _ _ _ c due in
+    let call_is : inject_due args row ≡ needs.File c = timely _ _ _ c due in
     let told : Option ℕ = number_by (needs.File c) (Answered got) in
     call_holds s.books b args c got.answer (IsTold (Act b own wrote ∷ h) (put_at s.actors b (Some now)))
     (λ q there.

@@ -10,11 +10,11 @@ use Rattle.call_fs.specs.declared.past.NeedData.TheVariants as needs
 use Rattle.call_fs.specs.declared.program.Port.{Port}
 use Rattle.call_fs.specs.declared.program.Port.TheVariants as port
 use Rattle.call_fs.specs.Program.{IsTaken, MayCome}
+use Rattle.call_fs.proofs.Coming.{fits_answer}
 use Rattle.mail_world.specs.History.{Life, State, ComesOf, IsEnding, IsStatusOf, TenantEnds}
 use Rattle.mail_world.specs.History.Life.{Alive, Over, Stopped}
 use Rattle.mail_world.specs.Pipework.{Pipe, Tenant, Yields}
 use Rattle.mail_world.specs.Pipework.Tenant.{Runs, Remote}
-use Rattle.mail_world.proofs.Opens.{fits_answer}
 
 yields_taken : (pipe : Pipe) (p : Port) (came : GotData) → ((bytes : List ℕ) → IsTaken p (got.Took bytes)) → IsTaken p got.End → IsTaken p got.Failed → Yields pipe came → IsTaken p came
 yields_taken pipe p (got.Took bytes) took ends fails y = took bytes

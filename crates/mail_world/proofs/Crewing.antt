@@ -3,7 +3,7 @@ use Rattle.std.proofs.Common.{◌≡◌, ◌⊎◌, inl, inr, ℕ, zero, suc, �
 use Rattle.std.specs.Prelude.{if◌then◌else◌, nat_lt, option_map}
 use Rattle.std.specs.List.{slice_get, list_any}
 use Rattle.std.proofs.Math.Bool.{or-false, or-true}
-use Rattle.std.proofs.lemmas.Bool.{lt-ltb, le-ltb, ltb-true, ltb-false}
+use Rattle.std.proofs.lemmas.Bool.{lt-ltb, le-ltb}
 use Rattle.std.proofs.lemmas.List.{length-append}
 use Rattle.std.proofs.lemmas.List.Folds.{list_any-append}
 use Rattle.std.proofs.lemmas.Option.{slice_get_within}
@@ -16,6 +16,7 @@ use Rattle.mail_world.specs.Starts.{AreStarts}
 use Rattle.mail_world.specs.Inside.{among_all}
 use Rattle.mail_world.proofs.Begun.{after_seat, place_of_mail, same_some, four_places}
 use Rattle.mail_world.proofs.Members.{whether}
+use Rattle.mail_world.proofs.Placing.{low_or_high, number_members, others_members, crew_members}
 use Rattle.mail_world.proofs.Seats.{seat_some, seat_none, no_seat}
 
 -- two lists, one after the other
@@ -63,12 +64,6 @@ new_entry : (crew newest at entry : ℕ) → entry < 4 → newest ≤ at → pla
 new_entry crew newest at entry low after =
     ap (λ (t : Bool). if t then (if nat_lt at newest then None else Some entry) else Some (crew + (entry - 4))) (lt-ltb entry 4 low)
     ∙ ap (λ (t : Bool). if t then None else Some entry) (le-ltb at newest after)
-
-low_or_high : (n m : ℕ) → (n < m) ⊎ (m ≤ n)
-low_or_high n m = by_test (nat_lt n m) refl where
-  by_test : (t : Bool) → nat_lt n m ≡ t → (n < m) ⊎ (m ≤ n)
-  by_test true e = inl (ltb-true n m e)
-  by_test false e = inr (ltb-false n m e)
 
 module _ (starts later : Starts) (crew : ℕ) (places : List ℕ → Option ℕ) (names : List (List ℕ)) (order : later.order.items ≡ starts.order.items ++ 0 ∷ 1 ∷ 2 ∷ 3 ∷ [])
     (newest : later.newest ≡ length starts.order.items) (are : AreStarts starts crew places names) where
@@ -173,6 +168,11 @@ module _ (starts later : Starts) (crew : ℕ) (places : List ℕ → Option ℕ)
         ap is_some (new_placed at entry b f)
         ∙ ap not (sym (ap (list_any (bytes_eq b)) (drop_past names members (suc at) (suc f.0) (omega (arith, end))) ∙ (fine f.0 entry b f.2 f.3).3)))
         (which at entry b is named);
+    begun = sym (crew_members names);
+    numbered = λ b other. are.numbered b other ∙ sym (number_members names 0 b);
+    filled = λ k low.
+        let was = are.filled k (subst (λ (m : ℕ). k < m) (others_members names) low) in
+        (was.0, was.1, number_members names 0 was.0 ∙ was.2);
   } where
     four_known : (j : ℕ) (b : List ℕ) → slice_get members j ≡ Some b → is_some (among_all 4 places b) ≡ true
     four_known zero b is = let n : codes "sender" ≡ b = cc in ap (λ (b : List ℕ). is_some (among_all 4 places b)) (sym n)

@@ -21,6 +21,7 @@ use Rattle.mail_world.specs.Readiness.{is_gone, has_ended, lowest_ended, input_a
 use Rattle.mail_world.specs.Wired.{IsOwnPort, AreWired, AreOver, slots_at, HaveSlots}
 use Rattle.mail_world.specs.Inside.{RunsBy}
 use Rattle.mail_world.specs.ByKind.{IsMail}
+use Rattle.actor_names.specs.Members.{member_at}
 use Rattle.mail_world.specs.Crew.{FindsBy, IsFoundAt, input_of}
 use Rattle.mail_world.proofs.Feeds.{own_pipe, own_tenant}
 use Rattle.mail_world.proofs.Lists.{some_at}
@@ -147,8 +148,8 @@ found_is s wires mouths a None program awaits ready wired slots over at runs sam
   by_program : (program : Program) → IsMail program → awaits ≡ is_awaiting s a → ready ≡ found_by s a program
   by_program (Injector args) mail same = found ∙ ap (λ (t : Bool). if t then input_alone false else INPUT_READY) same
   by_program other mail same = absurd mail
-found_is s wires mouths a (Some i) program awaits ready wired slots over at runs same found = by_member (some_at (λ m. FindsBy i m ready) (slice_get mouths i) found) where
-  by_member : (m : Mouths) × (slice_get mouths i ≡ Some m) × FindsBy i m ready → ready ≡ found_by s a program
+found_is s wires mouths a (Some i) program awaits ready wired slots over at runs same found = by_member (some_at (λ m. FindsBy (member_at i) m ready) (slice_get mouths i) found) where
+  by_member : (m : Mouths) × (slice_get mouths i ≡ Some m) × FindsBy (member_at i) m ready → ready ≡ found_by s a program
   by_member found = by_seat i program runs at found.1 found.2 where
     m : Mouths
     m = found.0
@@ -162,13 +163,13 @@ found_is s wires mouths a (Some i) program awaits ready wired slots over at runs
         finds ∙ ap (λ (p : Pipe). record { links = is_ready p ∷ false ∷ false ∷ false ∷ []; child = child }) (pipe i at is port.Input tt)
 
     -- who finds which of its programs has ended, at a place from the third on
-    or_child : (j : ℕ) → wires a ≡ Some (suc (suc j)) → slice_get mouths (suc (suc j)) ≡ Some m → FindsBy (suc (suc j)) m ready → ready ≡ input_or_child s a
+    or_child : (j : ℕ) → wires a ≡ Some (suc (suc j)) → slice_get mouths (suc (suc j)) ≡ Some m → FindsBy None m ready → ready ≡ input_or_child s a
     or_child j at is finds =
         input (suc (suc j)) at is finds.0 finds.2
         ∙ ap (λ (child : Option ℕ). record { links = is_ready (s.pipework.pipes a port.Input) ∷ false ∷ false ∷ false ∷ []; child = child })
         (sym (lowest_found s wires mouths a (suc (suc j)) m finds.0 wired slots over at is finds.1))
 
-    by_seat : (i : ℕ) (program : Program) → RunsBy (Some i) program → wires a ≡ Some i → slice_get mouths i ≡ Some m → FindsBy i m ready → ready ≡ found_by s a program
+    by_seat : (i : ℕ) (program : Program) → RunsBy (Some i) program → wires a ≡ Some i → slice_get mouths i ≡ Some m → FindsBy (member_at i) m ready → ready ≡ found_by s a program
     by_seat zero (Sender start) runs at is finds =
         let f : List Bool → Bool → Ready = λ l b. record { links = l; child = only_child b } in
         finds

@@ -31,6 +31,8 @@ pub mod Found
 pub mod Begun
 -- the actor at a place
 pub mod Noted
+-- where each stands, by who started
+pub mod Placing
 -- the order of starts
 pub mod Starting
 pub mod Crewing

@@ -19,7 +19,7 @@ use Rattle.call_fs.specs.declared.past.Own.{Own}
 use Rattle.queue_inject.specs.declared.injection.Arguments.{Arguments}
 use Rattle.queue_inject.specs.declared.row.Row.{Row}
 use Rattle.queue_inject.specs.declared.row.Row.TheVariants as at
-use Rattle.queue_inject.specs.Table.{call_of, in_time}
+use Rattle.queue_inject.specs.Table.{due_by as inject_due, in_time}
 use Rattle.queue_inject.specs.Texts.{recipients_of}
 use Rattle.queue_paths.specs.Names.{path, parse}
 use Rattle.queue_paths.specs.Names.Name.{Pid, Of}
@@ -73,7 +73,7 @@ to_todo n = ap (is_to_todo (path (Of Intd n))) (exact.parse_path (Of Todo n)) �
 due_agrees : (own call : CallData) → ◌≡◌ {A = NeedData} (needs.File own) (needs.File call) → Agrees own → Agrees call
 due_agrees own call due h = let same : own ≡ call = cc in subst Agrees same h
 
-row_agrees : (args : Arguments) (row : Row) (call : CallData) → call_of args row ≡ needs.File call → Agrees call
+row_agrees : (args : Arguments) (row : Row) (call : CallData) → inject_due args row ≡ needs.File call → Agrees call
 row_agrees args (at.Create seq) call due = due_agrees _ call due (λ answer. refl)
 row_agrees args (at.LinkMess seq n fd) call due = due_agrees _ call due (link_agrees (path (Pid args.pid args.start seq)) (path (Of Mess n)) (to_mess (path (Pid args.pid args.start seq)) n))
 row_agrees args (at.UnlinkPid seq n fd) call due = due_agrees _ call due (λ answer. refl)

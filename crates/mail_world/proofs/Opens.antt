@@ -1,5 +1,5 @@
 -- What a call opens or closes, and that what a past holds stays open, and its own.
-use Rattle.std.proofs.Common.{◌≡◌, ◌≢◌, ◌⊎◌, inl, inr, ℕ, List, [], ◌∷◌, ◌++◌, Option, Some, None, IsSome, refl, sym, ap, ◌∙◌, subst, ⊎_elim, arith}
+use Rattle.std.proofs.Common.{◌≡◌, ◌≢◌, ◌⊎◌, inl, inr, ℕ, List, [], ◌∷◌, ◌++◌, Option, Some, None, IsSome, refl, sym, ap, ◌∙◌, subst, ⊎_elim}
 use Rattle.std.specs.Prelude.{option_map}
 use Rattle.call_fs.specs.declared.calls.Fd.{Fd}
 use Rattle.call_fs.specs.declared.calls.How.{How}
@@ -12,7 +12,6 @@ use Rattle.call_fs.specs.Disk.{Disk, File, Open}
 use Rattle.call_fs.specs.declared.modes.Mode.{Mode}
 use Rattle.call_fs.specs.Maps.{put}
 use Rattle.call_fs.specs.Apply.{effect, changed, with_open, Fits}
-use Rattle.call_fs.specs.Columns.{IsAnswerTo}
 use Rattle.call_fs.specs.Past.{held_after, Uses, Backs}
 use Rattle.call_fs.proofs.Maps.{put_cases, put_other}
 use Rattle.mail_world.specs.History.{held_by}
@@ -109,52 +108,6 @@ opens_by d now (call.NextName dir last) (told.Name name) w h a fits = inl (recor
 opens_by d now (call.NextName dir last) told.NoName w h a fits = inl (record { opens = refl; holder = refl; held = λ m. refl; list = λ fds. refl })
 opens_by d now (call.NextName dir last) (told.Refused why) w h a fits = inl (record { opens = refl; holder = refl; held = λ m. refl; list = λ fds. refl })
 opens_by d now (call.NextName dir last) answer w h a fits = absurd fits
-
--- an answer that fits is one to its call
-pub fits_answer : (d : Disk) (c : CallData) (answer : Answer) (w : ℕ) → Fits d c answer w → IsAnswerTo c answer
-fits_answer d (call.CreateExcl name) (told.Created fd n) w fits = tt
-fits_answer d (call.CreateExcl name) (told.Refused why) w fits = tt
-fits_answer d (call.CreateExcl name) answer w fits = absurd fits
-fits_answer d (call.Open name how) (told.Opened fd) w fits = tt
-fits_answer d (call.Open name how) (told.Refused NotThere) w fits = tt
-fits_answer d (call.Open name how) (told.Refused Fault) w fits = tt
-fits_answer d (call.Open name how) (told.Refused Memory) w fits = tt
-fits_answer d (call.Open name how) answer w fits = absurd fits
-fits_answer d (call.ReadAt fd at len) (told.Count n) w fits = let is = fits.1 in omega arith
-fits_answer d (call.ReadAt fd at len) (told.Refused Fault) w fits = tt
-fits_answer d (call.ReadAt fd at len) answer w fits = absurd fits
-fits_answer d (call.WriteAt fd at bytes) told.Done w fits = tt
-fits_answer d (call.WriteAt fd at bytes) (told.Refused Fault) w fits = tt
-fits_answer d (call.WriteAt fd at bytes) (told.Refused Memory) w fits = tt
-fits_answer d (call.WriteAt fd at bytes) answer w fits = absurd fits
-fits_answer d (call.Append fd bytes) told.Done w fits = tt
-fits_answer d (call.Append fd bytes) (told.Refused Fault) w fits = tt
-fits_answer d (call.Append fd bytes) (told.Refused Memory) w fits = tt
-fits_answer d (call.Append fd bytes) answer w fits = absurd fits
-fits_answer d (call.Truncate fd len) told.Done w fits = tt
-fits_answer d (call.Truncate fd len) (told.Refused Fault) w fits = tt
-fits_answer d (call.Truncate fd len) answer w fits = absurd fits
-fits_answer d (call.Sync fd) told.Done w fits = tt
-fits_answer d (call.Sync fd) (told.Refused Fault) w fits = tt
-fits_answer d (call.Sync fd) answer w fits = absurd fits
-fits_answer d (call.Close fd) told.Done w fits = tt
-fits_answer d (call.Close fd) answer w fits = absurd fits
-fits_answer d (call.Link old new) told.Done w fits = tt
-fits_answer d (call.Link old new) (told.Refused why) w fits = tt
-fits_answer d (call.Link old new) answer w fits = absurd fits
-fits_answer d (call.Unlink name) told.Done w fits = tt
-fits_answer d (call.Unlink name) (told.Refused NotThere) w fits = tt
-fits_answer d (call.Unlink name) (told.Refused Fault) w fits = tt
-fits_answer d (call.Unlink name) answer w fits = absurd fits
-fits_answer d (call.Stat name) (told.Stat stat) w fits = tt
-fits_answer d (call.Stat name) (told.Refused NotThere) w fits = tt
-fits_answer d (call.Stat name) (told.Refused Fault) w fits = tt
-fits_answer d (call.Stat name) answer w fits = absurd fits
-fits_answer d (call.NextName dir last) (told.Name name) w fits = tt
-fits_answer d (call.NextName dir last) told.NoName w fits = tt
-fits_answer d (call.NextName dir last) (told.Refused NotThere) w fits = tt
-fits_answer d (call.NextName dir last) (told.Refused Fault) w fits = tt
-fits_answer d (call.NextName dir last) answer w fits = absurd fits
 
 -- Whose they are
 

@@ -15,7 +15,7 @@ use Rattle.call_fs.specs.Apply.{effect, Fits}
 use Rattle.call_fs.specs.Disk.{Disk, Open}
 use Rattle.call_fs.specs.Past.{IsRunBy, UsesHeld, held}
 use Rattle.queue_inject.specs.declared.row.Row.TheVariants as at
-use Rattle.queue_inject.specs.Table.{row_after, has_input}
+use Rattle.queue_inject.specs.Table.{place_after as inject_after, has_input}
 use Rattle.queue_inject.proofs.Holds.{holds_what_it_uses}
 use Rattle.mail_world.specs.Acting.{IsAct}
 use Rattle.queue_inject.proofs.Acts.{IsAlone, next_alone}
@@ -35,7 +35,7 @@ use Rattle.mail_world.specs.Waiting.{IsBooked}
 use Rattle.mail_world.specs.Readiness.{input_alone, only_child, has_ended, is_awaiting, found_by}
 use Rattle.mail_world.specs.World.{most_of}
 use Rattle.call_fs.specs.declared.file_system.TheConstants.{PIECE}
-use Rattle.fed_injector.specs.declared.fed.FedInjector.{FedInjector}
+use Rattle.fed_injector.specs.declared.machine.FedInjector.{FedInjector}
 use Rattle.mail_world.specs.ByKind.{IsMail, takes_of, Leaves, Follows, Mails, Cleans, Sends, SpawnsLocals, Spawns, Delivers}
 use Rattle.queue_clean.specs.Machine.{Machine as Cleaning}
 use Rattle.send_core.specs.Stands.{Machine as Sending}
@@ -197,7 +197,7 @@ fares_later now m later q a other past life F = absurd F
 
 -- a program that is at its end with 0
 abbrev pub IsDone : Program → List Own → Type 0
-IsDone (Injector args) past = row_after args past ≡ at.Queued
+IsDone (Injector args) past = inject_after args past ≡ at.Queued
 IsDone other past = Unit {0}
 
 pub fares_done : (now : ℕ) (q : Queue) (a : List ℕ) (program : Program) (past : List Own) (life : Life) (read : ℕ) (ready : Ready)

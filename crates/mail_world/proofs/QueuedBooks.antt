@@ -21,7 +21,7 @@ use Rattle.call_fs.proofs.Maps.{put_cases, put_at_cases, put_at_same, put_at_oth
 use Rattle.queue_inject.specs.declared.injection.Arguments.{Arguments}
 use Rattle.queue_inject.specs.declared.row.Row.{Row}
 use Rattle.queue_inject.specs.declared.row.Row.TheVariants as at
-use Rattle.queue_inject.specs.Table.{call_of, in_time, has_input, is_late, moved, row_after}
+use Rattle.queue_inject.specs.Table.{due_by as inject_due, in_time, has_input, is_late, moved, place_after as inject_after}
 use Rattle.queue_limits.specs.declared.statuses.TheConstants.{DONE}
 use Rattle.queue_paths.specs.Names.{Name, path, parse}
 use Rattle.queue_paths.specs.Names.Name.{Pid, Of}
@@ -190,7 +190,7 @@ linked_told d (k ∷ events) ((Halt how contents) ∷ h) legal told q is agreed 
 
 abbrev HasRow : Option Actor → Type 0
 HasRow None = ⊥
-HasRow (Some x) = (args : Arguments) × (x.program ≡ Injector args) × (row_after args x.past ≡ at.Queued)
+HasRow (Some x) = (args : Arguments) × (x.program ≡ Injector args) × (inject_after args x.past ≡ at.Queued)
 
 -- the call that accepts is the one after which it has
 
@@ -215,7 +215,7 @@ to_message old n answer agreed =
     let w = link_answer old (path (Of Mess n)) answer agreed in
     let both : false ≡ true = sym (ap (is_to_todo old) (exact.parse_path (Of Mess n))) ∙ w.1 in absurd (cc)
 
-row_queued : (args : Arguments) (row : Row) (c : CallData) (answer : Answer) → call_of args row ≡ needs.File c → is_accepting c answer ≡ true → moved args row answer ≡ at.Queued
+row_queued : (args : Arguments) (row : Row) (c : CallData) (answer : Answer) → inject_due args row ≡ needs.File c → is_accepting c answer ≡ true → moved args row answer ≡ at.Queued
 row_queued args (at.Create seq) c answer due agreed = absurd (other_call _ c answer due refl agreed)
 row_queued args (at.LinkMess seq n fd) c answer due agreed =
     let own : CallData = call.Link (path (Pid args.pid args.start seq)) (path (Of Mess n)) in
@@ -244,15 +244,15 @@ timely false late (needs.File own) c h = absurd (cc)
 timely input late due c h = absurd (cc)
 
 abbrev HasQueuedRow : Program → List Own → Type 0
-HasQueuedRow program past = (args : Arguments) × (program ≡ Injector args) × (row_after args past ≡ at.Queued)
+HasQueuedRow program past = (args : Arguments) × (program ≡ Injector args) × (inject_after args past ≡ at.Queued)
 
 -- an injector that has queued its message ends next
-ends_next : (args other : Arguments) (past : List Own) (read : ℕ) (ready : Ready) (due : NeedData) → Injector args ≡ Injector other → row_after other past ≡ at.Queued
+ends_next : (args other : Arguments) (past : List Own) (read : ℕ) (ready : Ready) (due : NeedData) → Injector args ≡ Injector other → inject_after other past ≡ at.Queued
     → next_of (Injector args) past read ready ≡ due → due ≡ needs.Ended DONE
 ends_next args other past read ready due is row next =
     let same : args ≡ other = cc in
-    let queued : row_after args past ≡ at.Queued = ap (λ args. row_after args past) same ∙ row in
-    sym next ∙ ap (λ (row : Row). in_time (has_input ready) (is_late args read) (call_of args row)) queued
+    let queued : inject_after args past ≡ at.Queued = ap (λ args. inject_after args past) same ∙ row in
+    sym next ∙ ap (λ (row : Row). in_time (has_input ready) (is_late args read) (inject_due args row)) queued
 
 call_row : (program : Program) (past : List Own) (read : ℕ) (ready : Ready) (c : CallData) (got : Told) (before : Bool) → MayRun program → next_of program past read ready ≡ needs.File c
     → (before ≡ true → HasQueuedRow program past) → (is_accepting c got.answer || before) ≡ true → HasQueuedRow program (own_call read ready c got ∷ past)
@@ -260,7 +260,7 @@ call_row (Injector args) past read ready c got true runs due old agreed =
     let w = old refl in
     let ends : needs.File c ≡ needs.Ended DONE = ends_next args w.0 past read ready (needs.File c) w.1 w.2 due in absurd (cc)
 call_row (Injector args) past read ready c got false runs due old agreed =
-    (args, refl, row_queued args (row_after args past) c got.answer (timely _ _ _ c due) (sym (or-false (is_accepting c got.answer)) ∙ agreed))
+    (args, refl, row_queued args (inject_after args past) c got.answer (timely _ _ _ c due) (sym (or-false (is_accepting c got.answer)) ∙ agreed))
 call_row other past read ready c got before runs due old agreed = absurd runs
 
 pass_accepts : (due : NeedData) (came : GotData) → IsPass due → is_accepting_by due came ≡ false

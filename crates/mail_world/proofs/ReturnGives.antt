@@ -2,7 +2,7 @@
 use Rattle.std.proofs.Common.{◌≡◌, ℕ, List, [], ◌∷◌, None, refl, sym, ap, ◌∙◌, subst}
 use Rattle.bounce_record.specs.declared.return_row.ReturnRow.{ReturnRow}
 use Rattle.bounce_record.specs.declared.return_row.ReturnRow.TheVariants as back
-use Rattle.bounce_record.specs.Returning.{Returning, due_of_return, return_due_at, returned_at as return_moved}
+use Rattle.bounce_record.specs.Returning.{Returning, due_by as return_due, due_at as return_due_at, moved_at as return_moved}
 use Rattle.call_fs.specs.declared.past.ChildData.{ChildData}
 use Rattle.call_fs.specs.declared.past.ChildData.TheVariants as child
 use Rattle.call_fs.specs.declared.past.GotData.{GotData}
@@ -20,7 +20,7 @@ use Rattle.send_core.specs.declared.row.Row.{Row}
 use Rattle.send_core.specs.declared.row.Row.TheVariants as at
 use Rattle.send_core.specs.Desk.{ready as ready_on_both}
 use Rattle.send_core.specs.Finish.{finish_at, returned_to}
-use Rattle.send_core.specs.Table.{act, arrive, desk_after, due_at, moved_by, row_now}
+use Rattle.send_core.specs.Table.{act, arrive, place_after as sender_after, due_at, moved_by, row_now}
 use Rattle.world_events.specs.declared.event.Program.TheVariants.{Sender}
 use Rattle.mail_world.specs.History.{next_of}
 use Rattle.mail_world.specs.Inside.{IsBirth, HasBorneLast}
@@ -31,21 +31,21 @@ use Rattle.mail_world.proofs.ReturnSteps.{IsReturn, returns_there, arrived, AreT
 -- what is due of a child is what is due of the return at which a sender is
 record AtReturn (past : List Own) (now : ℕ) (ready : Ready) (due : NeedData) : Type 0 where
   n : ℕ
-  row : (desk_after None past).row ≡ at.Finish finish.Return n
-  is : due_of_return (desk_after None past).bounce ≡ due
+  row : (sender_after None past).row ≡ at.Finish finish.Return n
+  is : return_due (sender_after None past).bounce ≡ due
 
 at_return : (began : ℕ) (past : List Own) (now : ℕ) (ready : Ready) (due : NeedData) → next_of (Sender began) past now ready ≡ due → IsOfChild due → AtReturn past now ready due
 at_return began past now ready due e asks =
-    let d : Desk = desk_after None past in
+    let d : Desk = sender_after None past in
     let there = returns_alone d (row_now d now ready) (subst IsOfChild (sym e) asks) in
     let row = returns_there d.row (arrived d.row d now ready there) in
     record { n = row.0; row = row.1; is = sym (ap (λ (r : Row). due_at (arrive r d now ready) d) row.1) ∙ e }
 
-borne : (began : ℕ) (past : List Own) (n pid : ℕ) → IsRunBy (next_of (Sender began)) past → (desk_after None past).row ≡ at.Finish finish.Return n → (desk_after None past).bounce.row ≡ back.Give pid
+borne : (began : ℕ) (past : List Own) (n pid : ℕ) → IsRunBy (next_of (Sender began)) past → (sender_after None past).row ≡ at.Finish finish.Return n → (sender_after None past).bounce.row ≡ back.Give pid
     → HasBorneLast past
 borne began [] n pid run row is = absurd (cc)
 borne began (own ∷ before) n pid run row is =
-    let d : Desk = desk_after None before in
+    let d : Desk = sender_after None before in
     let fares = led d own.read own.ready own.came (keeps before) (subst IsReturn (sym row) tt) in
     subst (λ (due : NeedData). IsBirth due own.came) run.1.0 (subst (λ (r : ReturnRow). IsBorne r (due_at (row_now d own.read own.ready) d) own.came) is fares.1)
 
@@ -58,7 +58,7 @@ pub record IsGiving (past : List Own) (slot : ℕ) (bytes : List ℕ) : Type 0 w
 pub gives_texts : (began : ℕ) (past : List Own) (now : ℕ) (ready : Ready) (slot : ℕ) (bytes : List ℕ) → IsRunBy (next_of (Sender began)) past
     → next_of (Sender began) past now ready ≡ needs.Give (port.Program slot) bytes → IsGiving past slot bytes
 gives_texts began past now ready slot bytes run e =
-    let d : Desk = desk_after None past in
+    let d : Desk = sender_after None past in
     let w = at_return began past now ready (needs.Give (port.Program slot) bytes) e tt in
     let gives = give_row d.bounce.row d.bounce slot bytes w.is in
     let texts : AreTexts d.bounce.input = subst (λ (r : ReturnRow). HasTexts r d.bounce.input) gives.is (keeps past (subst IsReturn (sym w.row) tt)) in
@@ -67,7 +67,7 @@ gives_texts began past now ready slot bytes run e =
 -- what it asks for to be started is the injector of a bounce
 pub sender_asks : (began : ℕ) (past : List Own) (now : ℕ) (ready : Ready) (asked : ChildData) → next_of (Sender began) past now ready ≡ needs.Start asked → (room : ℕ) × (asked ≡ child.Bounce room)
 sender_asks began past now ready asked e =
-    let d : Desk = desk_after None past in
+    let d : Desk = sender_after None past in
     let w = at_return began past now ready (needs.Start asked) e tt in
     (d.bounce.room, (start_row d.bounce.row d.bounce asked w.is).1)
 
@@ -96,16 +96,16 @@ pub birth_gives : (began : ℕ) (past : List Own) → IsRunBy (next_of (Sender b
     → (bytes : List ℕ) × ((now : ℕ) (ready : Ready) → next_of (Sender began) past now ready ≡ needs.Give (port.Program 0) bytes)
 birth_gives began [] run last = absurd last
 birth_gives began (own ∷ before) run last =
-    let d : Desk = desk_after None before in
+    let d : Desk = sender_after None before in
     let b = birth_is own.due own.came last in
     let w = at_return began before own.read own.ready (needs.Start b.0) (run.1.0 ∙ b.2) tt in
     let row : row_now d own.read own.ready ≡ at.Finish finish.Return w.n = ap (λ (r : Row). arrive r d own.read own.ready) w.row in
     let stands : IsAtGive (moved_by (at.Finish finish.Return w.n) own.read (came.Started b.1) d) w.n d.bounce.input =
     of_ready (act (at.Finish finish.Return w.n) own.read (came.Started b.1) d) w.n d.bounce.input (started_desk d.bounce.row w.n own.read b.1 d (start_row d.bounce.row d.bounce b.0 w.is).0) in
-    let there : IsAtGive (desk_after None (own ∷ before)) w.n d.bounce.input =
+    let there : IsAtGive (sender_after None (own ∷ before)) w.n d.bounce.input =
     subst (λ (r : Row). IsAtGive (moved_by r own.read own.came d) w.n d.bounce.input) (sym row)
     (subst (λ (got : GotData). IsAtGive (moved_by (at.Finish finish.Return w.n) own.read got d) w.n d.bounce.input) (sym b.3) stands) in
-    (d.bounce.input, λ now ready. gives_now (desk_after None (own ∷ before)) w.n d.bounce.input now ready there)
+    (d.bounce.input, λ now ready. gives_now (sender_after None (own ∷ before)) w.n d.bounce.input now ready there)
   where
     of_ready : (e : Desk) (n : ℕ) (input : List ℕ) → IsAtGive e n input → IsAtGive (ready_on_both e) n input
     of_ready e n input w = record { pid = w.pid; row = w.row; bounce = w.bounce; text = w.text }

@@ -7,8 +7,8 @@ use Rattle.bounce_record.specs.declared.note_row.NoteRow.{NoteRow}
 use Rattle.bounce_record.specs.declared.note_row.NoteRow.TheVariants as note
 use Rattle.bounce_record.specs.declared.return_row.ReturnRow.{ReturnRow}
 use Rattle.bounce_record.specs.declared.return_row.ReturnRow.TheVariants as back
-use Rattle.bounce_record.specs.Returning.{Returning, awaited_row, bounce_at, due_of_return, envelope_of, given_row, goes as goes_in, made, message_opened, message_read, notes_opened, notes_read, return_begun, return_due_at, returned_at as return_moved, returned_on, started_row, unlinked_row}
-use Rattle.bounce_record.specs.Writing.{Writing, writing_due_at, written_on}
+use Rattle.bounce_record.specs.Returning.{Returning, awaited_row, bounce_at, due_by as return_due, envelope_of, given_row, goes as goes_in, made, message_opened, message_read, notes_opened, notes_read, return_begun, due_at as return_due_at, moved_at as return_moved, moved as return_moved_by, started_row, unlinked_row}
+use Rattle.bounce_record.specs.Writing.{Writing, due_at as note_due_at, moved as note_moved}
 use Rattle.call_fs.specs.declared.calls.Answer.{Answer}
 use Rattle.call_fs.specs.declared.calls.Answer.TheVariants as answer
 use Rattle.call_fs.specs.declared.calls.Fd.{Fd}
@@ -68,7 +68,7 @@ use Rattle.send_core.specs.declared.row.Row.TheVariants as at
 use Rattle.send_core.specs.Desk.{closed, closed_by, due_on, goes, has_begun, is_free_for, next_idle, past_finish, past_todo, request_sent, stands_at, sweep_due, turn_counted, turn_over}
 use Rattle.send_core.specs.Finish.{act_finish, bounce_on, finish_at, looked_up, returned_to, sweep_at, sweep_begun}
 use Rattle.send_core.specs.Start.{start_at}
-use Rattle.send_core.specs.Table.{act, arrive, beginning, busy, desk_after, due_at, finishing, finishing_by, from_begin, from_local, from_point, from_remote, from_reports, from_sweep, from_take, going_on, holds, link_of, marking, marking_by, moved_by, or_else, passing, row_now, sweeping, taking}
+use Rattle.send_core.specs.Table.{act, arrive, beginning, busy, place_after as sender_after, due_at, finishing, finishing_by, from_begin, from_local, from_point, from_remote, from_reports, from_sweep, from_take, going_on, holds, link_of, marking, marking_by, moved_by, or_else, passing, row_now, sweeping, taking}
 use Rattle.send_core.specs.Turn.{act_mark, begin_note, noted, noted_at, begun_at, file_read, in_todo, lost, mark_opened, mark_over, pass_opened, requested, todo_found, todo_named, todo_none, todo_on, todo_over, took, unlinked}
 use Rattle.mail_world.specs.Inside.{IsBirth}
 
@@ -261,7 +261,7 @@ notes_by (note.Close fd) m e = (λ w. w)
 notes_by (note.Shut fd) m e = (λ w. w)
 
 notes : (m : Marked) (got : GotData) (e : Desk) → Quiet (noted m got e)
-notes m got e = notes_by (written_on e.note got).row m (record e { note = written_on e.note got })
+notes m got e = notes_by (note_moved e.note got).row m (record e { note = note_moved e.note got })
 
 marks : (row : MarkRow) (m : Marked) (got : GotData) (e : Desk) → Quiet (act_mark row m got e)
 marks mark.Note m got e = notes m got (begin_note m e)
@@ -489,7 +489,7 @@ returned_leads due got it n now e fares = by it.row where
   by back.Failed = quiet_leads due got (finish_at finish.Later n now (record e { bounce = it })) (finish_past now _)
   by row = λ w. fares
 
-begun_fares : (due : NeedData) (controls : Controls) (sender : List ℕ) (n now : ℕ) (got : GotData) → Fares due got (returned_on controls sender (return_begun n) now got)
+begun_fares : (due : NeedData) (controls : Controls) (sender : List ℕ) (n now : ℕ) (got : GotData) → Fares due got (return_moved_by controls sender (return_begun n) now got)
 begun_fares due controls sender n now (came.Answered told) = opens_notes due (came.Answered told) (return_begun n) told.answer
 begun_fares due controls sender n now got = (tt, tt)
 
@@ -498,7 +498,7 @@ finish_leads finish.OpenBounce n now got e h =
     returned_leads (due_at (at.Finish finish.OpenBounce n) e) got (bounce_on n now got (return_begun n) e.book) n now (record e { busy = true })
     (begun_fares (due_at (at.Finish finish.OpenBounce n) e) e.book.controls (sender_of n e.book.messages.known) n now got)
 finish_leads finish.Return n now got e h =
-    returned_leads (due_of_return e.bounce) got (bounce_on n now got e.bounce e.book) n now e
+    returned_leads (return_due e.bounce) got (bounce_on n now got e.bounce e.book) n now e
     (return_fares e.book.controls (sender_of n e.book.messages.known) e.bounce.row e.bounce now got (h tt))
 finish_leads finish.UnlinkInfo n now got e h =
     quiet_leads (due_at (at.Finish finish.UnlinkInfo n) e) got (act_finish finish.UnlinkInfo n now got e) (finish_goes (finish_to finish.UnlinkInfo (said got).way) n now e (info_leads (said got).way))
@@ -577,9 +577,9 @@ pub led : (d : Desk) (read : ℕ) (ready : Ready) (got : GotData) → Keeps d.ro
     → IsReturn (moved_by (row_now d read ready) read got d).row → Fares (due_at (row_now d read ready) d) got (moved_by (row_now d read ready) read got d).bounce
 led d read ready got k = led_at d.row d read ready got k
 
-pub keeps : (past : List Own) → Keeps (desk_after None past).row (desk_after None past).bounce
+pub keeps : (past : List Own) → Keeps (sender_after None past).row (sender_after None past).bounce
 keeps [] w = absurd w
-keeps (own ∷ before) w = (led (desk_after None before) own.read own.ready own.came (keeps before) w).0
+keeps (own ∷ before) w = (led (sender_after None before) own.read own.ready own.came (keeps before) w).0
 
 -- What is due of a child is a return's
 
@@ -626,7 +626,7 @@ module _ (d : Desk) where
   pass_asks (todo.Left why) p = λ w. w
   pass_asks todo.Lost p = λ w. w
 
-  note_asks : (row : NoteRow) (w : Writing) → IsOfChild (writing_due_at row w) → ⊥
+  note_asks : (row : NoteRow) (w : Writing) → IsOfChild (note_due_at row w) → ⊥
   note_asks note.Open it = λ w. w
   note_asks note.Create it = λ w. w
   note_asks (note.Stat fd) it = λ w. w

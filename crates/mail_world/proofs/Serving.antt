@@ -548,30 +548,10 @@ others_still P actors i x y is name on all j z at other = ⊎_elim
 pub whole_more : (events : List Kept) (k : Kept) → AreWholeGivings (reverse events) → IsWholeGiving k → AreWholeGivings (reverse (events ++ k ∷ []))
 whole_more events k before one = subst AreWholeGivings (sym (reverse-append events (k ∷ []))) (one, before)
 
--- What a step of the parent goes by
-
-pub lives_parent : (o : Option Actor) → lives_in o ≡ true → (parent : Actor) × (o ≡ Some parent) × (parent.life ≡ Alive)
-lives_parent None lives = absurd (cc)
-lives_parent (Some x) lives = (x, refl, by_life x.life lives) where
-  by_life : (life : Life) → lives_in (Some (record { program = x.program; past = x.past; life = life })) ≡ true → life ≡ Alive
-  by_life Alive lives = refl
-  by_life (Over status) lives = absurd (cc)
-  by_life Stopped lives = absurd (cc)
-
-pub alive_lives : (o : Option Actor) (x : Actor) → o ≡ Some x → x.life ≡ Alive → lives_in o ≡ true
-alive_lives o x is alive = ap lives_in is ∙ ap (λ (life : Life). lives_in (Some (record { program = x.program; past = x.past; life = life }))) alive
-
 -- who is alive has a place
 pub parent_at : (places : List ℕ → Option ℕ) (actors : List Held) (s : State) (events : List Kept) (p : ℕ) (a : List ℕ) (parent : Actor) → AreActors places actors s events p → s.actors a ≡ Some parent
     → (i : ℕ) × (places a ≡ Some i)
 parent_at places actors s events p a parent w is = has_place places actors s events p a w (subst (λ (o : Option Actor). IsSome o) (sym is) refl)
-
-pub parent_ready : (crew : ℕ) (mouths : List Mouths) (actors : List Held) (events : List Kept) (p : ℕ) (a : List ℕ) (i : ℕ) (parent : Actor) (ready : Ready)
-    → ArePiped crew mouths actors (known events) events → (here : HasParent actors (known events) events p a i parent) → IsFoundAt mouths here.held.wire (awaits_of here.held.machine) ready → ready ≡ found_in (known events) a
-parent_ready crew mouths actors events p a i parent ready piped here found =
-    let s = known events in
-    let m = here.member in
-    finds_by crew mouths actors s events p i here.held ready m here.is here.lives piped found ∙ sym (ap (found_at s here.held.name) m.is) ∙ ap (found_in s) here.name
 
 -- What of a child is due
 

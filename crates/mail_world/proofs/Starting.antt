@@ -1,5 +1,5 @@
 -- The order of starts, as one event comes.
-use Rattle.std.proofs.Common.{◌≡◌, ◌≢◌, ◌⊎◌, inl, inr, ℕ, suc, ◌+◌, ◌-◌, ◌≤◌, List, [], ◌∷◌, ◌++◌, length, drop, reverse, Bool, true, false, not, ◌||◌, Option, Some, None, is_some, refl, sym, ap, ◌∙◌, subst, ⊎_elim, arith, bytes_eq}
+use Rattle.std.proofs.Common.{◌≡◌, ◌≢◌, ◌⊎◌, inl, inr, ℕ, suc, ◌+◌, ◌-◌, ◌<◌, ◌≤◌, List, [], ◌∷◌, ◌++◌, length, drop, reverse, Bool, true, false, not, ◌||◌, Option, Some, None, is_some, refl, sym, ap, ◌∙◌, subst, ⊎_elim, arith, bytes_eq}
 use Rattle.std.specs.Prelude.{if◌then◌else◌, nat_lt}
 use Rattle.std.specs.List.{slice_get, list_any}
 use Rattle.std.proofs.Math.Bool.{or-false}
@@ -10,7 +10,7 @@ use Rattle.std.proofs.lemmas.Option.{slice_get_within}
 use Rattle.call_fs.specs.Disk.{Disk}
 use Rattle.call_fs.specs.declared.program.Ready.{Ready}
 use Rattle.call_fs.specs.Maps.{put_at}
-use Rattle.call_fs.proofs.Maps.{put_at_same, put_at_other}
+use Rattle.call_fs.proofs.Maps.{put_at_cases, put_at_same, put_at_other}
 use Rattle.world_events.specs.declared.event.Event.{Event as Kept}
 use Rattle.world_events.specs.declared.event.Event.TheVariants as kept
 use Rattle.world_pipes.specs.declared.mouths.Mouths.{Mouths}
@@ -20,9 +20,13 @@ use Rattle.queue_law.proofs.Tests.{other_text}
 use Rattle.world_events.specs.declared.starts.Starts.{Starts}
 use Rattle.mail_world.specs.Generations.{starts_of, started_in}
 use Rattle.world_events.specs.Starts.{IsSameOrder, place_by_entry}
-use Rattle.mail_world.specs.Starts.{AreStarts}
+use Rattle.mail_world.specs.Starts.{others_in, number_from, AreStarts}
+use Rattle.mail_world.specs.Pipework.{is_member}
+use Rattle.mail_world.specs.Wired.{seat}
 use Rattle.mail_world.specs.Inside.{among_all}
 use Rattle.mail_world.proofs.Lists.{get_push, drop_push}
+use Rattle.mail_world.proofs.Placing.{low_or_high, number_other, number_new, others_push, crew_push, no_number}
+use Rattle.mail_world.proofs.Seats.{seat_none}
 
 pub starts_push : (events : List Kept) (k : Kept) → starts_of (reverse (events ++ k ∷ [])) ≡ starts_of (reverse events) ++ started_in k
 starts_push events k = ap starts_of (reverse-append events (k ∷ []))
@@ -43,18 +47,24 @@ same_starts old new crew places names same are = record {
   seats = λ at entry a here there low. are.seats at entry a (back at entry here) there low;
   placed = λ at entry i a here there place. are.placed at entry i a (back at entry here) there (ap (λ (n : ℕ). place_by_entry crew n at (Some entry)) (sym same.newest) ∙ place);
   last = λ at entry a here there. ap (λ (n : ℕ). is_some (place_by_entry crew n at (Some entry))) same.newest ∙ are.last at entry a (back at entry here) there;
+  begun = are.begun;
+  numbered = are.numbered;
+  filled = are.filled;
 } where
   back : (at entry : ℕ) → slice_get new.order.items at ≡ Some entry → slice_get old.order.items at ≡ Some entry
   back at entry here = ap (λ (l : List ℕ). slice_get l at) (sym same.order) ∙ here
 
 -- nobody started
-pub none_start : (starts : Starts) (crew : ℕ) (places : List ℕ → Option ℕ) → starts.order.items ≡ [] → AreStarts starts crew places []
-none_start starts crew places none = record {
+pub none_start : (starts : Starts) (places : List ℕ → Option ℕ) → starts.order.items ≡ [] → ((a : List ℕ) → places a ≡ None) → AreStarts starts 0 places []
+none_start starts places none nowhere = record {
   many = ap (λ (l : List ℕ). length l) none;
   known = λ at a there. absurd (cc);
   seats = λ at entry a here there low. absurd (cc);
   placed = λ at entry i a here there place. absurd (cc);
   last = λ at entry a here there. absurd (cc);
+  begun = refl;
+  numbered = λ a other. nowhere a;
+  filled = λ k low. absurd (omega (arith, low));
 }
 
 -- the entry of a mail tells its place
@@ -67,7 +77,8 @@ mail_entry crew newest n at le =
 -- a mail starts
 module _ (starts later : Starts) (crew n : ℕ) (places next : List ℕ → Option ℕ) (names : List (List ℕ)) (a : List ℕ) (le : crew ≤ n)
     (order : later.order.items ≡ starts.order.items ++ (n - crew + 4) ∷ []) (newest : later.newest ≡ starts.newest) (new : among_all crew places a ≡ None)
-    (put : (b : List ℕ) → among_all crew next b ≡ put_at (among_all crew places) a (Some n) b) (are : AreStarts starts crew places names) where
+    (put : (b : List ℕ) → among_all crew next b ≡ put_at (among_all crew places) a (Some n) b) (are : AreStarts starts crew places names)
+    (other : is_member a ≡ false) (added : (b : List ℕ) → next b ≡ put_at places a (Some (n - crew)) b) (many : n - crew ≡ others_in names) where
   here : among_all crew next a ≡ Some n
   here = put a ∙ put_at_same (among_all crew places) a (Some n)
 
@@ -100,6 +111,25 @@ module _ (starts later : Starts) (crew n : ℕ) (places next : List ℕ → Opti
       (get_push names a at b named))
       (get_push starts.order.items (n - crew + 4) at entry (ap (λ (l : List ℕ). slice_get l at) (sym order) ∙ is))
 
+  -- its number, and those of others
+  none_before : number_from 0 names a ≡ None
+  none_before = no_number starts crew places names a are (seat_none a other) new
+
+  its_number : number_from 0 (names ++ a ∷ []) a ≡ Some (n - crew)
+  its_number = let whole : 0 + others_in names ≡ n - crew = omega (arith, many) in number_new names 0 a other none_before ∙ ap Some whole
+
+  numbers : (b : List ℕ) → seat b ≡ None → next b ≡ number_from 0 (names ++ a ∷ []) b
+  numbers b seatless = ⊎_elim
+      (λ f. added b ∙ f.1 ∙ sym (ap (number_from 0 (names ++ a ∷ [])) f.0 ∙ its_number))
+      (λ f. added b ∙ f.1 ∙ are.numbered b seatless ∙ sym (number_other names 0 a b (other_text b a f.0)))
+      (put_at_cases places a (Some (n - crew)) b)
+
+  numbered_before : (k : ℕ) → k < others_in names → (b : List ℕ) × (seat b ≡ None) × (number_from 0 (names ++ a ∷ []) b ≡ Some k)
+  numbered_before k low =
+      let was = are.filled k low in
+      let apart : was.0 ≢ a = λ same. let both : ◌≡◌ {A = Option ℕ} None (Some k) = sym none_before ∙ ap (number_from 0 names) (sym same) ∙ was.2 in absurd (cc) in
+      (was.0, was.1, number_other names 0 a was.0 (other_text was.0 a apart) ∙ was.2)
+
   pub mail_starts : AreStarts later crew next (names ++ a ∷ [])
   mail_starts = record {
     many =
@@ -131,6 +161,15 @@ module _ (starts later : Starts) (crew n : ℕ) (places next : List ℕ → Opti
         ap (λ (e : ℕ). is_some (place_by_entry crew later.newest at (Some e))) (sym f.1) ∙ ap is_some (mail_entry crew later.newest n at le)
         ∙ ap not (sym (ap (list_any (bytes_eq b)) (drop_all (suc at) (names ++ a ∷ []) (omega (arith, two, end))))))
         (which at entry b is named);
+    begun = are.begun ∙ sym (crew_push names a other);
+    numbered = numbers;
+    filled = λ k low. ⊎_elim
+        (λ before. numbered_before k before)
+        (λ after.
+        let more = others_push names a other in
+        let same : n - crew ≡ k = omega (arith, low, after, more, many) in
+        (a, seat_none a other, its_number ∙ ap Some same))
+        (low_or_high k (others_in names));
   }
 
 -- an actor acts, or ends

@@ -433,6 +433,10 @@ pub record StandsReady (told : Option Disk) (crew : ℕ) (places : List ℕ → 
   pub name : y.name ≡ a
 
 module _ (told : Option Disk) (crew : ℕ) (places : List ℕ → Option ℕ) (items : List Held) (mouths : List Mouths) (entries : List Entry) (events : List Kept) (p n : ℕ) (b : Counts) (place : ℕ) (a : List ℕ) (ready : Ready) where
+  -- it finds what the events tell
+  pub ready_found : (y : Held) → StandsReady told crew places items mouths entries events p n b place a y ready → ready ≡ found_in (known events) a
+  ready_found y r = r.finds ∙ sym (ap (found_at (known events) y.name) r.at.member.is) ∙ ap (found_in (known events)) r.name
+
   pub paid_stands : (x z : Held) → AreKept told crew places items mouths entries events p n b → (at : StandsAt (among_all crew places) items (known events) events p place x) → x.name ≡ a
       → HasTurned x z at.member.actor.program at.member.actor.past → IsFoundAt mouths z.wire (awaits_of z.machine) ready → StandsReady told crew places items mouths entries events p n b place a z ready
   paid_stands x z w at name turned found =

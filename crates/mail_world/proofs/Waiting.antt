@@ -8,8 +8,9 @@ use Rattle.queue_paths.specs.Names.Name.{Of}
 use Rattle.queue_paths.specs.Names.Part.{Todo}
 use Rattle.queue_inject.specs.Texts.{intd_text, todo_of}
 use Rattle.mail_world.specs.History.{Event, Injection, State, after, Legal}
+use Rattle.queue_law.specs.Accounts.{IsInTodo}
 use Rattle.queue_law.specs.Books.{IsInjected}
-use Rattle.mail_world.specs.Waiting.{IsPending, AllWait, HasNoGeneration, MailsWait}
+use Rattle.mail_world.specs.Waiting.{AllWait, HasNoGeneration, MailsWait}
 use Rattle.queue_law.specs.Numbers.{Entry, about, IsQueued, Phase}
 use Rattle.queue_law.proofs.Looks.{found}
 use Rattle.mail_world.specs.Untouched.{queue}
@@ -26,7 +27,7 @@ todo_is args = refl
 
 module _ (controls : Controls) (s : State) (I : Inv controls s) where
   -- the envelope of a queued number
-  in_todo : (i : Injection) → IsQueued controls (about (queue s I.role) i.number) → s.books.living i.number ≡ Some i → IsPending s.disk i
+  in_todo : (i : Injection) → IsQueued controls (about (queue s I.role) i.number) → s.books.living i.number ≡ Some i → IsInTodo s.disk i
   in_todo i h lives =
       let d = s.disk in
       let same : h.taken.injection ≡ i = (let w = h.taken.lives in cc) in
@@ -39,10 +40,10 @@ module _ (controls : Controls) (s : State) (I : Inv controls s) where
             subst (IsSynced (d.files h.todo.number)) (todo_is i.args) text;
       }
 
-  is_kept : (i : Injection) → s.books.living i.number ≡ Some i → i.accepted ≡ true → IsPending s.disk i
+  is_kept : (i : Injection) → s.books.living i.number ≡ Some i → i.accepted ≡ true → IsInTodo s.disk i
   is_kept i lives accepted = by_phase (I.sound.fine i.number)
     where
-      by_phase : Phase controls (about (queue s I.role) i.number) → IsPending s.disk i
+      by_phase : Phase controls (about (queue s I.role) i.number) → IsInTodo s.disk i
       by_phase (Free h) = absurd (h.not_accepted i lives accepted)
       by_phase (Queued h) = in_todo i h lives
       by_phase (Sorted h) = absurd (I.early.waits i.number i lives accepted h.no_todo)

@@ -1,5 +1,5 @@
 -- One step of an actor: what it needs, and what it does to the disk, to the actor and to the history.
-use Rattle.std.specs.Prelude.{◌≡◌, ◌<◌, ◌≤◌, ◌⊎◌, ℕ, List, [], ◌∷◌, ◌++◌, length, Bool, true, false, Option, Some, None, IsSomeAnd}
+use Rattle.std.specs.Prelude.{◌≡◌, ◌<◌, ◌≤◌, ◌⊎◌, ℕ, List, [], ◌∷◌, ◌++◌, length, Bool, true, false, Option, Some, None, IsTrue, IsSomeAnd}
 use Rattle.std.specs.List.{slice_get}
 use Rattle.call_fs.specs.Disk.{Disk}
 use Rattle.mail_bytes.specs.Told.{OnTold, Meets}
@@ -58,6 +58,12 @@ abbrev pub status_of : Option ℕ → Option ℕ → Option GotData
 status_of None status = None
 status_of (Some at) (Some status) = Some (got.Ended status)
 status_of (Some at) None = Some got.Crashed
+
+-- a machine has looked at this moment, and found this ready
+pub record HasRead (machine : AnyMachine) (now : ℕ) (ready : Ready) : Type 0 where
+  pub looked : IsTrue (looked_of machine)
+  pub present : present_of machine ≡ now
+  pub found : found_of machine ≡ ready
 
 -- An actor's machine may be asked at this moment, with this ready, which it may be told: a call that is due may be made.
 pub record MayAsk (disk : Option Disk) (machine : AnyMachine) (now : ℕ) (ready : Ready) : Type 0 where

@@ -22,7 +22,7 @@ use Rattle.queue_law.specs.Steps.{Outside}
 use Rattle.mail_world.specs.History.{IsDelivery}
 use Rattle.world_events.specs.declared.event.Program.{Program}
 use Rattle.world_events.specs.declared.event.Program.TheVariants.{Injector, Cleaner, Sender, LocalSpawner, RemoteSpawner, Delivery}
-use Rattle.fed_injector.specs.declared.fed.FedInjector.{FedInjector}
+use Rattle.fed_injector.specs.declared.machine.FedInjector.{FedInjector}
 use Rattle.fed_injector.specs.Inputs.{FedStands, awaits}
 use Rattle.world_events.specs.Inputs.{with_texts}
 use Rattle.mail_world.specs.declared.any_machine.AnyMachine.{AnyMachine}

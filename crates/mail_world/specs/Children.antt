@@ -1,5 +1,5 @@
 -- The children of actors, as a world keeps them.
-use Rattle.std.specs.Prelude.{◌≡◌, ℕ, ◌+◌, List, [], ◌∷◌, ◌++◌, length, set, Bool, true, false, Option, Some, None, is_some}
+use Rattle.std.specs.Prelude.{◌≡◌, ℕ, ◌+◌, List, [], ◌∷◌, ◌++◌, length, reverse, set, Bool, true, false, Option, Some, None, is_some}
 use Rattle.std.specs.List.{slice_get}
 use Rattle.call_fs.specs.declared.past.ChildData.{ChildData}
 use Rattle.call_fs.specs.declared.past.ChildData.TheVariants as child
@@ -19,6 +19,7 @@ use Rattle.mail_world.specs.declared.world.Did.{Did}
 use Rattle.world_pipes.specs.declared.mouths.Mouths.{Mouths}
 use Rattle.world_pipes.specs.Mouths.{actor_of}
 use Rattle.mail_world.specs.declared.actor.Actor.{Actor as Held}
+use Rattle.mail_world.specs.declared.actor.Setting.{Setting}
 use Rattle.mail_world.specs.declared.any_machine.AnyMachine.{AnyMachine}
 use Rattle.mail_world.specs.History.{Actor, next_of}
 use Rattle.mail_world.specs.History.Life.{Alive}
@@ -26,9 +27,10 @@ use Rattle.mail_world.specs.ByKind.{IsMail, Follows, CanFind, awaits_of}
 use Rattle.mail_world.specs.Wired.{tenant_in, kept_at}
 use Rattle.mail_world.specs.Known.{known}
 use Rattle.mail_world.specs.Readiness.{found_in}
-use Rattle.mail_world.specs.World.{Seen, GoesOn, IsStep}
+use Rattle.mail_world.specs.World.{Seen, GoesOn, IsStep, next_pid}
 use Rattle.mail_world.specs.Inside.{StandsFor, Owes}
-use Rattle.mail_world.specs.Generations.{idled_in, has_idled}
+use Rattle.mail_world.specs.Generations.{idled_in, has_idled, starts_of}
+use Rattle.mail_world.specs.Starts.{place_in}
 use Rattle.mail_world.specs.Acting.{is_due_of_child, IsOwed, StaysAt}
 -- what is due gives an injector two texts
 pub use Rattle.fed_injector.specs.Texts.{GivesTexts, GivesTwo}
@@ -40,6 +42,13 @@ pub record IsDueOfChild {D : Type 0} (w : Seen D) (a : List ℕ) (due : NeedData
   pub alive : actor.life ≡ Alive
   pub due_is : next_of actor.program actor.past w.present (found_in (known w.events) a) ≡ due
   pub of_child : is_due_of_child (λ d. is_some (actor_of ((known w.events).pipework.programs a d))) due ≡ true
+
+-- what a step of an actor goes by in a world
+pub record IsSetting {D : Type 0} (w : Seen D) (a : List ℕ) (at : Setting) : Type 0 where
+  pub now : at.now ≡ w.present
+  pub ready : at.ready ≡ found_in (known w.events) a
+  pub pid : at.pid ≡ next_pid w.events
+  pub place : place_in (starts_of (reverse w.events)) a ≡ Some at.place
 
 -- it is the start of a child, the whole input of one, or its status
 abbrev pub IsStart : NeedData → Type 0

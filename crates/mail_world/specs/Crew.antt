@@ -1,8 +1,11 @@
 -- The members of a generation as a world keeps them.
 use Rattle.std.specs.Prelude.{◌≡◌, ℕ, List, [], ◌∷◌, ◌++◌, Bool, false, Option, Some, None, All, codes, is_none}
+use Rattle.actor_names.specs.declared.member.Member.{Member}
+use Rattle.actor_names.specs.Members.{name_of, seat_of}
 use Rattle.world_events.specs.declared.event.Program.{Program}
 use Rattle.world_events.specs.declared.event.Program.TheVariants.{Cleaner, Sender, LocalSpawner, RemoteSpawner}
 use Rattle.mail_world.specs.declared.actor.Actor.{Actor as Held}
+use Rattle.mail_world.specs.declared.any_machine.AnyMachine.{AnyMachine}
 use Rattle.mail_world.specs.ByKind.{Follows}
 use Rattle.mail_world.specs.Wired.{seat}
 -- what an actor finds by its pipes
@@ -21,6 +24,18 @@ pub record IsNew (x : Held) (name : List ℕ) (program : ℕ → Program) : Type
   pub slot : x.slot ≡ None
   pub entry : x.entry ≡ None
   pub follows : (start : ℕ) → Follows x.machine (program start) []
+
+-- a member that starts, at its seat
+pub record IsSeatedNew (x : Held) (member : Member) (machine : AnyMachine) : Type 0 where
+  pub name_is : x.name ≡ name_of member
+  pub machine_is : x.machine ≡ machine
+  pub ended : x.ended ≡ None
+  pub owed : x.owed ≡ None
+  pub status : x.status ≡ None
+  pub descriptors : x.descriptors.items ≡ []
+  pub wire : x.wire ≡ Some (seat_of member)
+  pub slot : x.slot ≡ None
+  pub entry : x.entry ≡ None
 
 -- the four of a generation, in their order
 pub record AreNew (crew : List Held) : Type 0 where

@@ -7,7 +7,7 @@ use Rattle.call_fs.specs.declared.past.NeedData.TheVariants as needs
 use Rattle.call_fs.specs.declared.past.Own.{Own}
 use Rattle.actor_names.specs.MailNames.{members}
 use Rattle.send_core.specs.Stands.{ends_idle}
-use Rattle.send_core.specs.Table.{desk_after}
+use Rattle.send_core.specs.Table.{place_after as sender_after}
 use Rattle.world_events.specs.declared.event.Event.{Event as Kept}
 use Rattle.world_events.specs.declared.event.Event.TheVariants as kept
 use Rattle.world_events.specs.declared.event.Program.{Program}
@@ -61,7 +61,7 @@ pub record Waits (s : State) (present : ℕ) (a : List ℕ) : Type 0 where
 -- Idle turns
 
 abbrev pub idled_in : Program → List Own → Own → Bool
-idled_in (Sender start) past own = ends_idle (desk_after None past) own
+idled_in (Sender start) past own = ends_idle (sender_after None past) own
 idled_in other past own = false
 
 abbrev pub idled_by : Option Actor → Own → Bool

@@ -32,7 +32,7 @@ use Rattle.queue_inject.specs.Table.{Next, has_input}
 use Rattle.queue_clean.specs.Table.{Next as CleansNext}
 use Rattle.queue_law.specs.Books.{Child as Bouncer}
 use Rattle.send_core.specs.Booked.{booked_at}
-use Rattle.send_core.specs.Table.{Next as SendsNext, desk_after, row_now}
+use Rattle.send_core.specs.Table.{Next as SendsNext, place_after as sender_after, row_now}
 use Rattle.local_spawn.specs.Table.{Next as LspawnNext}
 use Rattle.local_deliver.specs.Table.{Next as DeliversNext}
 use Rattle.local_parts.specs.Arguments.{local_args}
@@ -162,7 +162,7 @@ abbrev pub told_by : Option Bouncer → Books → Program → List Own → ℕ �
 told_by child b (Injector args) past read ready came = b
 told_by child b (Cleaner start) past read ready came = b
 told_by child b (Sender start) past read ready came =
-    let d = desk_after None past in booked_all child (booked_at (row_now d read ready) came d) b
+    let d = sender_after None past in booked_all child (booked_at (row_now d read ready) came d) b
 told_by child b (LocalSpawner start) past read ready came = b
 told_by child b (RemoteSpawner start) past read ready came = b
 told_by child b (Delivery start args) past read ready came = b

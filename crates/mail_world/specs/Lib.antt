@@ -34,5 +34,7 @@ pub mod Books
 pub mod Starts
 -- the children of actors, as they are kept
 pub mod Children
+-- what a world keeps
+pub mod Whole
 -- histories that are told anew, with another input of a child
 pub mod Anew

@@ -1,34 +1,25 @@
 -- What is claimed of histories in which no generation was started: each accepted message waits in todo.
 use Rattle.std.specs.Prelude.{◌≡◌, ℕ, List, [], ◌∷◌, ◌++◌, Bool, true, false, Some}
-use Rattle.call_fs.specs.Disk.{Disk, IsSynced}
-use Rattle.queue_paths.specs.Names.{path}
-use Rattle.queue_paths.specs.Names.Part.{Todo}
-use Rattle.queue_paths.specs.Names.Name.{Of}
+use Rattle.call_fs.specs.Disk.{Disk}
 use Rattle.queue_inject.specs.declared.row.Row.TheVariants as Row
-use Rattle.queue_inject.specs.Table.{row_after}
-use Rattle.queue_inject.specs.Texts.{todo_of}
+use Rattle.queue_inject.specs.Table.{place_after as inject_after}
 use Rattle.call_fs.specs.declared.past.Own.{Own}
 use Rattle.world_events.specs.declared.event.Program.{Program}
 use Rattle.world_events.specs.declared.event.Program.TheVariants.{Injector}
+use Rattle.queue_law.specs.Accounts.{IsInTodo}
 use Rattle.mail_world.specs.History.{Event, Injection, Books, State, after, Legal}
 use Rattle.mail_world.specs.History.Event.{Start, Act, Child, Generation, Report, End, Stop, Moment, Halt}
 -- injections, and what is valid
 pub use Rattle.queue_law.specs.Books.{IsInjected, IsValid, HasQueued}
 
--- todo is there, with the injection's text, and all of it is on the disk
-pub record IsPending (d : Disk) (q : Injection) : Type 0 where
-  pub file : ℕ
-  pub there : d.names (path (Of Todo q.number)) ≡ Some file
-  pub text : IsSynced (d.files file) (todo_of q.args)
-
 -- what the past of a program has put into the books: if an injector has queued its message, its accepted injection
 abbrev pub IsBooked : Books → List ℕ → Program → List Own → Type 0
-IsBooked b a (Injector args) past = row_after args past ≡ Row.Queued → HasQueued b a args
+IsBooked b a (Injector args) past = inject_after args past ≡ Row.Queued → HasQueued b a args
 IsBooked b a other past = Unit {0}
 
 -- the life of each accepted injection lasts, and todo has it
 abbrev pub AllWait : State → Type 0
-AllWait s = (q : Injection) → IsInjected s.books q → q.accepted ≡ true → (s.books.living q.number ≡ Some q) × IsPending s.disk q
+AllWait s = (q : Injection) → IsInjected s.books q → q.accepted ≡ true → (s.books.living q.number ≡ Some q) × IsInTodo s.disk q
 
 -- so it is at each prefix of a history
 abbrev pub EachWaiting : Disk → List Event → Type 0

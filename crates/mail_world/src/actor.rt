@@ -9,7 +9,7 @@ ghost use Rattle.world_events.specs.declared.event.Program.{Program};
 ghost use Rattle.mail_world.specs.History.{next_of};
 ghost use Rattle.mail_world.specs.World.{GoesByPlan};
 ghost use Rattle.mail_world.specs.ByKind.{Follows, present_of, found_of, looked_of, need_of, takes_of, with_own, own_of, awaits_of, searches, HasGone, CanFind, IsAsked};
-ghost use Rattle.mail_world.specs.Acting.{MayAsk, MayAct, IsSeated, StaysAt, IsNoAct, AreOpen, AreAsBefore, due_by, IsStated, IsReadAt, IsMade, IsUntouched, IsPlannedCame, IsCutOff, AreCutOff, HasStepped, HasGiven, HasLooked, HasIdled, IsFinished, is_due_of_child, has_actor, GivesNoActor, SuitsPlace, status_of, shut};
+ghost use Rattle.mail_world.specs.Acting.{HasRead, MayAsk, MayAct, IsSeated, StaysAt, IsNoAct, AreOpen, AreAsBefore, due_by, IsStated, IsReadAt, IsMade, IsUntouched, IsPlannedCame, IsCutOff, AreCutOff, HasStepped, HasGiven, HasLooked, HasIdled, IsFinished, is_due_of_child, has_actor, GivesNoActor, SuitsPlace, status_of, shut};
 ghost use Rattle.mail_world.specs.Inside.{StandsFor, Owes};
 ghost use Rattle.mail_world.specs.Generations.{idled_in};
 ghost use Rattle.world_events.specs.declared.event.Event.TheVariants as kept;
@@ -58,6 +58,8 @@ pub struct Setting {
     pub ready: Ready,
     /// The next process number.
     pub pid: u32,
+    /// The place of the actor among all.
+    pub place: usize,
 }
 
 /// What came of asking a machine.
@@ -104,42 +106,23 @@ impl Actor {
         }
     }
 
-    /// Asks its machine what it does next at this moment, with this ready, and makes the call, if that is one. Room for a
-    /// descriptor, and for the bytes of a read, is made first. The condition: what is next may be made.
-    fn ask<D: CallFs>(&mut self, alloc: Global, disk: &mut D, at: Setting) -> Result<Came, Memory>
+    /// Asks its machine what it does next at this moment, with this ready, and makes the call, if that is one. Room for the bytes of a
+    /// read is made first. The conditions: it has looked, and what is next may be made.
+    fn ask<D: CallFs>(&self, alloc: Global, disk: &mut D, at: Setting) -> Result<Came, Memory>
         requires moment { IsMoment at.now }
-        requires may { MayAsk (D.disk disk.old) self.old.machine at.now at.ready }
+        requires read { HasRead self.now.machine at.now at.ready }
+        requires may { MayAsk (D.disk disk.old) self.now.machine at.now at.ready }
         ensures due { IfOk result (λ came. (program : Program) (past : List Own)
-            → Follows self.old.machine program past → next_of program past at.now at.ready ≡ due_by came) }
+            → Follows self.now.machine program past → next_of program past at.now at.ready ≡ due_by came) }
+        ensures need { IfOk result (λ came. need_of self.now.machine ≡ due_by came) }
         ensures read { IfOk result (λ came. IsReadAt came at.now at.ready) }
+        ensures stated { IfOk result (λ came. IsStated came) }
         ensures made { IfOk result (λ came. IsMade came at.now (D.disk disk.old) (D.disk disk.new)) }
         ensures still { IfOk result (λ came. IsUntouched came disk.old disk.new) }
         ensures plan { IfOk result (λ came. IsPlannedCame came (D.plan disk.old) (D.plan disk.new)
             (D.disk disk.old) (D.disk disk.new)) }
-        ensures room { OnOk result (vec_len self.new.descriptors < vec_capacity self.new.descriptors) }
-
-        // The machine stands as before, and has read this moment.
-        ensures follows { (program : Program) (past : List Own)
-            → Follows self.old.machine program past → Follows self.new.machine program past }
-        ensures present { OnOk result (present_of self.new.machine ≡ at.now) }
-        ensures found { OnOk result (found_of self.new.machine ≡ at.ready) }
-        ensures looked { OnOk result (IsTrue (looked_of self.new.machine)) }
-        ensures need { IfOk result (λ came. need_of self.new.machine ≡ due_by came) }
-        ensures stated { IfOk result (λ came. IsStated came) }
-        ensures takes { takes_of self.new.machine ≡ takes_of self.old.machine }
-        ensures awaits { awaits_of self.new.machine ≡ awaits_of self.old.machine }
-
-        // The rest stays.
-        ensures name { self.new.name ≡ self.old.name }
-        ensures descriptors { self.new.descriptors.items ≡ self.old.descriptors.items }
-        ensures ended { self.new.ended ≡ self.old.ended }
-        ensures status { self.new.status ≡ self.old.status }
-        ensures owed { self.new.owed ≡ self.old.owed }
-        ensures stays { StaysAt self.old self.new }
         ensures err { OnErr result (disk.new ≡ disk.old) }
     {
-        self.descriptors.reserve(1)?;
-        self.machine.look(at.now, at.ready);
         match self.machine.need() {
             Need::File(call) => {
                 let room = room_to_read(alloc, call)?;
@@ -176,6 +159,7 @@ impl Actor {
         ensures none { IfOk result (λ asked. IsNone asked → (program : Program) (past : List Own) → Follows self.old.machine program past
             → is_due_of_child (has_actor mouths.now self.old.wire) (next_of program past at.now at.ready) ≡ false) }
         ensures looked { HasLooked self.old self.new }
+        ensures read { OnOk result (HasRead self.new.machine at.now at.ready) }
     {
         self.machine.look(at.now, at.ready);
         let need = self.machine.need();
@@ -187,8 +171,8 @@ impl Actor {
     }
 
     /// One step: what is due, or its end, in which its descriptors are closed and what it gives to is shut; `None` if nothing of what
-    /// is due can be done yet. From the call on only its machine takes memory: if that finds none, it owes the event. The
-    /// conditions: it owes none, what is due may be made, what it has open is open, there is room for the event, its pipes are among
+    /// is due can be done yet. Room for a descriptor is made first, and from the call on only its machine takes memory: if that finds none, it owes the event. The
+    /// conditions: it has looked and owes none, what is due may be made, what it has open is open, there is room for the event, its pipes are among
     /// these, or it has none, and a call or its end is due to it or it waits, and nothing of a child is due.
     pub fn act<D: CallFs>(
         &mut self,
@@ -199,6 +183,7 @@ impl Actor {
         at: Setting,
     ) -> Result<Option<Did>, Memory>
         requires moment { IsMoment at.now }
+        requires read { HasRead self.old.machine at.now at.ready }
         requires may { MayAct (D.disk disk.old) self.old.machine self.old.wire mouths.old.items at.now at.ready }
         requires paid { self.old.owed ≡ None }
         requires opens { OnTold (D.disk disk.old) (λ before. AreOpen before self.old.descriptors.items) }
@@ -218,6 +203,7 @@ impl Actor {
         ensures pipes { OnErr result (AreAsBefore mouths.old.items mouths.new.items) }
     {
         let index = history.len() as u64;
+        self.descriptors.reserve(1)?;
         match self.ask(alloc, disk, at)? {
             Came::Did(own) => {
                 keep_open(&mut self.descriptors, &own);

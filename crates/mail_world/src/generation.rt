@@ -1,18 +1,18 @@
 // The members of a generation, and their start.
-ghost use Rattle.std.specs.Prelude.{◌≡◌, ◌≤◌, IfOk, length};
+ghost use Rattle.std.specs.Prelude.{◌≡◌, IfOk};
 ghost use Rattle.std.specs.List.{slice_get};
-ghost use Rattle.mail_world.specs.Crew.{IsFirst, AreNew, lasts};
+ghost use Rattle.mail_world.specs.Crew.{IsFirst, IsSeatedNew, AreNew, lasts};
 
 use crate::ActorName;
 use crate::actor::Actor;
 use crate::any_machine::AnyMachine;
+use actor_names::Member;
 use local_spawn::LocalSpawn;
 use mail_bytes::Memory;
 use queue_clean::Cleaner;
 use remote_spawn::RemoteSpawn;
 use send_core::Sender;
 use std::alloc::Global;
-use world_pipes::{MEMBERS, SPAWNER};
 
 /// The first of these that lives.
 pub fn first_alive(crew: &[Actor]) -> Option<ActorName>
@@ -30,7 +30,7 @@ pub fn first_alive(crew: &[Actor]) -> Option<ActorName>
 pub fn spawner_lives(crew: &[Actor]) -> bool
     ensures { result ≡ lasts (slice_get crew.now 3) }
 {
-    match crew.get(SPAWNER) {
+    match crew.get(Member::RemoteSpawner.seat()) {
         Some(actor) => actor.ended.is_none(),
         None => false,
     }
@@ -44,18 +44,24 @@ pub fn members(alloc: Global) -> Result<Vec<Actor>, Memory>
     let clean = AnyMachine::Clean(Cleaner::new());
     let lspawn = AnyMachine::Local(LocalSpawn::new(alloc)?);
     let rspawn = AnyMachine::Remote(RemoteSpawn::new(alloc)?);
-    let mut crew = Vec::with_capacity(alloc, MEMBERS)?;
-    crew.push(Actor::new(alloc, named(b"sender"), sender, Some(0), None, None))?;
-    crew.push(Actor::new(alloc, named(b"clean"), clean, Some(1), None, None))?;
-    crew.push(Actor::new(alloc, named(b"lspawn"), lspawn, Some(2), None, None))?;
-    crew.push(Actor::new(alloc, named(b"rspawn"), rspawn, Some(3), None, None))?;
+    let mut crew = Vec::with_capacity(alloc, Member::COUNT)?;
+    crew.push(seated(alloc, Member::Sender, sender))?;
+    crew.push(seated(alloc, Member::Cleaner, clean))?;
+    crew.push(seated(alloc, Member::LocalSpawner, lspawn))?;
+    crew.push(seated(alloc, Member::RemoteSpawner, rspawn))?;
     Ok(crew)
 }
 
-/// A short name. The condition: it has at most 24 bytes.
-pub fn named(bytes: &[u8]) -> ActorName
-    requires { length bytes.now ≤ 24 }
-    ensures { result ≡ bytes.now }
+/// A member of a new generation with this machine. Takes no memory.
+fn seated(alloc: Global, member: Member, machine: AnyMachine) -> Actor
+    ensures { IsSeatedNew result member machine }
 {
-    ActorName::of(bytes).unwrap()
+    Actor::new(
+        alloc,
+        member.actor_name(),
+        machine,
+        Some(member.seat()),
+        None,
+        None,
+    )
 }

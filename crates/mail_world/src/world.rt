@@ -7,17 +7,16 @@ ghost use Rattle.mail_bytes.specs.Told.{OnTold, Meets};
 ghost use Rattle.call_fs.specs.Choices.{Halts};
 ghost use Rattle.call_fs.specs.Plan.{with_fault, with_pick};
 ghost use Rattle.mail_world.specs.History.{Opening, Legal, MayReport, Event as Happening};
-ghost use Rattle.mail_world.specs.Generations.{generation_world, reported_world, IsFirstAlive, IsNoneAlive, Waits, has_idled, lives_in, next_living, lowest_unreported};
+ghost use Rattle.mail_world.specs.Generations.{generation_world, reported_world, IsFirstAlive, IsNoneAlive, Waits, has_idled, next_living, lowest_unreported};
 ghost use Rattle.mail_world.specs.Inside.{among_all, known};
 ghost use Rattle.world_events.specs.declared.event.Event.{Event as Kept};
 ghost use Rattle.world_events.specs.declared.books.Entry.{Entry};
 ghost use Rattle.world_events.specs.Inputs.{with_inputs};
 ghost use Rattle.mail_world.specs.Kept.{events_of, HasRoom};
 ghost use Rattle.actor_names.specs.MailNames.{IsMailName};
-ghost use Rattle.mail_world.specs.World.{Leads, Happened, GoesOn, was_started, EndsAt, next_pid, started_world, moment_world, IsStep, IsStop, GoesByPlan, IsHalt, GoesOnWith, IsAsBefore};
+ghost use Rattle.mail_world.specs.World.{Leads, Happened, GoesOn, was_started, EndsAt, started_world, moment_world, IsStep, IsStop, GoesByPlan, IsHalt, GoesOnWith, IsAsBefore};
 ghost use Rattle.mail_world.specs.Acting.{IsNoLiving};
-ghost use Rattle.mail_world.specs.Children.{IsDueOfChild, IsStart, IsGive, IsTake, Serves};
-ghost use Rattle.mail_world.specs.Readiness.{found_in};
+ghost use Rattle.mail_world.specs.Children.{IsDueOfChild, IsSetting, IsStart, IsGive, IsTake, Serves};
 ghost use Rattle.world_events.specs.declared.event.Program.{Program as Started};
 ghost use Rattle.mail_world.specs.Places.{place_of};
 ghost use Rattle.mail_world.specs.Books.{entries_of, books_of, books_in, noted};
@@ -28,11 +27,11 @@ use crate::children::{
     child_at, child_event, give_input, leave, machine_of, own_at, pay_with_room, ready_to_feed,
     room_for_one, take_in,
 };
-use crate::generation::{first_alive, members, named, spawner_lives};
+use crate::generation::{first_alive, members, spawner_lives};
 use crate::laws::books_are_the_models;
 use crate::starts::next_living;
 use crate::{ActorName, Books, Event, History, Program, WorldError};
-use actor_names::is_mail_name;
+use actor_names::{Member, is_mail_name};
 use call_fs::{CallFs, CrashFs, GotData, NeedData, Port, Survival, Taken};
 use fed_injector::FedInjector;
 use mail_bytes::{ByteText, Memory};
@@ -41,8 +40,8 @@ use std::alloc::Global;
 use std::marker::Model;
 use world_events::{MAIL_USER, Places, Starts, child_of, counts_with, mail_of, started_by};
 use world_pipes::{
-    Mouths, SPAWNER, add_pipes, due_slot, first_unreported, is_unreported, pipes_for, pipes_of,
-    put_report, ready_at, renew, seat,
+    Mouths, add_pipes, due_slot, first_unreported, is_unreported, pipes_for, pipes_of, put_report,
+    ready_at, renew, seat,
 };
 
 /// The process number of the first actor.
@@ -98,18 +97,14 @@ impl<D: CallFs> Model for World<D> {
 
     ghost Value = { Seen D };
 
-    ghost use Rattle.std.specs.Prelude.{drop, reverse};
-    ghost use Rattle.mail_world.specs.Inside.{IsWorld, ArePiped, among_all, known, living};
-    ghost use Rattle.mail_world.specs.Kept.{HasRoom};
+    ghost use Rattle.mail_world.specs.Whole.{IsWhole};
     ghost use Rattle.mail_world.specs.Places.{place_of};
-    ghost use Rattle.mail_world.specs.Books.{AreBooked, entries_of};
     ghost use Rattle.mail_world.specs.World.{counted};
-    ghost use Rattle.mail_world.specs.Generations.{starts_of};
-    ghost use Rattle.mail_world.specs.Starts.{AreStarts};
 
     ghost view = { λ w. record { disk = w.disk; events = w.history.events.items; present = w.present } };
 
-    ghost invariant = { λ w. IsWorld (D.disk w.disk) (among_all w.crew (place_of w.places)) w.actors.items (known w.history.events.items) w.history.events.items w.present w.next_pid (counted w.bounces w.deliveries) × HasRoom w.history (living w.actors.items) × AreBooked w.crew (entries_of w.books) w.actors.items w.history.events.items × ArePiped w.crew w.mouths.items w.actors.items (known w.history.events.items) w.history.events.items × AreStarts w.starts w.crew (place_of w.places) (starts_of (reverse w.history.events.items)) };
+    ghost invariant = { λ w. IsWhole (D.disk w.disk) w.crew (place_of w.places) w.actors.items w.history w.present w.next_pid
+        (counted w.bounces w.deliveries) w.mouths.items w.books w.starts };
 }
 
 impl<D: CallFs> World<D> {
@@ -317,9 +312,10 @@ impl<D: CallFs> World<D> {
             now: self.present,
             ready: ready_at(&self.mouths, acting.wire, acting.machine.awaits()),
             pid: self.next_pid,
+            place,
         };
         if let Some(mut due) = acting.asks(alloc, &self.mouths, at)? {
-            let did = self.serve(alloc, actor, &mut due);
+            let did = self.serve(alloc, actor, at, &mut due);
             drop(due);
             return did;
         }
@@ -340,14 +336,17 @@ impl<D: CallFs> World<D> {
         Ok(did)
     }
 
-    /// What of a child of its is due to this actor. It may be taken. The condition: this is.
+    /// What of a child of its is due to this actor, whose step goes by this. It may be taken. The conditions: this is due, and a step of
+    /// the actor goes by that.
     fn serve(
         &mut self,
         alloc: Global,
         actor: &ActorName,
+        at: Setting,
         due: &mut NeedData,
     ) -> Result<Did, WorldError>
-        requires { IsDueOfChild self.old actor.now due.old }
+        requires due { IsDueOfChild self.old actor.now due.old }
+        requires at { IsSetting self.old actor.now at }
         ensures served { IfOk result (λ did. Serves D.disk actor.now self.old self.new did) }
         ensures waits { (name : List ℕ) → result ≡ Err (WorldError.NotWaiting name)
             → (name ≡ actor.now) × Waits (known self.old.events) self.old.present actor.now }
@@ -355,29 +354,15 @@ impl<D: CallFs> World<D> {
         ensures err { OnErr result (self.new ≡ self.old) }
     {
         match &*due {
-            NeedData::Start(_) => Ok(self.start_child(alloc, actor, due)?),
-            NeedData::Give(..) if actor.is(b"lspawn") => Ok(self.fill(alloc, actor, due)?),
-            NeedData::Give(..) => Ok(self.feed(alloc, actor, due)?),
-            _ => match self.take_status(alloc, actor, due)? {
+            NeedData::Start(_) => Ok(self.start_child(alloc, actor, at, due)?),
+            NeedData::Give(..) if actor.is(Member::LocalSpawner.name()) => {
+                Ok(self.fill(alloc, actor, at, due)?)
+            }
+            NeedData::Give(..) => Ok(self.feed(alloc, actor, at, due)?),
+            _ => match self.take_status(alloc, actor, at, due)? {
                 Some(did) => Ok(did),
                 None => Err(WorldError::NotWaiting(actor.copy())),
             },
-        }
-    }
-
-    /// What a step of this actor goes by. The condition: it lives.
-    fn setting(&self, actor: &ActorName) -> Setting
-        requires { lives_in ((known self.now.events).actors actor.now) ≡ true }
-        ensures now { result.now ≡ self.now.present }
-        ensures ready { result.ready ≡ found_in (known self.now.events) actor.now }
-        ensures pid { result.pid ≡ next_pid self.now.events }
-    {
-        let place = place_among(&self.places, self.crew, actor).unwrap();
-        let acting = &self.actors[place];
-        Setting {
-            now: self.present,
-            ready: ready_at(&self.mouths, acting.wire, acting.machine.awaits()),
-            pid: self.next_pid,
         }
     }
 
@@ -386,15 +371,15 @@ impl<D: CallFs> World<D> {
         &mut self,
         alloc: Global,
         actor: &ActorName,
+        at: Setting,
         due: &mut NeedData,
     ) -> Result<Did, Memory>
         requires due { IsDueOfChild self.old actor.now due.old }
+        requires at { IsSetting self.old actor.now at }
         requires start { IsStart due.old }
         ensures served { IfOk result (λ did. Serves D.disk actor.now self.old self.new did) }
         ensures err { OnErr result (self.new ≡ self.old) }
     {
-        let at = self.setting(actor);
-        let parent_at = place_among(&self.places, self.crew, actor).unwrap();
         let place = self.actors.len() - self.crew;
         let NeedData::Start(asked) = &*due else {
             unreachable!()
@@ -412,7 +397,7 @@ impl<D: CallFs> World<D> {
         )?;
         // for this event, and for the stop of each actor, of this one too
         let events = self.actors.len() + 2;
-        let parent = &mut self.actors[parent_at];
+        let parent = &mut self.actors[at.place];
         let wire = parent.wire.unwrap();
         pay_with_room(alloc, &mut self.history, parent, events)?;
         self.places.add(alloc, born.name.as_slice(), place)?;
@@ -433,25 +418,30 @@ impl<D: CallFs> World<D> {
 
     /// The local spawner gives a delivery its whole input, which lies in its pipe then; if that is over, nobody takes it. The conditions: it
     /// is the local spawner, this is due, and there is a child.
-    fn fill(&mut self, alloc: Global, actor: &ActorName, due: &mut NeedData) -> Result<Did, Memory>
+    fn fill(
+        &mut self,
+        alloc: Global,
+        actor: &ActorName,
+        at: Setting,
+        due: &mut NeedData,
+    ) -> Result<Did, Memory>
         requires due { IsDueOfChild self.old actor.now due.old }
+        requires at { IsSetting self.old actor.now at }
         requires give { IsGive due.old }
         requires spawner { actor.now ≡ codes "lspawn" }
         ensures served { IfOk result (λ did. Serves D.disk actor.now self.old self.new did) }
         ensures err { OnErr result (self.new ≡ self.old) }
     {
-        let at = self.setting(actor);
-        let parent_at = place_among(&self.places, self.crew, actor).unwrap();
         // for this event, and for the stop of each actor
         let room = self.actors.len() + 1;
-        let wire = self.actors[parent_at].wire;
+        let wire = self.actors[at.place].wire;
         let child = child_at(&self.mouths, wire, due_slot(due), &self.places, self.crew).unwrap();
         let to = self.actors[child].wire.unwrap();
         let NeedData::Give(_, bytes) = &*due else {
             unreachable!()
         };
         self.mouths[to].make_room(Port::Input, bytes.as_slice().len())?;
-        let parent = &mut self.actors[parent_at];
+        let parent = &mut self.actors[at.place];
         pay_with_room(alloc, &mut self.history, parent, room)?;
         self.mouths[to].give_all(bytes.as_slice());
         let own = own_at(at, due, GotData::Gave);
@@ -465,18 +455,23 @@ impl<D: CallFs> World<D> {
 
     /// This actor gives its injector its whole input; if that was stopped, it goes nowhere. The conditions: it isn't the local spawner,
     /// this is due, and there is a child.
-    fn feed(&mut self, alloc: Global, actor: &ActorName, due: &mut NeedData) -> Result<Did, Memory>
+    fn feed(
+        &mut self,
+        alloc: Global,
+        actor: &ActorName,
+        at: Setting,
+        due: &mut NeedData,
+    ) -> Result<Did, Memory>
         requires due { IsDueOfChild self.old actor.now due.old }
+        requires at { IsSetting self.old actor.now at }
         requires give { IsGive due.old }
         requires other { actor.now ≢ codes "lspawn" }
         ensures served { IfOk result (λ did. Serves D.disk actor.now self.old self.new did) }
         ensures err { OnErr result (self.new ≡ self.old) }
     {
-        let at = self.setting(actor);
-        let parent_at = place_among(&self.places, self.crew, actor).unwrap();
         // for this event, and for the stop of each actor
         let room = self.actors.len() + 1;
-        let parent = &mut self.actors[parent_at];
+        let parent = &mut self.actors[at.place];
         let wire = parent.wire;
         let child = child_at(&self.mouths, wire, due_slot(due), &self.places, self.crew).unwrap();
         let (message, envelope, kept_message, kept_envelope) = ready_to_feed(
@@ -508,24 +503,25 @@ impl<D: CallFs> World<D> {
         &mut self,
         alloc: Global,
         actor: &ActorName,
+        at: Setting,
         due: &mut NeedData,
     ) -> Result<Option<Did>, Memory>
         requires due { IsDueOfChild self.old actor.now due.old }
+        requires at { IsSetting self.old actor.now at }
         requires take { IsTake due.old }
         ensures served { IfOk result (λ did. IfSome did (λ did. Serves D.disk actor.now self.old self.new did)) }
         ensures waits { IfOk result (λ did. IsNone did → Waits (known self.old.events) self.old.present actor.now × (self.new ≡ self.old)) }
         ensures err { OnErr result (self.new ≡ self.old) }
     {
+        // for this event, and for the stop of each actor
+        let room = self.actors.len() + 1;
         let slot = due_slot(due);
-        let at = self.setting(actor);
-        let parent_at = place_among(&self.places, self.crew, actor).unwrap();
-        let wire = self.actors[parent_at].wire.unwrap();
+        let wire = self.actors[at.place].wire.unwrap();
         let child = child_at(&self.mouths, Some(wire), slot, &self.places, self.crew).unwrap();
         let Some(came) = status_of(&self.actors[child]) else {
             return Ok(None);
         };
-        let room = self.actors.len() + 1;
-        let parent = &mut self.actors[parent_at];
+        let parent = &mut self.actors[at.place];
         pay_with_room(alloc, &mut self.history, parent, room)?;
         let own = own_at(at, due, came);
         let did = take_in(alloc, parent, &own, at, self.history.len());
@@ -555,7 +551,7 @@ impl<D: CallFs> World<D> {
     {
         let lives = spawner_lives(&self.actors[..self.crew]);
         if !is_unreported(lives, &self.mouths, slot) {
-            return Err(WorldError::NotWaiting(named(b"rspawn")));
+            return Err(WorldError::NotWaiting(Member::RemoteSpawner.actor_name()));
         }
         Ok(self.end_program(alloc, slot, letter, text)?)
     }
@@ -576,7 +572,8 @@ impl<D: CallFs> World<D> {
         let kept = ByteText::from_slice(alloc, text)?;
         // for this event, and for the stop of each actor
         self.history.reserve(self.actors.len() + 1)?;
-        put_report(alloc, &mut self.mouths[SPAWNER], slot, letter, text)?;
+        let spawner = Member::RemoteSpawner.seat();
+        put_report(alloc, &mut self.mouths[spawner], slot, letter, text)?;
         self.history.put(Event::Report {
             slot,
             letter,

@@ -50,7 +50,7 @@ impl MaildirDrop {
         ensures stands { IfOk result (λ m. Stands m
             (record { dir = dir.now; moment = moment; pid = pid; host = host.now; bytes = joined blocks.items }) []) }
     {
-        let left = Pieces::of(alloc, blocks.as_slice())?;
+        let left = Pieces::of(alloc, blocks)?;
         let names = DropNames {
             first: pair(alloc, dir, moment, pid, host, Attempt::First)?,
             second: pair(alloc, dir, moment, pid, host, Attempt::Second)?,

@@ -10,7 +10,7 @@ use std::marker::Model;
 use std::mem::replace;
 
 /// What of a message is still to be written, in pieces of 8192 bytes, the last one shorter; contracts see its bytes. No
-/// growth of it is larger than a piece.
+/// growth of it is larger than a piece. Once all were written they are let go.
 #[derive(Debug, Drop)]
 pub struct Pieces {
     pieces: Vec<ByteText>,
@@ -30,11 +30,11 @@ impl Model for Pieces {
 }
 
 impl Pieces {
-    /// The bytes of these blocks, one after the other. The condition: a block has at most 8192 bytes.
-    /// The error: out of memory.
-    pub fn of(alloc: Global, blocks: &[Vec<u8>]) -> Result<Pieces, Memory>
-        requires { All (λ block. length block.items ≤ PIECE) blocks.now }
-        ensures { IfOk result (λ pieces. pieces ≡ joined blocks.now) }
+    /// The bytes of these blocks, one after the other. Each block is let go once it was cut, so that no more than one is
+    /// there twice. The condition: a block has at most 8192 bytes. The error: out of memory.
+    pub fn of(alloc: Global, blocks: Vec<Vec<u8>>) -> Result<Pieces, Memory>
+        requires { All (λ block. length block.items ≤ PIECE) blocks.items }
+        ensures { IfOk result (λ pieces. pieces ≡ joined blocks.items) }
     {
         let mut cutter = Cutter::new(alloc);
         for block in blocks {
@@ -60,12 +60,30 @@ impl Pieces {
         self.next == self.pieces.len()
     }
 
-    /// Goes on past the next piece.
+    /// Goes on past the next piece. After the last one all are let go.
     pub fn pass(&mut self)
+        ensures { self.new ≡ drop PIECE self.old }
+    {
+        self.step();
+        self.let_go();
+    }
+
+    /// Goes on past the next piece, which stays in memory.
+    fn step(&mut self)
         ensures { self.new ≡ drop PIECE self.old }
     {
         if self.next < self.pieces.len() {
             self.next += 1;
+        }
+    }
+
+    /// Lets the pieces go, if all were passed.
+    fn let_go(&mut self)
+        ensures { self.new ≡ self.old }
+    {
+        if self.next == self.pieces.len() {
+            self.pieces.clear();
+            self.next = 0;
         }
     }
 }

@@ -7,6 +7,7 @@ use Rattle.piece_queue.specs.declared.piece.Brought.{Brought}
 use Rattle.piece_queue.specs.declared.piece.Brought.TheVariants as came
 use Rattle.piece_queue.specs.declared.piece.TheConstants.{ROOM}
 use Rattle.piece_queue.specs.Pieces.{IsNext}
+use Rattle.piece_queue.specs.declared.queue.PieceQueue.{PieceQueue}
 use Rattle.piece_queue.specs.declared.hand.Hand.{Hand}
 use Rattle.crossbeam_queue.specs.Passes.{Pass, view}
 use Rattle.proc_runner.specs.declared.posts.Rest.{Rest}
@@ -32,8 +33,9 @@ abbrev pub HasRest : Option Rest → Type 0
 HasRest None = Unit {0}
 HasRest (Some r) = (r.from < r.count) × (r.count ≤ ROOM)
 
--- posts: the pieces that were taken, what is left of the last one of them, and how many failures were told
+-- posts: of which queue, the pieces that were taken, what is left of the last one of them, and how many failures were told
 pub record PostState : Type 0 where
+  pub queue : PieceQueue
   pub got : List Piece
   pub left : Option Left
   pub faults : ℕ

@@ -5,14 +5,17 @@ ghost use Rattle.mail_bytes.specs.Told.{Rose};
 ghost use Rattle.outside.specs.Children.{Starts};
 ghost use Rattle.outside.specs.Forms.{channels};
 ghost use Rattle.outside.specs.Streams.{CountsFailures};
-ghost use Rattle.proc_runner.specs.Running.{RunsMore, TellsStatus, held};
+ghost use Rattle.child_input.specs.Feedings.{feeding_of, nothing_fed};
+ghost use Rattle.proc_runner.specs.Running.{EndsInput, Feeds, RunsMore, TellsStatus, child};
 
-use crate::desk::{Desk, Line, ToRead, Work, run_desk};
+use crate::desk::{Desk, ToRead, Work, run_desk};
+use crate::line::Line;
 use crate::outflow::end_process;
 use crate::running::Running;
 use crate::shared::{Opener, Reader};
 use crate::start::{Kind, Start};
 use crate::system::{Born, Process, System};
+use child_input::{Feeder, Writer, feed_ends};
 use mail_bytes::Memory;
 use outside::{Gave, Spawner, Started, Status};
 use std::alloc::{AllocError, Global};
@@ -20,7 +23,8 @@ use std::io::ErrorKind;
 use std::sync::{Arc, Wait};
 use std::thread::{self, Threads};
 
-/// How many bytes a delivery's program may print.
+/// How many bytes a local delivery or a remote program may print, since its spawner keeps them. What the command of a user prints
+/// its delivery lets go.
 pub const MOST_PRINTED: usize = 1 << 20;
 
 /// The readers of the next channels: what opens them, and one that is left of a start that failed.
@@ -46,14 +50,25 @@ struct Made {
     line: Arc<Line, Global>,
     theirs: Arc<Line, Global>,
     also: Arc<Line, Global>,
+    feeder: Feeder,
+    writer: Writer,
 }
 
 impl Made {
-    fn new(alloc: Global) -> Result<Made, Memory> {
-        let line = Arc::new(alloc, Line::new(alloc))?;
+    fn new(alloc: Global) -> Result<Made, Memory>
+        ensures { IfOk result (λ made. feeding_of made.feeder.pass.me.view.client made.feeder.is_open ≡ nothing_fed) }
+    {
+        let line = Arc::new(alloc, Line::new())?;
         let theirs = Arc::try_clone(&line)?;
         let also = Arc::try_clone(&line)?;
-        Ok(Made { line, theirs, also })
+        let (feeder, writer) = feed_ends(alloc)?;
+        Ok(Made {
+            line,
+            theirs,
+            also,
+            feeder,
+            writer,
+        })
     }
 }
 
@@ -140,7 +155,7 @@ impl<R: Wait + Drop, S: System> Children<R, S> {
     /// Starts a child with these words. If that fails no child is left.
     fn run(&mut self, alloc: Global, words: &[&[u8]]) -> Result<Started, Memory>
         ensures ran { IfOk result (λ started. RunsMore (S.gives self.old.system) (map (λ w. w.now) words.now) started
-            (map (λ r. held r.chan (arc_value r.process)) self.old.running.items) (map (λ r. held r.chan (arc_value r.process)) self.new.running.items)) }
+            (map (λ r. child r.chan (arc_value r.process) (feeding_of r.feeder.pass.me.view.client r.feeder.is_open)) self.old.running.items) (map (λ r. child r.chan (arc_value r.process) (feeding_of r.feeder.pass.me.view.client r.feeder.is_open)) self.new.running.items)) }
         ensures chan { IfOk result (λ started. Starts started (channels self.old.count) (channels self.new.count)) }
         ensures memory { OnErr result ((self.new.running.items ≡ self.old.running.items) × (self.new.count ≡ self.old.count)) }
         ensures same { self.new.faults ≡ self.old.faults }
@@ -187,8 +202,15 @@ fn adopt<R: Wait, S: System>(
 ) -> Option<Running<S>>
     ensures chan { IfSome result (λ child. child.chan ≡ reader.chan) }
     ensures process { IfSome result (λ child. arc_value child.process ≡ arc_value born.process) }
+    ensures feeder { IfSome result (λ child. child.feeder ≡ made.feeder) }
 {
-    let Made { line, theirs, also } = made;
+    let Made {
+        line,
+        theirs,
+        also,
+        feeder,
+        writer,
+    } = made;
     let Born {
         process,
         number: _,
@@ -217,15 +239,16 @@ fn adopt<R: Wait, S: System>(
         chan,
         process,
         line,
-        input: Some(input),
+        feeder,
+        input: Some((writer, input)),
     })
 }
 
 /// How many bytes a child may print; None if as many as it wants to.
 fn most_printed(kind: Kind) -> Option<usize> {
     match kind {
-        Kind::Member => None,
-        Kind::Delivery | Kind::Remote | Kind::Command => Some(MOST_PRINTED),
+        Kind::Member | Kind::Command => None,
+        Kind::Delivery | Kind::Remote => Some(MOST_PRINTED),
     }
 }
 
@@ -257,7 +280,7 @@ impl<R: Wait + Drop, S: System> Spawner for Children<R, S> {
         ensures chan { Starts result (channels self.old.count) (channels self.new.count) }
         ensures cause { CountsFailures self.old.faults self.new.faults (result ≡ Started.Failed) }
         ensures ran { RunsMore (S.gives self.old.system) (map (λ w. w.now) words.now) result
-            (map (λ r. held r.chan (arc_value r.process)) self.old.running.items) (map (λ r. held r.chan (arc_value r.process)) self.new.running.items) }
+            (map (λ r. child r.chan (arc_value r.process) (feeding_of r.feeder.pass.me.view.client r.feeder.is_open)) self.old.running.items) (map (λ r. child r.chan (arc_value r.process) (feeding_of r.feeder.pass.me.view.client r.feeder.is_open)) self.new.running.items) }
     {
         match self.run(alloc, words) {
             Ok(Started::Failed) => {
@@ -272,7 +295,9 @@ impl<R: Wait + Drop, S: System> Spawner for Children<R, S> {
     fn feed(&mut self, chan: u32, bytes: &[u8]) -> Gave
         ensures same { channels self.new.count ≡ channels self.old.count }
         ensures cause { CountsFailures self.old.faults self.new.faults (result ≡ Gave.Failed) }
-        ensures running { map (λ r. held r.chan (arc_value r.process)) self.new.running.items ≡ map (λ r. held r.chan (arc_value r.process)) self.old.running.items }
+        ensures fed { Feeds chan bytes.now result
+            (map (λ r. child r.chan (arc_value r.process) (feeding_of r.feeder.pass.me.view.client r.feeder.is_open)) self.old.running.items)
+            (map (λ r. child r.chan (arc_value r.process) (feeding_of r.feeder.pass.me.view.client r.feeder.is_open)) self.new.running.items) }
     {
         let Some(place) = self.place_of(chan) else {
             self.count_failure();
@@ -288,7 +313,9 @@ impl<R: Wait + Drop, S: System> Spawner for Children<R, S> {
     fn finish(&mut self, chan: u32)
         ensures same { channels self.new.count ≡ channels self.old.count }
         ensures cause { self.new.faults ≡ self.old.faults }
-        ensures running { map (λ r. held r.chan (arc_value r.process)) self.new.running.items ≡ map (λ r. held r.chan (arc_value r.process)) self.old.running.items }
+        ensures ended { EndsInput chan
+            (map (λ r. child r.chan (arc_value r.process) (feeding_of r.feeder.pass.me.view.client r.feeder.is_open)) self.old.running.items)
+            (map (λ r. child r.chan (arc_value r.process) (feeding_of r.feeder.pass.me.view.client r.feeder.is_open)) self.new.running.items) }
     {
         if let Some(place) = self.place_of(chan) {
             self.running[place].finish(&self.rt, &self.desk);
@@ -300,7 +327,7 @@ impl<R: Wait + Drop, S: System> Spawner for Children<R, S> {
         ensures same { channels self.new.count ≡ channels self.old.count }
         ensures cause { CountsFailures self.old.faults self.new.faults (result ≡ Status.Failed) }
         ensures told { TellsStatus S.Process.ends chan result
-            (map (λ r. held r.chan (arc_value r.process)) self.old.running.items) (map (λ r. held r.chan (arc_value r.process)) self.new.running.items) }
+            (map (λ r. child r.chan (arc_value r.process) (feeding_of r.feeder.pass.me.view.client r.feeder.is_open)) self.old.running.items) (map (λ r. child r.chan (arc_value r.process) (feeding_of r.feeder.pass.me.view.client r.feeder.is_open)) self.new.running.items) }
     {
         let Some(place) = self.place_of(chan) else {
             self.count_failure();

@@ -1,9 +1,10 @@
 // The thread that starts the readers and the writers of children.
 
-use crate::feeding::{Inlet, low_half, run_writer};
+use crate::line::{Line, low_half, run_writer, watch_child};
 use crate::outflow::{Outflow, end_process};
 use crate::shared::Reader;
 use crate::system::Process;
+use child_input::Writer;
 use mail_bytes::Memory;
 use std::alloc::Global;
 use std::collections::VecDeque;
@@ -16,24 +17,6 @@ use std::time::Duration;
 /// How long it sleeps, in milliseconds, if there is no room for the failure of a channel.
 const NAP: u64 = 10;
 
-/// What the program and the two threads of a child share, besides its process: its reader, until that reads, and what it is
-/// fed.
-#[derive(Drop)]
-pub(crate) struct Line {
-    pub(crate) reader: Mutex<Option<Reader>>,
-    pub(crate) inlet: Inlet,
-}
-
-impl Line {
-    /// No reader, and nothing was fed yet. Takes no memory.
-    pub(crate) fn new(alloc: Global) -> Self {
-        Line {
-            reader: Mutex::new(None),
-            inlet: Inlet::new(alloc),
-        }
-    }
-}
-
 /// A process whose output is to be read; `also` and `kept` are for the case that this can't begin.
 #[derive(Drop)]
 pub(crate) struct ToRead<P: Process, O: Read + Drop> {
@@ -45,12 +28,14 @@ pub(crate) struct ToRead<P: Process, O: Read + Drop> {
     pub(crate) left: Option<usize>,
 }
 
-/// A process whose input is to be written; `kept` is for the case that this can't begin.
+/// A process whose input is to be written, and which is to be watched; `also` and `kept` are for the case that this can't begin.
 #[derive(Drop)]
 pub(crate) struct ToWrite<P: Process, I: Write + Drop> {
     pub(crate) line: Arc<Line, Global>,
+    pub(crate) also: Arc<Line, Global>,
     pub(crate) process: Arc<P, Global>,
     pub(crate) kept: Arc<P, Global>,
+    pub(crate) writer: Writer,
     pub(crate) input: I,
 }
 
@@ -143,10 +128,10 @@ fn begin_reader<
     if let Some(reader) = reader {
         fail(&rt, reader);
     }
-    also.inlet.let_go();
+    also.let_go();
 }
 
-/// Starts a writer. If that can't be done the process is ended, before its input is closed.
+/// Starts a writer, and what watches the child. If that can't be done the process is ended, before its input is closed.
 fn begin_writer<
     R: Threads + Wait + Copy + Send + Drop + 'static,
     P: Process + Send + Sync + 'static,
@@ -154,13 +139,19 @@ fn begin_writer<
 >(rt: R, work: ToWrite<P, I>, drain: u64) {
     let ToWrite {
         line,
+        also,
         process,
         kept,
+        writer,
         input,
     } = work;
-    let begun = thread::spawn(&rt, move || {
-        run_writer(&rt, &line.inlet, input, process.as_ref(), drain)
+    let watching = thread::spawn(&rt, move || {
+        watch_child(&rt, &also, process.as_ref(), drain)
     });
+    if watching.is_err() {
+        kept.kill();
+    }
+    let begun = thread::spawn(&rt, move || run_writer(&rt, &line, writer, input));
     if let Err(refused) = begun {
         kept.kill();
         drop(refused);
@@ -180,7 +171,7 @@ fn read_child<R: Wait, P: Process, O: Read + Drop>(
         let mut flow = Outflow::new(process, output, left);
         let _ = reader.read(rt, &mut flow);
     }
-    line.inlet.let_go();
+    line.let_go();
 }
 
 /// Pushes that a channel failed, once there is room.

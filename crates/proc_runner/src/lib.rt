@@ -12,13 +12,13 @@
 //!   is full it sleeps. A child's reader waits, at the end of its output, until the child has exited, and pushes `End` then.
 //!   So the end of a child is known before its status is asked for, `status` doesn't wait for a program, and no zombie is
 //!   left. One that can't be started gives its channel's failure as the only post, and the child is ended.
-//! - A writer for each child that was fed or whose input was ended. It owns the input, writes what was fed in order, closes
-//!   the input when it was ended, and, if the child doesn't end within the time that it has then, kills it. While nothing
-//!   is to be done it sleeps. So a feeding never waits for the child. A child whose feeding fails is killed, since it would
-//!   take a part for the whole.
+//! - A writer and a watcher for each child that was fed or whose input was ended. The writer owns the input, writes what was
+//!   fed in order, and closes the input when it was ended. The watcher kills the child if it doesn't end within the time that
+//!   it has from then on, also if it reads no more of its input. While nothing is to be done both sleep. So a feeding never
+//!   waits for the child. A child whose feeding fails is killed, since it would take a part for the whole.
 //!
-//! What is bounded: the room of the queue; what a delivery may print (1 MiB; at one byte more it is killed, and its channel
-//! fails and is counted). What lies before a writer is what the program fed, copied once. Room for a child, its reader and its
+//! What is bounded: the room of the queue; what a local delivery or a remote program may print (1 MiB, which its
+//! spawner keeps; at one byte more it is killed, and its channel fails and is counted). What lies before a writer is what the program fed, copied once. Room for a child, its reader and its
 //! pass are taken before it is started, so that no child runs that isn't known. Nobody spins: the program's thread rests in
 //! `RestingGate`, until a piece is pushed or a limit is over.
 //!
@@ -30,17 +30,21 @@
 //!
 //! - Each post is what the piece that was taken holds, and the rest of a piece comes before the next one. The pieces of a
 //!   channel come in order, each once, with `End` or a failure as the last: `ChildPosts` (by `IsPostOf`).
-//! - What was taken of a channel is a prefix of what its reader has pushed: `Taker::compare`. What it pushes is what its
+//! - What was taken of a channel is a prefix of what its reader has pushed: `ChildPosts::compare`. What it pushes is what its
 //!   reading brought (`ReadsBytes`), with the end only once the process has ended (`EndsAfter`).
-//! - A start, a feeding and a status of `Children` are those of the child of this channel and no other (by `RunsMore`,
-//!   `TellsStatus`).
+//! - A start, a feeding and a status of `Children` are those of the child of this channel and no other (by `RunsMore`, `Feeds`,
+//!   `EndsInput`, `TellsStatus`). All bytes of a feeding that was done stand behind what the child was fed before; after one
+//!   that failed each fails, and is counted.
+//!
+//! It isn't claimed that what was fed is ever written, that a child whose feeding failed ends, nor that a limit ends it. That a
+//! child is handed the writer of its own feeder is told by no clause, since it goes through a lock: tests show it.
 #![tactic(auto)]
 
 mod children;
 mod desk;
 mod drain;
-mod feeding;
 mod host_system;
+mod line;
 mod outflow;
 mod own_input;
 mod posts;

@@ -1,10 +1,13 @@
 // The posts of the channels.
 ghost use Rattle.std.specs.Prelude.{◌≡◌, ◌<◌, ◌≤◌, None, length};
+ghost use Rattle.std.specs.Arc.{arc_value};
+ghost use Rattle.crossbeam_queue.specs.Passes.{view};
 ghost use Rattle.outside.specs.Children.{FillsFront, IsFailedPost};
 ghost use Rattle.outside.specs.Streams.{CountsFailures};
+ghost use Rattle.piece_queue.specs.Pieces.{Agree};
 ghost use Rattle.proc_runner.specs.Posted.{IsGiven, IsPostOf, got_by};
 
-use crate::shared::Taker;
+use crate::shared::{Taker, Through};
 use outside::{Post, Posts};
 use piece_queue::{Brought, Piece, ROOM};
 use std::marker::Model;
@@ -29,12 +32,14 @@ pub struct ChildPosts<R: Wait + Drop> {
 }
 
 impl<R: Wait + Drop> Model for ChildPosts<R> {
+    ghost use Rattle.std.specs.Arc.{arc_value};
     ghost use Rattle.std.specs.Option.{option_map};
     ghost use Rattle.proc_runner.specs.Posted.{HasRest, PostState, got_by, left_of};
 
     ghost Value = { PostState };
 
     ghost view = { λ p. record {
+      queue = arc_value p.taker.queue;
       got = got_by p.taker.pass;
       left = option_map left_of p.rest;
       faults = p.faults;
@@ -46,6 +51,7 @@ impl<R: Wait + Drop> Model for ChildPosts<R> {
 impl<R: Wait + Drop> ChildPosts<R> {
     /// The posts of what this takes.
     pub fn new(rt: R, taker: Taker) -> Self
+        ensures queue { result.queue ≡ arc_value taker.queue }
         ensures got { result.got ≡ got_by taker.pass }
         ensures left { result.left ≡ None }
         ensures faults { result.faults ≡ 0 }
@@ -56,6 +62,18 @@ impl<R: Wait + Drop> ChildPosts<R> {
             rest: None,
             faults: 0,
         }
+    }
+
+    /// What was taken of a channel is a prefix of what its reader has pushed, and all of it once its last piece was taken
+    /// (`Agree`); for a reader that is through. The condition: it reads of the same queue. All stays as it is, and what is left
+    /// of the reader is given back.
+    pub fn compare(&mut self, through: Through) -> Through
+        requires { self.old.queue.line.table.shared.table_id ≡ through.pass.table_id }
+        ensures agree { Agree (view through.pass).chan self.old.got (view through.pass).sent }
+        ensures same { self.new ≡ self.old }
+        ensures through { ((view result.pass).chan ≡ (view through.pass).chan) × ((view result.pass).sent ≡ (view through.pass).sent) }
+    {
+        self.taker.compare(through)
     }
 }
 
@@ -76,6 +94,7 @@ impl<R: Wait + Drop> Posts for ChildPosts<R> {
         requires { 0 < length into.old }
         ensures fits { FillsFront result (length into.old) }
         ensures post { IsPostOf result into.new self.old self.new }
+        ensures queue { self.new.queue ≡ self.old.queue }
         ensures cause { CountsFailures self.old.faults self.new.faults (IsFailedPost result) }
     {
         if let Some(rest) = self.rest {
@@ -103,7 +122,7 @@ impl<R: Wait + Drop> ChildPosts<R> {
         requires within { (from < count) × (count ≤ ROOM) }
         ensures given { IsGiven piece from count result into.new self.new.left }
         ensures fits { FillsFront result (length into.old) }
-        ensures same { (self.new.got ≡ self.old.got) × (self.new.faults ≡ self.old.faults) }
+        ensures same { (self.new.got ≡ self.old.got) × (self.new.faults ≡ self.old.faults) × (self.new.queue ≡ self.old.queue) }
     {
         let len = into.len().min(count - from);
         into[..len].copy_from_slice(&piece.bytes[from..from + len]);

@@ -1,24 +1,36 @@
 // A child that runs.
-ghost use Rattle.std.specs.Prelude.{◌≡◌};
+ghost use Rattle.std.specs.Prelude.{◌≡◌, true};
 ghost use Rattle.std.specs.Arc.{arc_value};
+ghost use Rattle.child_input.specs.Feedings.{after_end, after_feeding, feeding_of};
 ghost use Rattle.proc_runner.specs.Running.{IsStatus};
 
-use crate::desk::{Desk, Line, ToWrite, Work};
-use crate::feeding::put;
+use crate::desk::{Desk, ToWrite, Work};
+use crate::line::Line;
 use crate::system::{Exit, Process, System};
+use child_input::{Feeder, Writer};
 use mail_bytes::Memory;
 use outside::Status;
 use std::alloc::Global;
 use std::sync::{Arc, Wait};
 
-/// A child that was started and whose status wasn't asked for. Its input is here until it has a writer.
+/// A child that was started and whose status wasn't asked for. Its input, with what is to write there, is here until it has a
+/// writer.
 #[derive(Drop)]
 pub(crate) struct Running<S: System> {
     pub(crate) chan: u32,
     pub(crate) process: Arc<S::Process, Global>,
     pub(crate) line: Arc<Line, Global>,
-    pub(crate) input: Option<S::Input>,
+    pub(crate) feeder: Feeder,
+    pub(crate) input: Option<(Writer, S::Input)>,
 }
+
+/// What a writer and a watcher share: the line twice, and the process twice.
+type ToShare<P> = (
+    Arc<Line, Global>,
+    Arc<Line, Global>,
+    Arc<P, Global>,
+    Arc<P, Global>,
+);
 
 impl<S: System> Running<S> {
     /// What its writer is to share, and room on the desk.
@@ -26,19 +38,13 @@ impl<S: System> Running<S> {
         &self,
         rt: &R,
         desk: &Desk<S::Process, S::Input, S::Output>,
-    ) -> Result<
-        (
-            Arc<Line, Global>,
-            Arc<S::Process, Global>,
-            Arc<S::Process, Global>,
-        ),
-        Memory,
-    > {
+    ) -> Result<ToShare<S::Process>, Memory> {
         desk.reserve(rt)?;
         let line = Arc::try_clone(&self.line)?;
+        let also = Arc::try_clone(&self.line)?;
         let process = Arc::try_clone(&self.process)?;
         let kept = Arc::try_clone(&self.process)?;
-        Ok((line, process, kept))
+        Ok((line, also, process, kept))
     }
 
     /// Sees to it that it has a writer. If that can't be done the child is ended, before its input is closed.
@@ -48,32 +54,31 @@ impl<S: System> Running<S> {
         desk: &Desk<S::Process, S::Input, S::Output>,
     ) -> bool
         ensures same { (self.new.chan ≡ self.old.chan) × (self.new.process ≡ self.old.process) }
+        ensures fed { self.new.feeder ≡ self.old.feeder }
     {
         if self.input.is_none() {
             return true;
         }
-        let Ok((line, process, kept)) = self.shared(rt, desk) else {
+        let Ok((line, also, process, kept)) = self.shared(rt, desk) else {
             self.process.kill();
             return false;
         };
-        let Some(input) = self.input.take() else {
+        let Some((writer, input)) = self.input.take() else {
             return true;
         };
         let work = ToWrite {
             line,
+            also,
             process,
             kept,
+            writer,
             input,
         };
-        if desk.put(rt, Work::Write(work)).is_err() {
-            self.process.kill();
-            self.line.inlet.give_up(rt);
-            return false;
-        }
-        true
+        desk.put(rt, Work::Write(work)).is_ok()
     }
 
-    /// Hands bytes to its writer. If that fails the child is ended: what it was fed isn't whole.
+    /// Feeds it a copy of these bytes. Answers whether all of them were taken; if not the child is ended, since what it was fed
+    /// isn't whole, and nothing more is taken.
     pub(crate) fn give<R: Wait>(
         &mut self,
         rt: &R,
@@ -82,26 +87,30 @@ impl<S: System> Running<S> {
         bytes: &[u8],
     ) -> bool
         ensures same { (self.new.chan ≡ self.old.chan) × (self.new.process ≡ self.old.process) }
+        ensures fed { feeding_of self.new.feeder.pass.me.view.client self.new.feeder.is_open
+            ≡ after_feeding result bytes.now (feeding_of self.old.feeder.pass.me.view.client self.old.feeder.is_open) }
+        ensures open { result ≡ true → self.old.feeder.is_open ≡ true }
     {
-        if !self.start_writer(rt, desk) {
-            return false;
+        if self.start_writer(rt, desk) && self.feeder.feed_copy(rt, alloc, bytes) {
+            return true;
         }
-        match put(rt, alloc, &self.line.inlet, bytes) {
-            Ok(true) => true,
-            _ => {
-                self.process.kill();
-                false
-            }
-        }
+        self.process.kill();
+        self.feeder.give_up();
+        false
     }
 
     /// Ends its input, once all is written that it was fed. If that can't be done the child is ended.
     pub(crate) fn finish<R: Wait>(&mut self, rt: &R, desk: &Desk<S::Process, S::Input, S::Output>)
         ensures same { (self.new.chan ≡ self.old.chan) × (self.new.process ≡ self.old.process) }
+        ensures fed { feeding_of self.new.feeder.pass.me.view.client self.new.feeder.is_open
+            ≡ after_end (feeding_of self.old.feeder.pass.me.view.client self.old.feeder.is_open) }
     {
-        if self.start_writer(rt, desk) {
-            self.line.inlet.end(rt);
+        let is_ended = self.start_writer(rt, desk) && self.feeder.end(rt);
+        if !is_ended {
+            self.process.kill();
+            self.feeder.give_up();
         }
+        self.line.end_input();
     }
 
     /// How it ended. It waits for its reader, and not for its writer: one that is stuck, since something else holds the input
@@ -109,9 +118,10 @@ impl<S: System> Running<S> {
     pub(crate) fn status<R: Wait>(self, rt: &R) -> Status
         ensures { IsStatus (S.Process.ends (arc_value self.process)) result }
     {
-        self.line.inlet.end(rt);
-        self.line.inlet.await_end(rt);
-        match self.process.ask() {
+        let mut child = self;
+        child.feeder.end(rt);
+        child.line.await_end(rt);
+        match child.process.ask() {
             Ok(Some(Exit::Code(code))) => Status::Ended(code),
             Ok(Some(Exit::Signal)) => Status::Crashed,
             _ => Status::Failed,

@@ -26,7 +26,7 @@ pub struct Opener {
 /// What takes the pieces of all channels.
 #[derive(Drop)]
 pub struct Taker {
-    queue: Shared,
+    pub(crate) queue: Shared,
     pub(crate) pass: QueuePass,
     ghost takes: { IsPassOf (arc_value queue).line pass × (view pass ≡ taker (view pass).got) },
 }
@@ -43,7 +43,7 @@ pub struct Reader {
 /// What is left of a reader that has read its channel to the end: what it has pushed.
 #[derive(Drop)]
 pub struct Through {
-    pass: QueuePass,
+    pub(crate) pass: QueuePass,
     ghost reads: { ((view pass).reads ≡ true) × (pass.me.1 ≡ []) },
 }
 
@@ -108,6 +108,8 @@ impl Taker {
     pub fn compare(&mut self, through: Through) -> Through
         requires { (arc_value self.old.queue).line.table.shared.table_id ≡ through.pass.table_id }
         ensures agree { Agree (view through.pass).chan (view self.old.pass).got (view through.pass).sent }
+        ensures kept { ((view self.new.pass).got ≡ (view self.old.pass).got) × (arc_value self.new.queue ≡ arc_value self.old.queue) }
+        ensures through { ((view result.pass).chan ≡ (view through.pass).chan) × ((view result.pass).sent ≡ (view through.pass).sent) }
     {
         let Through { pass } = through;
         let pass = self.queue.compare(&mut self.pass, pass);

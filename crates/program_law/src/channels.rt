@@ -1,7 +1,8 @@
-//! What ties what the sender keeps of a channel (send_jobs `Lane`) to the files of that channel, qmail-send(8). Each attempt that
-//! is to come, in flight, or to be marked is at a record that reads `T`, and no two are at one record. Each record that reads `T`
-//! of a message with a job is accounted for. It is stated of the records of the files alone (`specs/Tied.antt`), and each event of
-//! a channel keeps it (`specs/Laws.antt`). The laws are the contracts of functions that do nothing.
+//! What ties what the sender keeps of a channel (send_jobs `Lane`) to the files of that channel, qmail-send(8). Each attempt
+//! that is to come, in flight, or to be marked is at a record that reads `T`, and no two are at one record. Each record that
+//! reads `T` of a message with a job is accounted for. It is stated of the records of the files alone
+//! (`specs/Channel/Tied.antt`), and each event of a channel keeps it (`specs/Channel/Laws.antt`). The laws are the contracts
+//! of functions that do nothing.
 //!
 //! # What is claimed
 //!
@@ -17,8 +18,8 @@
 //!   text reads as that text except for marks: after each write of `D`, done or failed, and after each machine
 //!   stop. If the marks are at places of records, it has the same recipients at the same places then: the laws
 //!   `starts_tied`, `passes_keep`, `requests_keep`, `reports_keep`, `marks_keep`, `jobs_keep`, `others_keep`, by
-//!   `IsTied` (`specs/Tied.antt`), `marks_are_records`, `versions_keep` and `versions_are_records`, by
-//!   `IsMarkedFrom` and `HasVersions` (`specs/Versions.antt`). That the events of a sender over a disk are these is
+//!   `IsTied` (`specs/Channel/Tied.antt`), `marks_are_records`, `versions_keep` and `versions_are_records`, by
+//!   `IsMarkedFrom` and `HasVersions` (`specs/Channel/Versions.antt`). That the events of a sender over a disk are these is
 //!   part of program_law's `senders_keep`.
 ghost use Rattle.program_law.specs.Channel.Laws.{JobsKeep, MarksAreRecords, MarksKeep, OthersKeep, PassesKeep, ReportsKeep, RequestsKeep, StartsTied, VersionsAreRecords, VersionsKeep};
 

@@ -1,6 +1,7 @@
-//! Local deliveries over the queue and its disk: what one rests on (`specs/Rests.antt`), what its events keep of that and of the
-//! queue, and what others leave it (`specs/Laws.antt`, by `specs/Leaves.antt`). And that the names of its drops are apart from all
-//! that other programs name (`specs/Names.antt`). The laws are the contracts of functions that do nothing.
+//! Local deliveries over the queue and its disk: what one rests on (`specs/Delivery/Rests.antt`), what its events keep of
+//! that and of the queue, and what others leave it (`specs/Delivery/Laws.antt`, by `specs/Delivery/Leaves.antt`). And that
+//! the names of its drops are apart from all that other programs name (`specs/Delivery/Names.antt`). The laws are the
+//! contracts of functions that do nothing.
 //!
 //! # What is claimed
 //!
@@ -11,7 +12,7 @@
 //!   descriptors that its past holds open. It has that when it begins and after each of its events that is due: a
 //!   file call with any answer, and a take, a give, a start or a command. A file call of it is a step of a program
 //!   that is none of the queue's. It changes no name but those of drops, no file but those of its own drops, and
-//!   leaves the drops of other deliveries: the law `deliveries_keep`, by `DeliveryRests` (`specs/Rests.antt`) and
+//!   leaves the drops of other deliveries: the law `deliveries_keep`, by `DeliveryRests` (`specs/Delivery/Rests.antt`) and
 //!   `DeliveryLeads`.
 //! - Drops stay by each step of a program of the queue's. It leaves what isn't the queue's and what none of its
 //!   programs made, or takes a name of one part in `pid` away, or changes no name and no file. A step of another

@@ -1,6 +1,6 @@
-//! The errands of a cleaner are the commands that its sender gives and the answers that it takes, over the bytes in both pipes,
-//! the cleaner's place and what the sender waits for (`specs/Errands.antt`). `specs/Laws.antt` has what each event keeps of
-//! that. The laws are the contracts of functions that do nothing.
+//! The errands of a cleaner are the commands that its sender gives and the answers that it takes, over the bytes in both
+//! pipes, the cleaner's place and what the sender waits for (`specs/Errand/Errands.antt`). `specs/Errand/Laws.antt` has what
+//! each event keeps of that. The laws are the contracts of functions that do nothing.
 //!
 //! # What is claimed
 //!
@@ -13,7 +13,7 @@
 //!   the sender, and by a machine stop. `+` is given only after the last unlink of the command that the sender
 //!   waits for, and what the cleaner takes up next is the command that waits. A whole errand is a worked row: the
 //!   laws `starts_with_none`, `asks_keep`, `answers_are_of_errands`, `cleans_keep`, `losses_keep`, `is_alone`,
-//!   `next_waits`, by `Errand` (`specs/Errands.antt`), and `a_worked_errand`. That the pipes of a history do this
+//!   `next_waits`, by `Errand` (`specs/Errand/Errands.antt`), and `a_worked_errand`. That the pipes of a history do this
 //!   is part of world_law's invariant (`errands` of `Inv`).
 //! - A cleaner takes a name in `pid` away only directly after a look at its file, which told that it was written
 //!   last more than 36 hours before: the law `old_names_go`, over the cleaner's past alone.

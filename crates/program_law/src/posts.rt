@@ -1,8 +1,8 @@
-//! What lies between the sender and a spawner: the requests that are given and the reports that are taken (`specs/Posts.antt`). It
-//! is told over the bytes in both pipes, the spawner's place, the deliveries that it runs and what is in flight in the sender's
-//! slots. `specs/Laws.antt` has what each event keeps of that. What comes of it: a report that the sender takes is of the attempt
-//! in flight in its slot, and a success of a local one is of a delivery for that recipient which ended with 0. The laws are the
-//! contracts of functions that do nothing.
+//! What lies between the sender and a spawner: the requests that are given and the reports that are taken
+//! (`specs/Post/Posts.antt`). It is told over the bytes in both pipes, the spawner's place, the deliveries that it runs and
+//! what is in flight in the sender's slots. `specs/Post/Laws.antt` has what each event keeps of that. What comes of it: a
+//! report that the sender takes is of the attempt in flight in its slot, and a success of a local one is of a delivery for
+//! that recipient which ended with 0. The laws are the contracts of functions that do nothing.
 //!
 //! # What is claimed
 //!
@@ -20,7 +20,7 @@
 //!   and a success of a local one is of a delivery for its recipient that ended with 0. A whole request and its
 //!   report are a worked row: the laws `starts_posted`, `greets_keep`, `slots_keep`, `asks_keep`,
 //!   `requests_are_plain`, `takes_in_keep`, `works_keep`, `reports_keep`, `spawners_keep`, `hears_keep`,
-//!   `losses_keep`, `desks_tell`, `senders_keep`, by `Posted` (`specs/Posts.antt`, `specs/Senders.antt`), and
+//!   `losses_keep`, `desks_tell`, `senders_keep`, by `Posted` (`specs/Post/Posts.antt`, `specs/Post/Senders.antt`), and
 //!   `a_worked_post`. That the pipes of a history do this, of the local spawner, is world_law's
 //!   (`k_reports_are_carried`), and so is that the message which a delivery is given is the one that was entered.
 ghost use Rattle.program_law.specs.Post.Laws.{AsksKeep, DesksTell, GreetsKeep, HearsKeep, LossesKeep, ReportsKeep, RequestsArePlain, SlotsKeep, SpawnersKeep, StartsPosted, TakesInKeep, WorksKeep};

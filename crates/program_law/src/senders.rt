@@ -1,7 +1,8 @@
-//! What a living sender relies on over the queue (`specs/Stands.antt`), what its events and those of others keep of that
-//! (`specs/Laws.antt`), and its chores (qmail-send(8)). These are what its cleaner is given and when it waits for the answer
-//! (`specs/Commands.antt`, `specs/Waits.antt`), its todo pass (`specs/Searches.antt`), and the finish of a message, with the return
-//! of its bounce file, and the sweep (`specs/Points.antt`). The laws are the contracts of functions that do nothing.
+//! What a living sender relies on over the queue (`specs/Sender/Stands.antt`), what its events and those of others keep of
+//! that (`specs/Sender/Laws.antt`), and its chores (qmail-send(8)). These are what its cleaner is given and when it waits for
+//! the answer (`specs/Sender/Commands.antt`, `specs/Sender/Waits.antt`), its todo pass (`specs/Sender/Searches.antt`), and
+//! the finish of a message, with the return of its bounce file, and the sweep (`specs/Sender/Points.antt`). The laws are the
+//! contracts of functions that do nothing.
 //!
 //! # What is claimed
 //!

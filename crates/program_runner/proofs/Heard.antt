@@ -37,7 +37,7 @@ failed_post (post.End chan) into h = h
 failed_post (post.Failed chan) into h = h
 failed_post post.Turn into h = h
 
-answered : (answer : Post) (into : List ℕ) (old new : PostsTold) → Meets old.waiting new.waiting (Receives answer into) → Records old.asked new.asked (posted answer into)
+pub answered : (answer : Post) (into : List ℕ) (old new : PostsTold) → Meets old.waiting new.waiting (Receives answer into) → Records old.asked new.asked (posted answer into)
     → CountsFailures old.faults new.faults (IsFailedPost answer) → Answers (posted answer into ∷ []) old new
 answered answer into old new waiting told cause = record {
   told = kept_one old.asked new.asked (posted answer into) told;

@@ -10,5 +10,7 @@ pub mod Members
 pub mod Runs
 -- calls of a spawner
 pub mod Serves
+-- what the lines keep agrees with the past
+pub mod Told
 -- one turn
 pub mod Turns

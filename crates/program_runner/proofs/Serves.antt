@@ -1,5 +1,5 @@
 -- Calls of a spawner, and what was taken, given and started by them.
-use Rattle.std.proofs.Common.{◌≡◌, ℕ, ◌≤◌, List, [], ◌∷◌, ◌++◌, take, set, get_or, slice_get, length, position, zero, suc, ◌<◌, true, false, Option, Some, None, Result, Ok, Err, IfOk, refl, sym, ap, ◌∙◌, subst, ⊎_elim, arith}
+use Rattle.std.proofs.Common.{◌≡◌, ℕ, ◌≤◌, List, [], ◌∷◌, ◌++◌, take, set, get_or, slice_get, length, position, zero, suc, ◌<◌, true, false, Option, Some, None, Result, Ok, Err, IfOk, refl, sym, ap, ◌∙◌, subst, inl, inr, ⊎_elim, arith}
 use Rattle.call_fs.specs.declared.program.Port.{Port}
 use Rattle.call_fs.specs.declared.program.Port.TheVariants as port
 use Rattle.call_fs.specs.declared.past.ChildData.{ChildData}
@@ -12,7 +12,7 @@ use Rattle.call_fs.specs.Program.{MayCome, IsWithin}
 use Rattle.mail_bytes.specs.Told.{Meets, Records, Rose}
 use Rattle.outside.specs.Streams.{CountsFailures}
 use Rattle.outside.specs.Streams.{Gives as Given}
-use Rattle.outside.specs.Children.{Starts}
+use Rattle.outside.specs.Children.{SpawnCall, Starts}
 use Rattle.outside.specs.Children.SpawnCall.{Start, Feed, Finish, AskStatus}
 use Rattle.outside.specs.declared.posts.Waiting.{Waiting}
 use Rattle.outside.specs.declared.posts.Waiting.TheVariants as waiting
@@ -27,9 +27,9 @@ use Rattle.program_runner.specs.declared.line.Line.{Line}
 use Rattle.program_runner.specs.declared.line.Line.TheVariants as line
 use Rattle.program_runner.specs.declared.served.Served.{Served}
 use Rattle.program_runner.specs.declared.served.Served.TheVariants as served
-use Rattle.program_runner.specs.Outside.{Gives}
-use Rattle.program_runner.specs.Lines.{LineState, Serves, after_start, after_taking, came_of_start, slot_of, HasToWait, TakesBy, TakesAs, IsQuiet, is_of, is_over, left_at, line_of, link_line, link_of, program_line, program_of, status_line, came_of_status, came_of_giving}
-use Rattle.program_runner.specs.Serving.{BringsSome, ByDone, FitsPiece, IfDone, IsAsked, IsGiven, IsPossible, IsFront, IsServed, IsStatusTaken, IsTaken, IsTakenAs, IsTakenBy, PutsOut, Serving, SpawnerTold, Spawns, came_with, is_done, served_status}
+use Rattle.program_runner.specs.Outside.{AreKept, Gives}
+use Rattle.program_runner.specs.Lines.{Fosters, LineState, Serves, StartsBy, after_start, after_taking, came_of_start, slot_of, HasToWait, TakesBy, TakesAs, IsQuiet, is_of, is_over, left_at, line_of, link_line, link_of, program_line, program_of, status_line, came_of_status, came_of_giving}
+use Rattle.program_runner.specs.Serving.{BringsSome, ByDone, FitsPiece, IfDone, IsAsked, IsBegun, IsGiven, IsPossible, IsFront, IsServed, IsStatusTaken, IsTaken, IsTakenAs, IsTakenBy, PutsOut, Serving, SpawnerTold, Spawns, came_with, is_done, served_status}
 use Rattle.program_runner.proofs.Deeds.{kept_more, kept_none, kept_one}
 
 -- Calls of a spawner
@@ -74,6 +74,17 @@ asked_start old new words told starts calls cause = record {
   counts = cause.later;
   cause = ⊎_elim (λ h. cause.rose h) (λ h. absurd h);
 }
+
+-- a child was to be started
+pub begun : (old new : SpawnerTold) (words : List (List ℕ)) (told : Started) → IsBegun words told old new → Serving (StartsBy words told) old new
+begun old new words told b = ⊎_elim (λ calls. record { calls = Start words told ∷ []; done = inl refl; spawns = asked_start old new words told b.chan calls b.cause })
+    (λ none. record { calls = []; done = inr (none.0, refl); spawns = record { told = unasked old.calls new.calls none.1; children = fostered told none.0 b.chan; counts = b.cause.later; cause = λ h. absurd h } }) b.calls
+  where
+    unasked : (x y : Option (List SpawnCall)) → y ≡ x → AreKept x y []
+    unasked x y same = subst (λ t. AreKept x t []) (sym same) (kept_none x)
+
+    fostered : (it : Started) → it ≡ started.Memory → Starts it old.children new.children → Fosters old.children [] new.children
+    fostered it is starts = subst (λ t. Starts t old.children new.children) is starts
 
 -- What a port is
 
@@ -446,9 +457,9 @@ pub given_put : (p : Port) (bytes : List ℕ) (result told : Gave) (a b : Option
 given_put p bytes result told a b before now is h = subst (λ t. PutsOut (Give p bytes) (came_of_giving t) a b before now) is h
 
 pub start_served : (words : ChildData → List (List ℕ)) (l m : LineState) (child : ChildData) (result told : Started) (old new : SpawnerTold) → result ≡ told
-    → m ≡ after_start (slot_of child) result l → Spawns (Start (words child) result ∷ []) old new → Serving (λ calls. Serves words (needs.Start child) (came_of_start told) calls l m) old new
-start_served words l m child result told old new is after spawns =
-    record { calls = Start (words child) result ∷ []; done = (result, ap came_of_start (sym is), refl, after); spawns = spawns }
+    → m ≡ after_start (slot_of child) result l → Serving (StartsBy (words child) result) old new → Serving (λ calls. Serves words (needs.Start child) (came_of_start told) calls l m) old new
+start_served words l m child result told old new is after s =
+    record { calls = s.calls; done = (result, ap came_of_start (sym is), s.done, after); spawns = s.spawns }
 
 pub start_put : (child : ChildData) (came : GotData) (o : Option (List ℕ)) (faults : ℕ) → PutsOut (needs.Start child) came o o faults faults
 start_put child came o faults = record {

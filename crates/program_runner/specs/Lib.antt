@@ -8,3 +8,7 @@ pub mod Lines
 pub mod Serving
 -- a program with channels
 pub mod Members
+-- by which words the programs of a queue start their children
+pub mod ChildWords
+-- which programs a past has
+pub mod Programs

@@ -196,6 +196,11 @@ came_of_start (started.Chan chan pid) = got.Started pid
 came_of_start started.Failed = got.Failed
 came_of_start started.Memory = got.Memory
 
+-- The spawner was asked once to start a child with these words; or, out of memory, the words could not be put together, and it
+-- wasn't asked.
+abbrev pub StartsBy : List (List ℕ) → Started → List SpawnCall → Type 0
+StartsBy words told calls = (calls ≡ Start words told ∷ []) ⊎ ((told ≡ started.Memory) × (calls ≡ []))
+
 -- a child that was started is the program of its delivery
 abbrev pub after_start : ℕ → Started → LineState → LineState
 after_start slot (started.Chan chan pid) l = record l { programs = set l.programs slot (Some chan); over = set l.over slot false }
@@ -207,7 +212,7 @@ abbrev pub Serves : (ChildData → List (List ℕ)) → NeedData → GotData →
 Serves words (needs.Take port) came calls old new = TakesBy (line_of old port) came calls old new
 Serves words (needs.Give port bytes) came calls old new = (told : Gave) × (came ≡ came_of_giving told) × GivesBy (line_of old port) bytes told calls × (new ≡ old)
 Serves words (needs.Start child) came calls old new = (told : Started) × (came ≡ came_of_start told)
-    × (calls ≡ Start (words child) told ∷ []) × (new ≡ after_start (slot_of child) told old)
+    × StartsBy (words child) told calls × (new ≡ after_start (slot_of child) told old)
 Serves words (needs.File call) came calls old new = (calls ≡ []) × (new ≡ old)
 Serves words other came calls old new = ⊥
 

@@ -1,5 +1,5 @@
 -- What the posts answered, what a spawner was asked, and how a need was served that is no file call.
-use Rattle.std.specs.Prelude.{◌≡◌, ℕ, ◌<◌, ◌≤◌, List, [], ◌∷◌, ◌++◌, length, take, set, flat_map, position, Bool, true, false, Option, None}
+use Rattle.std.specs.Prelude.{◌≡◌, ◌⊎◌, ℕ, ◌<◌, ◌≤◌, List, [], ◌∷◌, ◌++◌, length, take, set, flat_map, position, Bool, true, false, Option, None}
 use Rattle.call_fs.specs.declared.file_system.TheConstants.{PIECE}
 use Rattle.call_fs.specs.declared.program.Port.TheVariants as port
 use Rattle.outside.specs.declared.sink.Gave.{Gave}
@@ -11,14 +11,17 @@ use Rattle.call_fs.specs.declared.past.GotData.TheVariants as got
 use Rattle.call_fs.specs.Program.{MayCome, IsWithin}
 use Rattle.std.specs.Prelude.{Result, Ok, Err}
 use Rattle.std.specs.declared.alloc.AllocError.{AllocError}
-use Rattle.mail_bytes.specs.Told.{Meets, OnTold, Rose}
-use Rattle.outside.specs.Children.{Arrival, Posted, SpawnCall, arrivals}
+use Rattle.mail_bytes.specs.Told.{Meets, OnTold, Records, Rose}
+use Rattle.outside.specs.Streams.{CountsFailures}
+use Rattle.outside.specs.Children.{Arrival, Posted, SpawnCall, Starts, arrivals}
 use Rattle.outside.specs.declared.posts.Waiting.{Waiting}
 use Rattle.outside.specs.declared.posts.Waiting.TheVariants as waiting
 use Rattle.outside.specs.declared.posts.Post.TheVariants as post
 use Rattle.outside.specs.declared.spawner.Status.{Status}
 use Rattle.outside.specs.declared.spawner.Status.TheVariants as status
-use Rattle.outside.specs.Children.SpawnCall.{AskStatus}
+use Rattle.outside.specs.declared.spawner.Started.{Started}
+use Rattle.outside.specs.declared.spawner.Started.TheVariants as started
+use Rattle.outside.specs.Children.SpawnCall.{AskStatus, Start as Begin}
 use Rattle.program_runner.specs.declared.served.Served.{Served}
 use Rattle.program_runner.specs.declared.served.Served.TheVariants as served
 use Rattle.program_runner.specs.Outside.{AreKept, Gives}
@@ -53,6 +56,12 @@ pub record Spawns (calls : List SpawnCall) (old new : SpawnerTold) : Type 0 wher
   pub children : Fosters old.children calls new.children
   pub counts : old.faults ≤ new.faults
   pub cause : HasOne IsFailedCall calls → Rose old.faults new.faults
+
+-- A child was to be started with these words, and this was told. Out of memory the spawner may not have been asked.
+pub record IsBegun (words : List (List ℕ)) (told : Started) (old new : SpawnerTold) : Type 0 where
+  pub chan : Starts told old.children new.children
+  pub calls : Records old.calls new.calls (Begin words told) ⊎ ((told ≡ started.Memory) × (new.calls ≡ old.calls))
+  pub cause : CountsFailures old.faults new.faults (told ≡ started.Failed)
 
 -- what came, by the bytes in the buffer
 abbrev pub came_with : Served → List ℕ → GotData

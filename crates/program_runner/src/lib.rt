@@ -22,24 +22,31 @@
 //!   Its calls, moments, takings, givings, starts and statuses are those of what was handed in; each failure among
 //!   them was counted; out of memory cuts the run short. Commands of a user aren't carried: `member_turn` (by
 //!   `IsTurnOf`), `run_member` (by `RanTo`).
+//! - A delivery has a channel exactly if the past has a program of it, and a taking of a channel fails only if a
+//!   post told so: the law `lines_tell_the_past`.
+//! - By which words the children of a queue's programs are started: `QueueChildren` (by `words_of`).
 #![tactic(auto)]
 
 mod child_words;
+mod laws;
 mod line;
 mod lines;
 mod member_running;
 mod nothing;
 mod one_member_turn;
 mod one_turn;
+mod queue_children;
 mod running;
 mod served;
 mod serving;
 
 pub use child_words::ChildWords;
+pub use laws::lines_tell_the_past;
 pub use lines::Lines;
 pub use member_running::run_member;
 pub use nothing::Nothing;
 pub use one_member_turn::member_turn;
 pub use one_turn::{take, turn};
+pub use queue_children::{QueueChildren, dir_word};
 pub use running::run_on;
 pub use served::Served;

@@ -10,7 +10,7 @@ use crate::lines::Lines;
 use crate::one_member_turn::member_turn;
 use call_fs::{CallFs, Machine};
 use mail_bytes::Memory;
-use outside::{Clock, Posts, Sink, Spawner};
+use outside::{Clock, Gate, Posts, Sink, Spawner};
 use std::alloc::Global;
 
 /// The most turns that a run takes: at a million a second, those of 500,000 years.
@@ -21,7 +21,19 @@ const TURNS: u64 = u64::MAX;
 /// for `TURNS` turns at most, which nobody lives to see; then `None`. Fails only if memory runs out; what it did until then
 /// is a run that was cut short. The conditions: it has no past yet, it may find anything ready at any time, and it asks for
 /// no command of a user.
-pub fn run_member<M: Machine, D: CallFs, K: Clock, C: ChildWords, P: Posts, S: Spawner, O: Sink>(
+///
+/// After each look that found nothing to do it pauses at the gate, as the k-th in a row: `gate.pause(0, k)`. So a gate that
+/// rests lets a program sleep that waits.
+pub fn run_member<
+    M: Machine,
+    D: CallFs,
+    K: Clock,
+    C: ChildWords,
+    P: Posts,
+    S: Spawner,
+    O: Sink,
+    G: Gate,
+>(
     alloc: Global,
     machine: &mut M,
     words: &C,
@@ -31,6 +43,7 @@ pub fn run_member<M: Machine, D: CallFs, K: Clock, C: ChildWords, P: Posts, S: S
     posts: &mut P,
     spawner: &mut S,
     output: &mut O,
+    gate: &G,
 ) -> Result<Option<u8>, Memory>
     requires new { (args : M.Arguments) × M.stands machine.old args [] }
     requires finds { (m : M) (ready : Found) → M.can_find m ready }
@@ -41,14 +54,22 @@ pub fn run_member<M: Machine, D: CallFs, K: Clock, C: ChildWords, P: Posts, S: S
         (record { moments = K.calls clock.old; posts = record { waiting = P.waiting posts.old; asked = P.calls posts.old; faults = P.faults posts.old }; spawner = record { children = S.children spawner.old; calls = S.calls spawner.old; faults = S.faults spawner.old }; lines = lines.old })
         (record { moments = K.calls clock.new; posts = record { waiting = P.waiting posts.new; asked = P.calls posts.new; faults = P.faults posts.new }; spawner = record { children = S.children spawner.new; calls = S.calls spawner.new; faults = S.faults spawner.new }; lines = lines.new }) }
 {
+    let mut looks = 0;
     for _ in 0..TURNS {
         match member_turn(
-            alloc, machine, words, lines, disk, clock, posts, spawner, output,
+            alloc, machine, words, lines, disk, clock, posts, spawner, output, &mut looks,
         ) {
-            Ok(None) => {}
+            Ok(None) => rest(gate, looks),
             Ok(Some(status)) => return Ok(Some(status)),
             Err(memory) => return Err(memory),
         }
     }
     Ok(None)
+}
+
+/// Pauses at the gate, if the last looks found nothing to do; so many of them, one after the other.
+fn rest<G: Gate>(gate: &G, looks: u64) {
+    if looks > 0 {
+        gate.pause(0, looks);
+    }
 }

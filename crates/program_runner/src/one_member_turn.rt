@@ -14,8 +14,9 @@ use std::alloc::Global;
 
 /// One turn of a program with channels: what its posts brought is kept, it is told the moment and what is ready, and does
 /// what is due: a file call, a taking from what came, a giving, a start. None then, also if it has to wait; its exit
-/// status if it has ended. Its children are started by these words. Fails only if memory runs out. The conditions: it may
-/// find anything ready; and it stands for a run that asks for no command of a user, and whose descriptors are open.
+/// status if it has ended. Its children are started by these words. It counts how many looks in a row found nothing to do.
+/// Fails only if memory runs out. The conditions: it may find anything ready; and it stands for a run that asks for no
+/// command of a user, and whose descriptors are open.
 pub fn member_turn<M: Machine, D: CallFs, K: Clock, C: ChildWords, P: Posts, S: Spawner, O: Sink>(
     alloc: Global,
     machine: &mut M,
@@ -26,6 +27,7 @@ pub fn member_turn<M: Machine, D: CallFs, K: Clock, C: ChildWords, P: Posts, S: 
     posts: &mut P,
     spawner: &mut S,
     output: &mut O,
+    looks: &mut u64,
 ) -> Result<Option<u8>, Memory>
     requires finds { (m : M) (ready : Found) → M.can_find m ready }
     requires may { MayAct M.next (M.stands machine.old) (D.disk disk.old) }
@@ -37,6 +39,8 @@ pub fn member_turn<M: Machine, D: CallFs, K: Clock, C: ChildWords, P: Posts, S: 
         (record { moments = K.calls clock.new; posts = record { waiting = P.waiting posts.new; asked = P.calls posts.new; faults = P.faults posts.new }; spawner = record { children = S.children spawner.new; calls = S.calls spawner.new; faults = S.faults spawner.new }; lines = lines.new }) }
 {
     M::uses_held();
+    let before = *looks;
+    *looks = 0;
     lines.gather(alloc, posts)?;
     let ready = lines.ready();
     let now = clock.now();
@@ -59,6 +63,7 @@ pub fn member_turn<M: Machine, D: CallFs, K: Clock, C: ChildWords, P: Posts, S: 
                 machine.done(alloc, served.came(&bytes))?;
                 return Ok(None);
             }
+            *looks = before.saturating_add(1);
         }
     }
     Ok(None)

@@ -3,9 +3,9 @@ ghost use Rattle.std.specs.Prelude.{◌≡◌, ◌∷◌, [], ℕ, List, Option,
 ghost use Rattle.call_fs.specs.declared.past.NeedData.TheVariants.{Give, Take, Start as Begin};
 ghost use Rattle.call_fs.specs.declared.past.ChildData.{ChildData};
 ghost use Rattle.call_fs.specs.Program.{child_data, due_of};
-ghost use Rattle.outside.specs.Children.SpawnCall.{AskStatus, Start};
-ghost use Rattle.program_runner.specs.Lines.{Serves, TakesAs, after_start, came_of_giving, line_of, slot_of};
-ghost use Rattle.program_runner.specs.Serving.{FitsPiece, IsGiven, IsPossible, IsServed, IsStatusTaken, MayServe, PutsOut, Spawns, came_with, is_done, served_status};
+ghost use Rattle.outside.specs.Children.SpawnCall.{AskStatus};
+ghost use Rattle.program_runner.specs.Lines.{Serves, StartsBy, TakesAs, after_start, came_of_giving, line_of, slot_of};
+ghost use Rattle.program_runner.specs.Serving.{FitsPiece, IsGiven, IsPossible, IsServed, IsStatusTaken, MayServe, PutsOut, Serving, Spawns, came_with, is_done, served_status};
 
 use crate::child_words::ChildWords;
 use crate::line::Line;
@@ -187,7 +187,7 @@ fn start_child<C: ChildWords, S: Spawner>(
     spawner: &mut S,
 ) -> Started
     ensures lines { lines.new ≡ after_start (slot_of (child_data child.entry)) result lines.old }
-    ensures started { Spawns (Start (C.words words.now (child_data child.entry)) result ∷ [])
+    ensures started { Serving (StartsBy (C.words words.now (child_data child.entry)) result)
         (record { children = S.children spawner.old; calls = S.calls spawner.old; faults = S.faults spawner.old })
         (record { children = S.children spawner.new; calls = S.calls spawner.new; faults = S.faults spawner.new }) }
 {

@@ -2,3 +2,7 @@
 pub mod Commands
 -- which status an injection never ends with
 pub mod Injections
+-- a command that has children, by what it was told
+pub mod Families
+-- which status a spawner never ends with
+pub mod Spawners

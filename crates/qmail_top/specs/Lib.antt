@@ -2,3 +2,5 @@
 pub mod Command
 -- what a script prints, and that it is safe
 pub mod SafePlays
+-- the commands that have children
+pub mod Families

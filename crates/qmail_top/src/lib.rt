@@ -2,18 +2,23 @@
 //!
 //! The command `play` reads a script of mails and steps, and plays it over a disk in memory; the crate `scenario` says
 //! what a script is and what it prints. `queue` puts a message into a queue (the crate `queue_command`), `audit` prints
-//! what a queue holds (`audit_command`), and `clean` runs the cleaner (`clean_command`). The exit statuses are those of
+//! what a queue holds (`audit_command`), and `clean` runs the cleaner (`clean_command`). `lspawn` and `rspawn` run the
+//! spawners (`spawn_command`), and `local` makes a local delivery (`local_command`). The exit statuses are those of
 //! qmail-queue(8) if it has one.
 //!
 //! # What is claimed
 //!
-//! - 100 only if the words are no command, and for those 100 or 51. At 100 the log took the line `usage`, or a
-//!   prefix of it if it failed. What each command leaves untouched: `qmail`: `usage`, `no_command`, `usage_line`,
+//! - 100 only if the words are no command, or of `local`, and for no command 100 or 51. At that 100 the log took the line
+//!   `usage`, or a prefix of it if it failed. What each command leaves untouched: `qmail`: `usage`, `no_command`, `usage_line`,
 //!   and those of "untouched".
 //! - `queue`: a whole injection, for what the words say: `qmail`: `queue` (by `HasRunQueue`).
 //! - `audit`: its lines, its statuses and what it leaves: `qmail`: `audit` (by `HasAudited`), `audit_unwritten`.
 //! - `clean`: a whole run of the cleaner, with the commands of standard input; or there was no memory for its
 //!   words, and nothing was done: `qmail`: `clean` (by `WasCleaned`).
+//! - `lspawn`, `rspawn`: a whole run of the spawner, with deliveries by the words' directory or program: `qmail`: `lspawn` (by
+//!   `WasLspawned`), `rspawn` (by `WasRspawned`).
+//! - `local`: a whole delivery, of what the words say: `qmail`: `local` (by `WasDelivery`).
+//! - The words by which these start this same program are the command that is meant: `children_are_commands`.
 //! - `play`: with status 0 the output took exactly what the script prints, and the script was read to its end. The
 //!   history that it played is its own, from a disk that has controls, legal, and as promised at each prefix by
 //!   them. If no generation was started in it, it is safe whatever controls are meant, with each accepted message
@@ -26,9 +31,11 @@
 //!   `malformed`, `checked`, `output`, `input`, `unfailed`, `complete`, `known`.
 #![tactic(auto)]
 
+mod laws;
 mod play_command;
 mod refusing;
 mod top;
 
 pub use command_words::{Places, places};
+pub use laws::children_are_commands;
 pub use top::qmail;

@@ -1,12 +1,19 @@
 // The one public call.
 ghost use Rattle.std.specs.Prelude.{◌≡◌, ◌≢◌, ◌⊎◌, ◌++◌, ◌∷◌, [], List, ℕ, true, Contains, None, length, ◌<◌, map, string_bytes};
 ghost use Rattle.mail_bytes.specs.Told.{Rose, Meets, OnTold};
+ghost use Rattle.command_words.specs.declared.command.LocalWords.{LocalWords as Told};
 ghost use Rattle.command_words.specs.declared.command.QueueWords.{QueueWords as Wanted};
+ghost use Rattle.command_words.specs.declared.command.RspawnWords.{RspawnWords as Spawns};
 ghost use Rattle.command_words.specs.Reads.{IsNoCommand};
 ghost use Rattle.script_lines.specs.Contents.{Content};
 ghost use Rattle.script_lines.specs.Lines.{IsScript, IsRefused, most_bytes};
 ghost use Rattle.scenario.specs.Text.{IsTakenText, PrintsBadLine};
 ghost use Rattle.audit_command.specs.Audited.{HasAudited};
+ghost use Rattle.local_command.specs.Delivered.{WasDelivered};
+ghost use Rattle.local_parts.specs.Arguments.{local_args};
+ghost use Rattle.program_runner.specs.ChildWords.{dir_word, words_of};
+ghost use Rattle.program_runner.specs.Members.{uncounted};
+ghost use Rattle.qmail_top.specs.Families.{HasNoChannels, IsDelivery, IsLocal, IsLspawn, IsParent, IsRspawn, IsSpawner, WasDelivery, WasLspawned, WasRspawned};
 ghost use Rattle.qmail_top.specs.SafePlays.{IsSafePrefixAtMost, PrintsSafely};
 ghost use Rattle.qmail_top.specs.Command.{IsPlay, IsPrintedAtEnd, IsQueue, IsAudit, IsClean, HasRunQueue, NoneFailed, WasCleaned, usage_line};
 
@@ -14,11 +21,13 @@ use crate::play_command::play_script;
 use audit_command::print_audit;
 use call_fs::CallFs;
 use clean_command::clean;
-use command_words::{Command, QueueWords, WordsError, read_words};
+use command_words::{Command, LocalWords, QueueWords, WordsError, read_words};
+use local_command::deliver;
 use outside::{Clock, Gate, Posts, Sink, Source, Spawner};
 use queue_command::{Form, inject};
 use queue_limits::{DONE, INPUT, MALFORMED, MEMORY, OUTPUT, USAGE};
 use received_line::Invoked;
+use spawn_command::{spawn_local, spawn_remote};
 use std::alloc::Global;
 
 /// Does what the words after the program's name say, and answers the exit status.
@@ -38,7 +47,19 @@ use std::alloc::Global;
 /// as long as `message` does. 0: `message` ended. 51: out of memory, before anything was done, or it hasn't ended after
 /// 18,446,744,073,709,551,615 turns. 53: `out` failed. 54: `message` failed. It is the program of qmail-clean(8).
 ///
-/// Other words write the line `usage` to `log`, with exit status 100. What a command doesn't use stays untouched.
+/// `lspawn` and `rspawn` run the spawners over the queue on `disk`, with requests from channel 0 of `posts`; `out` gets a byte
+/// with their room, 120, and a report for each request. Deliveries are children of `spawn`, and what these print are channels
+/// of `posts`. 0: the requests ended, and each has its report. 91: a field of a request has a 4097th byte, and each request
+/// before has its report. 51: out of memory, or it hasn't ended after 18,446,744,073,709,551,615 turns. 53: `out` failed. 54:
+/// `posts` failed. They are the programs of qmail-lspawn(8) and qmail-rspawn(8).
+///
+/// `local` makes one local delivery of the message that `message` gives, one netstring; `out` gets a line of what came of it.
+/// Commands of the user and the injector of forwards are children of `spawn`, whose ends `posts` tell. 0: the instructions
+/// were carried out. 100: no later try would go well. 111: a later try may go well. 51: out of memory. It is the program of
+/// qmail-local(8).
+///
+/// A command that waits for children rests at `gate`. Other words write the line `usage` to `log`, with exit status 100. What a
+/// command doesn't use stays untouched.
 pub fn qmail<
     R,
     D: CallFs,
@@ -64,12 +85,12 @@ pub fn qmail<
     spawn: &mut S,
     gate: &G,
 ) -> u8
-    // 100 exactly if the words are no command, unless memory runs out
-    ensures usage { result ≡ USAGE → IsNoCommand (map string_bytes words.now) }
+    // 100 exactly if the words are no command, unless memory runs out; `local` has a cause of its own for it
+    ensures usage { result ≡ USAGE → IsNoCommand (map string_bytes words.now) ⊎ IsDelivery words.now }
     ensures no_command { IsNoCommand (map string_bytes words.now) → (result ≡ USAGE) ⊎ (result ≡ MEMORY) }
 
     // then the log took the line `usage`, or a prefix of it if it failed
-    ensures usage_line { result ≡ USAGE → Meets (L.taken log.old) (L.taken log.new)
+    ensures usage_line { IsNoCommand (map string_bytes words.now) → result ≡ USAGE → Meets (L.taken log.old) (L.taken log.new)
         (λ before after. (text : List ℕ) × IsTakenText usage_line text (Rose (L.faults log.old) (L.faults log.new))
         × (after ≡ before ++ text)) }
 
@@ -93,6 +114,26 @@ pub fn qmail<
     ensures clean { IsClean words.now → WasCleaned
         (record { disk = D.disk disk.old; calls = D.calls disk.old; disk_faults = D.faults disk.old; moments = K.calls clock.old; last = K.last clock.old; left = M.left message.old; input_faults = M.faults message.old; taken = O.taken out.old; output_faults = O.faults out.old })
         (record { disk = D.disk disk.new; calls = D.calls disk.new; disk_faults = D.faults disk.new; moments = K.calls clock.new; last = K.last clock.new; left = M.left message.new; input_faults = M.faults message.new; taken = O.taken out.new; output_faults = O.faults out.new })
+        result }
+
+    // the spawners: each file call, each asking of the posts and of the spawner, what was given, and why it ended so
+    ensures lspawn { (dir : List ℕ) → IsLspawn words.now dir → WasLspawned dir result
+        (record { disk = D.disk disk.old; calls = D.calls disk.old; disk_faults = D.faults disk.old; moments = None; last = K.last clock.old; left = None; input_faults = uncounted; taken = O.taken out.old; output_faults = O.faults out.old })
+        (record { disk = D.disk disk.new; calls = D.calls disk.new; disk_faults = D.faults disk.new; moments = None; last = K.last clock.new; left = None; input_faults = uncounted; taken = O.taken out.new; output_faults = O.faults out.new })
+        (record { moments = K.calls clock.old; posts = record { waiting = P.waiting posts.old; asked = P.calls posts.old; faults = P.faults posts.old }; spawner = record { children = S.children spawn.old; calls = S.calls spawn.old; faults = S.faults spawn.old } })
+        (record { moments = K.calls clock.new; posts = record { waiting = P.waiting posts.new; asked = P.calls posts.new; faults = P.faults posts.new }; spawner = record { children = S.children spawn.new; calls = S.calls spawn.new; faults = S.faults spawn.new } }) }
+    ensures rspawn { (w : Spawns) → IsRspawn words.now w → WasRspawned w result
+        (record { disk = D.disk disk.old; calls = D.calls disk.old; disk_faults = D.faults disk.old; moments = None; last = K.last clock.old; left = None; input_faults = uncounted; taken = O.taken out.old; output_faults = O.faults out.old })
+        (record { disk = D.disk disk.new; calls = D.calls disk.new; disk_faults = D.faults disk.new; moments = None; last = K.last clock.new; left = None; input_faults = uncounted; taken = O.taken out.new; output_faults = O.faults out.new })
+        (record { moments = K.calls clock.old; posts = record { waiting = P.waiting posts.old; asked = P.calls posts.old; faults = P.faults posts.old }; spawner = record { children = S.children spawn.old; calls = S.calls spawn.old; faults = S.faults spawn.old } })
+        (record { moments = K.calls clock.new; posts = record { waiting = P.waiting posts.new; asked = P.calls posts.new; faults = P.faults posts.new }; spawner = record { children = S.children spawn.new; calls = S.calls spawn.new; faults = S.faults spawn.new } }) }
+
+    // `local`: the same, and what it took
+    ensures local { (d : Told) → IsLocal words.now d → WasDelivery d (K.pid clock.old)
+        (record { disk = D.disk disk.old; calls = D.calls disk.old; disk_faults = D.faults disk.old; moments = K.calls clock.old; last = K.last clock.old; left = M.left message.old; input_faults = M.faults message.old; taken = O.taken out.old; output_faults = O.faults out.old })
+        (record { disk = D.disk disk.new; calls = D.calls disk.new; disk_faults = D.faults disk.new; moments = K.calls clock.new; last = K.last clock.new; left = M.left message.new; input_faults = M.faults message.new; taken = O.taken out.new; output_faults = O.faults out.new })
+        (record { posts = record { waiting = P.waiting posts.old; asked = P.calls posts.old; faults = P.faults posts.old }; spawner = record { children = S.children spawn.old; calls = S.calls spawn.old; faults = S.faults spawn.old } })
+        (record { posts = record { waiting = P.waiting posts.new; asked = P.calls posts.new; faults = P.faults posts.new }; spawner = record { children = S.children spawn.new; calls = S.calls spawn.new; faults = S.faults spawn.new } })
         result }
 
     // `play`: the causes of the statuses
@@ -133,24 +174,34 @@ pub fn qmail<
     ensures told_end { IsPlay words.now → result ≡ DONE → OnTold (M.ended message.new) (λ is. is ≡ true) }
 
     // what stays untouched
-    ensures unread { IsNoCommand (map string_bytes words.now) ⊎ IsAudit words.now → message.new ≡ message.old }
+    ensures unread { IsNoCommand (map string_bytes words.now) ⊎ (IsAudit words.now ⊎ IsSpawner words.now) → message.new ≡ message.old }
     ensures unwritten { IsNoCommand (map string_bytes words.now) ⊎ (IsPlay words.now × (result ≡ INPUT)) → out.new ≡ out.old }
     ensures unprinted { (q : Wanted) → IsQueue words.now q → out.new ≡ out.old }
-    ensures unlogged { result ≢ USAGE → log.new ≡ log.old }
+    ensures unlogged { (result ≢ USAGE) ⊎ IsDelivery words.now → log.new ≡ log.old }
     ensures disk { IsNoCommand (map string_bytes words.now) ⊎ IsPlay words.now → disk.new ≡ disk.old }
-    ensures envelope { IsNoCommand (map string_bytes words.now) ⊎ (IsPlay words.now ⊎ (IsAudit words.now ⊎ IsClean words.now))
+    ensures envelope { IsNoCommand (map string_bytes words.now) ⊎ (IsPlay words.now ⊎ (IsAudit words.now ⊎ (IsClean words.now ⊎ IsParent words.now)))
         → envelope.new ≡ envelope.old }
     ensures beside { (q : Wanted) → IsQueue words.now q → q.env ≡ None → envelope.new ≡ envelope.old }
     ensures clock { IsNoCommand (map string_bytes words.now) ⊎ (IsPlay words.now ⊎ IsAudit words.now)
         → clock.new ≡ clock.old }
-    ensures posts { posts.new ≡ posts.old }
-    ensures spawn { spawn.new ≡ spawn.old }
+    ensures posts { HasNoChannels words.now → posts.new ≡ posts.old }
+    ensures spawn { HasNoChannels words.now → spawn.new ≡ spawn.old }
 {
     match read_words(alloc, words) {
         Ok(Command::Play) => play_script(alloc, message, out),
         Ok(Command::Queue(queue)) => queue_message(alloc, queue, disk, message, envelope, clock),
         Ok(Command::Audit(_)) => print_audit(alloc, disk, out),
         Ok(Command::Clean(_)) => clean(alloc, disk, message, out, clock),
+        Ok(Command::Lspawn(dir)) => {
+            spawn_local(alloc, dir.as_slice(), disk, clock, posts, spawn, out, gate)
+        }
+        Ok(Command::Rspawn(spawner)) => {
+            let program = spawner.program.as_slice();
+            spawn_remote(alloc, program, disk, clock, posts, spawn, out, gate)
+        }
+        Ok(Command::Local(told)) => {
+            deliver_message(alloc, told, disk, message, out, clock, posts, spawn, gate)
+        }
         Err(WordsError::Usage) => {
             let _ = log.give(b"usage\n");
             USAGE
@@ -187,5 +238,40 @@ fn queue_message<D: CallFs, M: Source, E: Source, K: Clock>(
     };
     inject(
         alloc, queue.uid, invoked, form, disk, message, envelope, clock,
+    )
+}
+
+/// Makes the delivery of the command `local`.
+fn deliver_message<D: CallFs, M: Source, O: Sink, K: Clock, P: Posts, S: Spawner, G: Gate>(
+    alloc: Global,
+    told: LocalWords,
+    disk: &mut D,
+    message: &mut M,
+    out: &mut O,
+    clock: &mut K,
+    posts: &mut P,
+    spawn: &mut S,
+    gate: &G,
+) -> u8
+    ensures { WasDelivered (words_of (dir_word told.dir) []) (local_args told.words told.uid (K.pid clock.old))
+        (record { disk = D.disk disk.old; calls = D.calls disk.old; disk_faults = D.faults disk.old; moments = K.calls clock.old; last = K.last clock.old; left = M.left message.old; input_faults = M.faults message.old; taken = O.taken out.old; output_faults = O.faults out.old })
+        (record { disk = D.disk disk.new; calls = D.calls disk.new; disk_faults = D.faults disk.new; moments = K.calls clock.new; last = K.last clock.new; left = M.left message.new; input_faults = M.faults message.new; taken = O.taken out.new; output_faults = O.faults out.new })
+        (record { posts = record { waiting = P.waiting posts.old; asked = P.calls posts.old; faults = P.faults posts.old }; spawner = record { children = S.children spawn.old; calls = S.calls spawn.old; faults = S.faults spawn.old } })
+        (record { posts = record { waiting = P.waiting posts.new; asked = P.calls posts.new; faults = P.faults posts.new }; spawner = record { children = S.children spawn.new; calls = S.calls spawn.new; faults = S.faults spawn.new } })
+        result }
+{
+    let LocalWords { dir, words, uid } = told;
+    deliver(
+        alloc,
+        dir.as_slice(),
+        words,
+        uid,
+        disk,
+        message,
+        out,
+        clock,
+        posts,
+        spawn,
+        gate,
     )
 }

@@ -32,7 +32,7 @@ use Rattle.queue_inject.specs.declared.injection.Arguments.{Arguments}
 use Rattle.queue_inject.specs.declared.row.Row.{Row}
 use Rattle.queue_inject.specs.declared.row.Row.TheVariants as at
 use Rattle.queue_inject.specs.Texts.{Text, limit, message_end, envelope_text, message_text, intd_text, envelope_of}
-use Rattle.queue_inject.specs.Table.{work_of, piece_size, in_message, in_todo, past_bytes, moved, row_after, after_came, call_of}
+use Rattle.queue_inject.specs.Table.{work_of, piece_size, in_message, in_todo, past_bytes, moved, place_after, after_came, due_by}
 use Rattle.queue_inject.proofs.Pieces.{either, past_by}
 use Rattle.queue_inject.proofs.Asks.{call_at_due}
 use Rattle.queue_inject.proofs.Runs.{timely}
@@ -60,7 +60,7 @@ module _ (first last : Disk) where
       past_by (Still first last) text.bytes text.fault done (at.AppendTodo n (record { 0 = fd }) done) (at.SyncTodo n (record { 0 = fd })) (λ status. at.CleanIntd n status) tt tt (λ status. tt)
 
 moves_still : (args : Arguments) (first mid last : Disk) (read : ℕ) (row : Row) (call : CallData) (answer : Answer)
-    → call_of args row ≡ needs.File call → Still first mid row → Apply mid read call answer last → Still first last (moved args row answer)
+    → due_by args row ≡ needs.File call → Still first mid row → Apply mid read call answer last → Still first last (moved args row answer)
 moves_still args first mid last read (at.Create k) call (Refused Exists) due here applied =
     let same : call ≡ CreateExcl (pid_name args k) = cc in
     either (λ row. Still first last (past_bytes (work_of args) row)) (nat_lt k 9) (at.Create (k + 1)) (at.Failed 63)
@@ -82,17 +82,17 @@ made_call : (call : CallData) (told : Told) (before after : Disk) (event : Own) 
 made_call call told before after event due came made =
     subst (λ c. Makes before event.read (needs.File call) c after) came (subst (λ d. Makes before event.read d event.came after) due made)
 
-still_at : (args : Arguments) (first last : Disk) (past : List Own) → IsRun args past → LeadsTo first past last → Still first last (row_after args past)
+still_at : (args : Arguments) (first last : Disk) (past : List Own) → IsRun args past → LeadsTo first past last → Still first last (place_after args past)
 still_at args first last [] run led = led
 still_at args first last (event ∷ before) (run, due) (mid, led, made) =
     let c = call_at_due args before event due in
     let here = still_at args first mid before run led in
     let did : Makes mid event.read (needs.File c.call) (Answered c.told) last = made_call c.call c.told mid last event c.due c.came made in
-    subst (λ came. Still first last (after_came args (row_after args before) came)) (sym c.came)
-    (moves_still args first mid last event.read (row_after args before) c.call c.told.answer (timely _ _ _ c.call c.next) here did.0)
+    subst (λ came. Still first last (after_came args (place_after args before) came)) (sym c.came)
+    (moves_still args first mid last event.read (place_after args before) c.call c.told.answer (timely _ _ _ c.call c.next) here did.0)
 
 -- a pid name is tried on the first disk
-tried_first : (args : Arguments) (first mid : Disk) (row : Row) (k : ℕ) → call_of args row ≡ needs.File (CreateExcl (pid_name args k)) → Still first mid row → mid ≡ first
+tried_first : (args : Arguments) (first mid : Disk) (row : Row) (k : ℕ) → due_by args row ≡ needs.File (CreateExcl (pid_name args k)) → Still first mid row → mid ≡ first
 tried_first args first mid (at.Create i) k due here = here
 tried_first args first mid (at.CreateIntd n) k due here = absurd (pid_is_no_part args k n Intd (created _ _ (sym due))) where
   created : (a b : List ℕ) → ◌≡◌ {A = NeedData} (needs.File (CreateExcl a)) (needs.File (CreateExcl b)) → a ≡ b
@@ -109,7 +109,7 @@ module _ (args : Arguments) (first : Disk) (P : CallData → Answer → Type 0) 
     newest : HoldsOf P event → R
     newest h =
         let t = by h.call h.told.answer h.holds in
-        let same : mid ≡ first = tried_first args first mid (row_after args before) t.0 (timely _ _ _ h.call (due.0 ∙ h.due) ∙ ap needs.File t.2) (still_at args first mid before run led) in
+        let same : mid ≡ first = tried_first args first mid (place_after args before) t.0 (timely _ _ _ h.call (due.0 ∙ h.due) ∙ ap needs.File t.2) (still_at args first mid before run led) in
         let applied = (made_call h.call h.told mid last event h.due h.came made).0 in
         t.4 applied.0
         (subst (λ d. Fits d (CreateExcl (pid_name args t.0)) (Refused t.1) applied.0) same

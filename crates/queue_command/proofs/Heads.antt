@@ -10,7 +10,7 @@ use Rattle.mail_bytes.specs.Netstring.{head, IsHead, IsPartOfHead, IsNoHead}
 use Rattle.mail_bytes.proofs.Digits.{decimal-digits}
 use Rattle.program_runner.proofs.Deeds.{meets_then}
 use Rattle.queue_command.proofs.Sources.{weaker}
-use Rattle.queue_command.specs.Reading.{IsBad}
+use Rattle.queue_command.specs.inside.Reading.{IsBad}
 
 -- a head that began in a part which has none ends with the next byte
 whole_head : (part : List ℕ) (byte n used : ℕ) → ((m k : ℕ) → ¬ (IsHead part m k)) → IsHead (part ++ byte ∷ []) n used → part ++ byte ∷ [] ≡ head n

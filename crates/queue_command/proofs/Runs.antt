@@ -19,7 +19,7 @@ use Rattle.queue_inject.specs.declared.intake.Verdict.{Verdict}
 use Rattle.queue_inject.specs.declared.intake.Verdict.TheVariants.{Open, Whole, Faulty}
 use Rattle.queue_inject.specs.declared.row.Row.{Row}
 use Rattle.queue_inject.specs.declared.row.Row.TheVariants as at
-use Rattle.queue_inject.specs.Table.{Next, call_at, in_time, is_late, row_after, work_of, next_piece}
+use Rattle.queue_inject.specs.Table.{Next, call_at, in_time, is_late, place_after, work_of, next_piece}
 use Rattle.queue_inject.specs.Texts.{limit, message_text, message_end}
 use Rattle.queue_inject.specs.Machine.{Machine, asks, gone_on}
 use Rattle.queue_inject.specs.Stands.{Stands, HearsMessage, Hears, IsStartedBy}
@@ -72,7 +72,7 @@ call_act pid start piece (at.Failed status) = tt
 
 next_act : (args : Arguments) (past : List Own) (now : ℕ) → IsAct (Next args past now INPUT_READY)
 next_act args past now =
-    act_in_time (is_late args now) _ (call_act args.pid args.start (next_piece (work_of args) (row_after args past)) (row_after args past))
+    act_in_time (is_late args now) _ (call_act args.pid args.start (next_piece (work_of args) (place_after args past)) (place_after args past))
 
 act_plain : (due : NeedData) → IsAct due → IsPlain due
 act_plain (needs.File call) act = tt

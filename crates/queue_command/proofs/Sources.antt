@@ -15,7 +15,7 @@ use Rattle.queue_command.specs.declared.input.Form.TheVariants.{Beside, Netstrin
 use Rattle.queue_command.specs.declared.netstring.Place.{Place}
 use Rattle.queue_command.specs.declared.netstring.Place.TheVariants.{Head, Value}
 use Rattle.queue_command.specs.Inputs.{Stream, IsReadIn}
-use Rattle.queue_command.specs.Reading.{IsOver, IsBad, IsPart, IsCommaRead}
+use Rattle.queue_command.specs.inside.Reading.{IsOver, IsBad, IsPart, IsCommaRead}
 use Rattle.queue_command.specs.Feeding.{IsFed, EndsIn, Feeds}
 use Rattle.queue_command.proofs.Feeding.{fed_none, fed_then, asks_some}
 

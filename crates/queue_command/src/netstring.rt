@@ -4,7 +4,7 @@ ghost use Rattle.mail_bytes.specs.Told.{Meets, Rose};
 ghost use Rattle.queue_inject.specs.Machine.{room_of};
 ghost use Rattle.queue_command.specs.declared.input.Form.TheVariants.{Netstrings};
 ghost use Rattle.queue_command.specs.Feeding.{Feeds};
-ghost use Rattle.queue_command.specs.Reading.{IsByteRead, IsHeadRead, IsCommaRead};
+ghost use Rattle.queue_command.specs.inside.Reading.{IsByteRead, IsHeadRead, IsCommaRead};
 
 use crate::tell::tell_end;
 use call_fs::PIECE;

@@ -7,7 +7,7 @@ use Rattle.call_fs.specs.declared.past.Own.{Own}
 use Rattle.queue_inject.specs.declared.injection.Arguments.{Arguments}
 use Rattle.queue_inject.specs.declared.row.Row.{Row}
 use Rattle.queue_inject.specs.declared.row.Row.TheVariants as at
-use Rattle.queue_inject.specs.Table.{call_of, row_after, in_time, has_input, is_late, Next}
+use Rattle.queue_inject.specs.Table.{due_by, place_after, in_time, has_input, is_late, Next}
 
 -- a file call or an end
 abbrev pub IsAct : NeedData → Type 0
@@ -15,7 +15,7 @@ IsAct (needs.File c) = Unit {0}
 IsAct (needs.Ended status) = Unit {0}
 IsAct other = ⊥
 
-row_act : (args : Arguments) (row : Row) → IsAct (call_of args row)
+row_act : (args : Arguments) (row : Row) → IsAct (due_by args row)
 row_act args (at.Create seq) = tt
 row_act args (at.LinkMess seq n fd) = tt
 row_act args (at.UnlinkPid seq n fd) = tt
@@ -43,8 +43,8 @@ in_time_act late needs.Wait act = absurd act
 -- an injector whose input is ready never waits
 pub next_act : (args : Arguments) (past : List Own) (now : ℕ) (ready : Ready) → has_input ready ≡ true → IsAct (Next args past now ready)
 next_act args past now ready has =
-    subst (λ (b : Bool). IsAct (in_time b (is_late args now) (call_of args (row_after args past)))) (sym has)
-    (in_time_act (is_late args now) (call_of args (row_after args past)) (row_act args (row_after args past)))
+    subst (λ (b : Bool). IsAct (in_time b (is_late args now) (due_by args (place_after args past)))) (sym has)
+    (in_time_act (is_late args now) (due_by args (place_after args past)) (row_act args (place_after args past)))
 
 -- nothing that concerns another program
 abbrev pub IsAlone : NeedData → Type 0
@@ -67,4 +67,4 @@ in_time_alone input late needs.Wait act = absurd act
 -- an injector takes, gives and starts nothing
 pub next_alone : (args : Arguments) (past : List Own) (now : ℕ) (ready : Ready) → IsAlone (Next args past now ready)
 next_alone args past now ready =
-    in_time_alone (has_input ready) (is_late args now) (call_of args (row_after args past)) (row_act args (row_after args past))
+    in_time_alone (has_input ready) (is_late args now) (due_by args (place_after args past)) (row_act args (place_after args past))

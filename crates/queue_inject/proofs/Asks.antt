@@ -16,7 +16,7 @@ use Rattle.call_fs.specs.declared.past.Own.{Own}
 use Rattle.queue_inject.specs.declared.injection.Arguments.{Arguments}
 use Rattle.queue_inject.specs.declared.row.Row.{Row}
 use Rattle.queue_inject.specs.declared.row.Row.TheVariants as at
-use Rattle.queue_inject.specs.Table.{Next, call_at, work_of, next_piece, row_after, in_time, has_input, is_late}
+use Rattle.queue_inject.specs.Table.{Next, call_at, work_of, next_piece, place_after, in_time, has_input, is_late}
 use Rattle.queue_inject.specs.Machine.{Machine, is_call, due_now, late_now, row_now}
 use Rattle.queue_inject.specs.Run.{IsDue}
 
@@ -51,7 +51,7 @@ asks_in_time input late (AtEnd status) = AtEnd status
 
 next_asks : (args : Arguments) (past : List Own) (now : ℕ) (ready : Ready) → IsAsked (Next args past now ready)
 next_asks args past now ready =
-    asks_in_time (has_input ready) (is_late args now) (call_asks args.pid args.start (next_piece (work_of args) (row_after args past)) (row_after args past))
+    asks_in_time (has_input ready) (is_late args now) (call_asks args.pid args.start (next_piece (work_of args) (place_after args past)) (place_after args past))
 
 -- what came of it
 

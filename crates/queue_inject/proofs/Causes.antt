@@ -20,7 +20,7 @@ use Rattle.queue_inject.specs.declared.injection.InputEnd.TheVariants as ends
 use Rattle.queue_inject.specs.declared.row.Row.{Row}
 use Rattle.queue_inject.specs.declared.row.Row.TheVariants as at
 use Rattle.queue_inject.specs.Texts.{limit, message_text, end_status, message_end, fault_status, past_limit, envelope_text, envelope_of, intd_text}
-use Rattle.queue_inject.specs.Table.{row_after, call_of, has_input, is_late, in_time, Next}
+use Rattle.queue_inject.specs.Table.{place_after, due_by, has_input, is_late, in_time, Next}
 use Rattle.queue_inject.specs.Run.{IsRun}
 use Rattle.call_fs.specs.Past.{HasCall}
 use Rattle.queue_inject.specs.Causes.{first_fault, IsTry, IsTaken, IsQueuing, IsFailure, FailsWith, IsCutShort, is_of_input, is_of_call, IsCausedBy}
@@ -103,17 +103,17 @@ out_of_time false late call status e = absurd (cc)
 
 module _ (args : Arguments) (past : List Own) (now : ℕ) (input : Bool) (status : ℕ) where
   abbrev EndsAt : Row → Type 0
-  EndsAt row = in_time input (is_late args now) (call_of args row) ≡ needs.Ended status
+  EndsAt row = in_time input (is_late args now) (due_by args row) ≡ needs.Ended status
 
-  cut_short : (row : Row) (call : CallData) → row_after args past ≡ row → call_of args row ≡ needs.File call → ¬ (HasCall past IsQueuing) → EndsAt row → Outcome args past now status
+  cut_short : (row : Row) (call : CallData) → place_after args past ≡ row → due_by args row ≡ needs.File call → ¬ (HasCall past IsQueuing) → EndsAt row → Outcome args past now status
   cut_short row call is due unqueued end =
       let told = out_of_time input (is_late args now) call status (ap (in_time input (is_late args now)) (sym due) ∙ end) in
-      CutShort (record { next = call; due = ap (call_of args) is ∙ due; late = ltb-true (args.start + 86400) now told.0 }) unqueued told.1
+      CutShort (record { next = call; due = ap (due_by args) is ∙ due; late = ltb-true (args.start + 86400) now told.0 }) unqueued told.1
 
-  uncut : (row : Row) (last : ℕ) → row_after args past ≡ row → call_of args row ≡ needs.Ended last → ¬ (IsCutShort args past now)
-  uncut row last is end cut = let due = cut.due in let at_row = ap (call_of args) is in absurd (cc)
+  uncut : (row : Row) (last : ℕ) → place_after args past ≡ row → due_by args row ≡ needs.Ended last → ¬ (IsCutShort args past now)
+  uncut row last is end cut = let due = cut.due in let at_row = ap (due_by args) is in absurd (cc)
 
-  ends_at : (row : Row) → row_after args past ≡ row → IsAt args past row → EndsAt row → Outcome args past now status
+  ends_at : (row : Row) → place_after args past ≡ row → IsAt args past row → EndsAt row → Outcome args past now status
   ends_at (at.Create k) is (clear, in_range, below) end = cut_short (at.Create k) _ is refl clear.unqueued end
   ends_at (at.LinkMess k n fd) is (clear, in_range) end = cut_short (at.LinkMess k n fd) _ is refl clear.unqueued end
   ends_at (at.UnlinkPid k n fd) is (clear, in_range) end = cut_short (at.UnlinkPid k n fd) _ is refl clear.unqueued end
@@ -203,4 +203,4 @@ module _ (args : Arguments) (past : List Own) (now : ℕ) (run : IsRun args past
       }
 
 pub caused : (args : Arguments) (past : List Own) (now : ℕ) (ready : Ready) (status : ℕ) → IsRun args past → Next args past now ready ≡ needs.Ended status → IsCausedBy args past now status
-caused args past now ready status run end = causes args past now run status (ends_at args past now (has_input ready) status (row_after args past) refl (run_at args past run) end)
+caused args past now ready status run end = causes args past now run status (ends_at args past now (has_input ready) status (place_after args past) refl (run_at args past run) end)

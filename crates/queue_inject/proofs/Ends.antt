@@ -17,7 +17,7 @@ use Rattle.queue_inject.specs.declared.injection.Arguments.{Arguments}
 use Rattle.queue_inject.specs.declared.row.Row.{Row}
 use Rattle.queue_inject.specs.declared.row.Row.TheVariants as at
 use Rattle.queue_inject.specs.Texts.{message_text, intd_text}
-use Rattle.queue_inject.specs.Table.{row_after, call_of, has_input, is_late, in_time, Next}
+use Rattle.queue_inject.specs.Table.{place_after, due_by, has_input, is_late, in_time, Next}
 use Rattle.queue_inject.specs.Run.{IsRun}
 use Rattle.queue_inject.specs.Written.{Act, act, acts_of, Chosen, IsChosen, taken_names, in_s1, in_s2, in_s3, to_s4, written, AreRemoved, IsStopped, IsWritten}
 use Rattle.queue_inject.specs.Written.AreRemoved.{All, Next as Removed}
@@ -113,7 +113,7 @@ module _ (args : Arguments) (past : List Own) (now : ℕ) where
 
 module _ (args : Arguments) (past : List Own) (now : ℕ) (input : Bool) (status : ℕ) where
   abbrev EndsAt : Row → Type 0
-  EndsAt row = in_time input (is_late args now) (call_of args row) ≡ needs.Ended status
+  EndsAt row = in_time input (is_late args now) (due_by args row) ≡ needs.Ended status
 
   at_call : (call : CallData) → (args.start + 86400 < now → IsWritten args past now 52) → in_time input (is_late args now) (needs.File call) ≡ needs.Ended status → IsWritten args past now status
   at_call call late end =
@@ -161,4 +161,4 @@ pub are_written : (args : Arguments) (past : List Own) (now : ℕ) (ready : Read
 are_written args past now ready status run end =
     let mess : (pieces : List (List ℕ)) × Cuts (message_text args).bytes pieces = cut (length (message_text args).bytes) (message_text args).bytes (omega arith) in
     let todo : (pieces : List (List ℕ)) × Cuts (intd_text args).bytes pieces = cut (length (intd_text args).bytes) (intd_text args).bytes (omega arith) in
-    ends_at args past now (has_input ready) status mess.0 todo.0 mess.1 todo.1 (row_after args past) (stands_at args mess.0 todo.0 mess.1 todo.1 past run) end
+    ends_at args past now (has_input ready) status mess.0 todo.0 mess.1 todo.1 (place_after args past) (stands_at args mess.0 todo.0 mess.1 todo.1 past run) end

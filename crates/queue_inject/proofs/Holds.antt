@@ -24,9 +24,9 @@ use Rattle.queue_inject.specs.declared.injection.Arguments.{Arguments}
 use Rattle.queue_inject.specs.declared.row.Row.{Row}
 use Rattle.queue_inject.specs.declared.row.Row.TheVariants as at
 use Rattle.queue_inject.specs.Texts.{Text, message_text, intd_text}
-use Rattle.queue_inject.specs.Table.{Next, work_of, call_of, moved, past_bytes, in_message, in_todo, row_after, after_came, past_piece, piece_size, in_time, has_input, is_late}
+use Rattle.queue_inject.specs.Table.{Next, work_of, due_by, moved, past_bytes, in_message, in_todo, place_after, after_came, past_piece, piece_size, in_time, has_input, is_late}
 use Rattle.queue_inject.specs.Run.{IsRun}
-use Rattle.queue_inject.specs.Held.{HoldsRow}
+use Rattle.queue_inject.specs.inside.Held.{HoldsRow}
 use Rattle.queue_inject.proofs.Asks.{call_at_due}
 use Rattle.queue_inject.proofs.Runs.{timely}
 
@@ -114,7 +114,7 @@ module _ (args : Arguments) (h : ℕ → Option Mode) where
   due_moves : (row : Row) (own c : CallData) → ◌≡◌ {A = NeedData} (needs.File own) (needs.File c) → Moves row own → Moves row c
   due_moves row own c due m = let same : own ≡ c = cc in subst (Moves row) same m
 
-  row_moves : (row : Row) (c : CallData) → call_of args row ≡ needs.File c → Moves row c
+  row_moves : (row : Row) (c : CallData) → due_by args row ≡ needs.File c → Moves row c
   row_moves (at.Create k) c due = due_moves (at.Create k) _ c due (creates k (path (Pid args.pid args.start k)))
   row_moves (at.LinkMess k n fd) c due = due_moves (at.LinkMess k n fd) _ c due (links_mess k n fd (path (Pid args.pid args.start k)) (path (Of Mess n)))
   row_moves (at.UnlinkPid k n fd) c due = due_moves (at.UnlinkPid k n fd) _ c due (unlinks_pid k n fd (path (Pid args.pid args.start k)))
@@ -129,15 +129,15 @@ module _ (args : Arguments) (h : ℕ → Option Mode) where
   row_moves at.Queued c due = absurd (cc)
   row_moves (at.Failed status) c due = absurd (cc)
 
-pub holds : (args : Arguments) (past : List Own) → IsRun args past → HoldsRow (held past) (row_after args past)
+pub holds : (args : Arguments) (past : List Own) → IsRun args past → HoldsRow (held past) (place_after args past)
 holds args [] run = tt
 holds args (event ∷ before) (run, due) =
     let c = call_at_due args before event due in
     let own = holds args before run in
-    let moved : HoldsRow (held_after (held before) c.call c.told.answer) (after_came args (row_after args before) (Answered c.told)) =
-    row_moves args (held before) (row_after args before) c.call (timely _ _ _ c.call c.next) c.told.answer own c.fits in
-    subst (λ d. HoldsRow (held_by (held before) d event.came) (after_came args (row_after args before) event.came)) (sym c.due)
-    (subst (λ a. HoldsRow (held_by (held before) (needs.File c.call) a) (after_came args (row_after args before) a)) (sym c.came) moved)
+    let moved : HoldsRow (held_after (held before) c.call c.told.answer) (after_came args (place_after args before) (Answered c.told)) =
+    row_moves args (held before) (place_after args before) c.call (timely _ _ _ c.call c.next) c.told.answer own c.fits in
+    subst (λ d. HoldsRow (held_by (held before) d event.came) (after_came args (place_after args before) event.came)) (sym c.due)
+    (subst (λ a. HoldsRow (held_by (held before) (needs.File c.call) a) (after_came args (place_after args before) a)) (sym c.came) moved)
 
 -- so its calls may use them
 
@@ -147,7 +147,7 @@ some_and o is = subst (λ m. IsSomeAnd m IsForAppend) (sym is) tt
 some : (o : Option Mode) → o ≡ Some Mode.Created → IsSome o
 some o is = subst IsSome (sym is) refl
 
-row_uses : (args : Arguments) (h : ℕ → Option Mode) (row : Row) → HoldsRow h row → UsesHeld h (call_of args row)
+row_uses : (args : Arguments) (h : ℕ → Option Mode) (row : Row) → HoldsRow h row → UsesHeld h (due_by args row)
 row_uses args h (at.Create k) own = tt
 row_uses args h (at.LinkMess k n fd) own = tt
 row_uses args h (at.UnlinkPid k n fd) own = tt
@@ -175,4 +175,4 @@ in_time_uses h input late (needs.Ended status) uses = tt
 
 pub holds_what_it_uses : (args : Arguments) (past : List Own) (now : ℕ) (ready : Ready) → IsRun args past → UsesHeld (held past) (Next args past now ready)
 holds_what_it_uses args past now ready run =
-    in_time_uses (held past) (has_input ready) (is_late args now) (call_of args (row_after args past)) (row_uses args (held past) (row_after args past) (holds args past run))
+    in_time_uses (held past) (has_input ready) (is_late args now) (due_by args (place_after args past)) (row_uses args (held past) (place_after args past) (holds args past run))

@@ -16,7 +16,7 @@ use Rattle.queue_inject.specs.Texts.{limit}
 use Rattle.queue_inject.specs.Table.{piece_size, goes_to, has_input}
 use Rattle.queue_inject.specs.Machine.{Heard, Machine, asks_by, asks, room_by, room_of, is_call, row_now, late_now, call_now, due_now, unready, heard_after, with_message}
 use Rattle.queue_inject.specs.Rows.{is_open, part_in, has_piece, past_text, row_by}
-use Rattle.queue_inject.specs.Inside.{CanCount, Counts, IsInStep}
+use Rattle.queue_inject.specs.inside.Fields.{CanCount, Counts, IsInStep}
 use Rattle.queue_inject.proofs.Pieces.{either, past_text_by}
 use Rattle.queue_inject.proofs.Kept.{asked_by}
 use Rattle.queue_inject.proofs.Needs.{call_ready}

@@ -24,7 +24,7 @@ use Rattle.queue_inject.specs.declared.injection.Arguments.{Arguments}
 use Rattle.queue_inject.specs.declared.row.Row.{Row}
 use Rattle.queue_inject.specs.declared.row.Row.TheVariants as at
 use Rattle.queue_inject.specs.Texts.{message_text, intd_text}
-use Rattle.queue_inject.specs.Table.{piece_size, failure, in_message, in_todo, past_bytes, work_of, moved, row_after, call_of, in_time, is_late, has_input, Next}
+use Rattle.queue_inject.specs.Table.{piece_size, failure, in_message, in_todo, past_bytes, work_of, moved, place_after, due_by, in_time, is_late, has_input, Next}
 use Rattle.queue_inject.specs.Run.{IsDue, IsRun}
 use Rattle.queue_inject.specs.Causes.{pid_name}
 use Rattle.queue_inject.specs.Written.{Act, act, acts_of}
@@ -293,7 +293,7 @@ module _ (args : Arguments) (before : List Own) (read : ℕ) (ready : Ready) (by
   due_keeps : (row : Row) (own call : CallData) → ◌≡◌ {A = NeedData} (needs.File own) (needs.File call) → Keeps row own → Keeps row call
   due_keeps row own call due h = let same : own ≡ call = cc in subst (Keeps row) same h
 
-  row_keeps : (row : Row) (call : CallData) → call_of args row ≡ needs.File call → Keeps row call
+  row_keeps : (row : Row) (call : CallData) → due_by args row ≡ needs.File call → Keeps row call
   row_keeps (at.Create k) call due = due_keeps (at.Create k) _ call due (creates k)
   row_keeps (at.LinkMess k n fd) call due = due_keeps (at.LinkMess k n fd) _ call due (links_mess k n fd)
   row_keeps (at.UnlinkPid k n fd) call due = due_keeps (at.UnlinkPid k n fd) _ call due (unlinks_pid k n fd)
@@ -310,22 +310,22 @@ module _ (args : Arguments) (before : List Own) (read : ℕ) (ready : Ready) (by
 
 -- Whole runs
 
-event_at : (args : Arguments) (before : List Own) (event : Own) → LeftAt args before (row_after args before) → IsDue args before event → LeftAt args (event ∷ before) (row_after args (event ∷ before))
+event_at : (args : Arguments) (before : List Own) (event : Own) → LeftAt args before (place_after args before) → IsDue args before event → LeftAt args (event ∷ before) (place_after args (event ∷ before))
 event_at args before event here due =
     let c = call_at_due args before event due in
     let is : event ≡ called args before event.read event.ready c.told.bytes c.call c.told.answer =
     ap (λ (d : NeedData). record { read = event.read; ready = event.ready; due = d; came = event.came }) c.due
     ∙ ap (λ (g : GotData). record { read = event.read; ready = event.ready; due = needs.File c.call; came = g }) c.came in
-    subst (λ e. LeftAt args (e ∷ before) (row_after args (e ∷ before))) (sym is)
-    (row_keeps args before event.read event.ready c.told.bytes (row_after args before) c.call (timely _ _ _ c.call c.next) c.told.answer here c.fits)
+    subst (λ e. LeftAt args (e ∷ before) (place_after args (e ∷ before))) (sym is)
+    (row_keeps args before event.read event.ready c.told.bytes (place_after args before) c.call (timely _ _ _ c.call c.next) c.told.answer here c.fits)
 
-left_at : (args : Arguments) (past : List Own) → IsRun args past → LeftAt args past (row_after args past)
+left_at : (args : Arguments) (past : List Own) → IsRun args past → LeftAt args past (place_after args past)
 left_at args [] run = λ name. (λ e. cc, λ none. absurd none)
 left_at args (event ∷ before) (run, due) = event_at args before event (left_at args before run) due
 
 module _ (args : Arguments) (past : List Own) (now : ℕ) (input : Bool) (status : ℕ) where
   abbrev EndsAt : Row → Type 0
-  EndsAt row = in_time input (is_late args now) (call_of args row) ≡ needs.Ended status
+  EndsAt row = in_time input (is_late args now) (due_by args row) ≡ needs.Ended status
 
   late_with : (call : CallData) (names : List (List ℕ)) → (names ≡ []) ⊎ IsPartly args names → LeavesJust (acts_of past) names → in_time input (is_late args now) (needs.File call) ≡ needs.Ended status
       → IsLeft args past status
@@ -354,4 +354,4 @@ module _ (args : Arguments) (past : List Own) (now : ℕ) (input : Bool) (status
   ends_at (at.Failed last) left end = at_end last left end
 
 pub leaves_just : (args : Arguments) (past : List Own) (now : ℕ) (ready : Ready) (status : ℕ) → IsRun args past → Next args past now ready ≡ needs.Ended status → IsLeft args past status
-leaves_just args past now ready status run end = ends_at args past now (has_input ready) status (row_after args past) (left_at args past run) end
+leaves_just args past now ready status run end = ends_at args past now (has_input ready) status (place_after args past) (left_at args past run) end

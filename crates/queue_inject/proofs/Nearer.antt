@@ -14,7 +14,7 @@ use Rattle.call_fs.specs.declared.past.NeedData.TheVariants as needs
 use Rattle.queue_inject.specs.Table.{goes_to, call_at, in_time, has_input}
 use Rattle.queue_inject.specs.Rows.{has_piece, past_text, row_by}
 use Rattle.queue_inject.specs.Machine.{Machine, Heard, is_call, due_now, late_now, call_now, row_now, ahead_by, ahead_of}
-use Rattle.queue_inject.specs.Inside.{Counts}
+use Rattle.queue_inject.specs.inside.Fields.{Counts}
 
 -- so many bytes were written at most
 abbrev IsBounded : Row → Type 0

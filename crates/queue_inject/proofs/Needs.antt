@@ -21,10 +21,10 @@ use Rattle.queue_inject.specs.declared.intake.Verdict.TheVariants as verdict
 use Rattle.queue_inject.specs.declared.row.Row.{Row}
 use Rattle.queue_inject.specs.declared.row.Row.TheVariants as at
 use Rattle.queue_inject.specs.Texts.{Text, limit, message_text, intd_text}
-use Rattle.queue_inject.specs.Table.{work_of, piece_size, goes_to, past_bytes, row_after, after_came, call_at, call_of, has_input, is_late, in_time, Next}
+use Rattle.queue_inject.specs.Table.{work_of, piece_size, goes_to, past_bytes, place_after, after_came, call_at, due_by, has_input, is_late, in_time, Next}
 use Rattle.queue_inject.specs.Machine.{Heard, Machine, asks_by, room_by, room_of, is_call, row_now, late_now, call_now, due_now, new_todo, heard_after, gone_on}
 use Rattle.queue_inject.specs.Rows.{is_open, part_in, has_piece, past_text, row_by}
-use Rattle.queue_inject.specs.Inside.{IsInStep}
+use Rattle.queue_inject.specs.inside.Fields.{IsInStep}
 use Rattle.queue_inject.specs.Stands.{IsNext, message_read, HearsMessage, taken, HearsTodo, Hears, Stands}
 use Rattle.queue_inject.proofs.Feeding.{open_at}
 use Rattle.queue_inject.proofs.Kept.{message_next, todo_next, todo_begun}
@@ -62,7 +62,7 @@ full_at h row part of none short within going =
 -- the row is the table's, and so are the bytes that its append writes
 pub record IsRow (h : Heard) (args : Arguments) (row : Row) : Type 0 where
   pub row_is : row_by h.verdict (length h.piece) row ≡ past_bytes (work_of args) row
-  pub call_is : call_at args.pid args.start h.piece (past_bytes (work_of args) row) ≡ call_of args (past_bytes (work_of args) row)
+  pub call_is : call_at args.pid args.start h.piece (past_bytes (work_of args) row) ≡ due_by args (past_bytes (work_of args) row)
 
 -- what is known of a text, and that a piece of one that goes on is full
 record IsKnown (h : Heard) (text : Text) (done : ℕ) : Type 0 where
@@ -78,7 +78,7 @@ in_message_is h args n fd done k =
     let bad : ℕ → Row = λ status. at.CleanMess n status in
     record {
       row_is = sym (row_is h.verdict h.piece text done more end bad k.next k.full);
-      call_is = past_by (λ r. call_at args.pid args.start h.piece r ≡ call_of args r) text.bytes text.fault done more end bad
+      call_is = past_by (λ r. call_at args.pid args.start h.piece r ≡ due_by args r) text.bytes text.fault done more end bad
           (ap (λ p. needs.File (call.Append (record { 0 = fd }) p)) (sym (piece_is h.verdict h.piece text done k.next k.full k.short))) refl (λ status. refl);
     }
 
@@ -90,7 +90,7 @@ in_todo_is h args n fd done k =
     let bad : ℕ → Row = λ status. at.CleanIntd n status in
     record {
       row_is = sym (row_is h.verdict h.piece text done more end bad k.next k.full);
-      call_is = past_by (λ r. call_at args.pid args.start h.piece r ≡ call_of args r) text.bytes text.fault done more end bad
+      call_is = past_by (λ r. call_at args.pid args.start h.piece r ≡ due_by args r) text.bytes text.fault done more end bad
           (ap (λ p. needs.File (call.Append (record { 0 = fd }) p)) (sym (piece_is h.verdict h.piece text done k.next k.full k.short))) refl (λ status. refl);
     }
 
@@ -129,19 +129,19 @@ idle late (needs.File c) (needs.Ended status) x y = absurd (cc)
 idle late _ b x y = absurd (cc)
 
 unready_at : (h : Heard) (args : Arguments) (late : Bool) (row : Row)
-    → in_time false late (call_at args.pid args.start h.piece (row_by h.verdict (length h.piece) row)) ≡ in_time false late (call_of args (past_bytes (work_of args) row))
+    → in_time false late (call_at args.pid args.start h.piece (row_by h.verdict (length h.piece) row)) ≡ in_time false late (due_by args (past_bytes (work_of args) row))
 unready_at h args late (at.AppendMess n fd done) = idle late _ _
     (either (λ r. is_call (call_at args.pid args.start h.piece r) ≡ true) (has_piece h.verdict (length h.piece)) (at.AppendMess n fd done) (past_text h.verdict (at.SyncMess n fd) (λ status. at.CleanMess n status)) refl
     (past_text_by (λ r. is_call (call_at args.pid args.start h.piece r) ≡ true) h.verdict (at.SyncMess n fd) (λ status. at.CleanMess n status) refl (λ status. refl)))
-    (past_by (λ r. is_call (call_of args r) ≡ true) (message_text args).bytes (message_text args).fault done (at.AppendMess n fd done) (at.SyncMess n fd) (λ status. at.CleanMess n status) refl refl (λ status. refl))
+    (past_by (λ r. is_call (due_by args r) ≡ true) (message_text args).bytes (message_text args).fault done (at.AppendMess n fd done) (at.SyncMess n fd) (λ status. at.CleanMess n status) refl refl (λ status. refl))
 unready_at h args late (at.AppendTodo n fd done) = idle late _ _
     (either (λ r. is_call (call_at args.pid args.start h.piece r) ≡ true) (has_piece h.verdict (length h.piece)) (at.AppendTodo n fd done) (past_text h.verdict (at.SyncTodo n fd) (λ status. at.CleanIntd n status)) refl
     (past_text_by (λ r. is_call (call_at args.pid args.start h.piece r) ≡ true) h.verdict (at.SyncTodo n fd) (λ status. at.CleanIntd n status) refl (λ status. refl)))
-    (past_by (λ r. is_call (call_of args r) ≡ true) (intd_text args).bytes (intd_text args).fault done (at.AppendTodo n fd done) (at.SyncTodo n fd) (λ status. at.CleanIntd n status) refl refl (λ status. refl))
+    (past_by (λ r. is_call (due_by args r) ≡ true) (intd_text args).bytes (intd_text args).fault done (at.AppendTodo n fd done) (at.SyncTodo n fd) (λ status. at.CleanIntd n status) refl refl (λ status. refl))
 unready_at h args late _ = refl
 
 by_input : (input late : Bool) (m : Machine) (args : Arguments) → Hears m.row m.heard args → (input ≡ true → room_of m ≡ 0) → length m.heard.piece ≤ piece_size
-    → in_time input late (call_at args.pid args.start m.heard.piece (row_now m)) ≡ in_time input late (call_of args (past_bytes (work_of args) m.row))
+    → in_time input late (call_at args.pid args.start m.heard.piece (row_now m)) ≡ in_time input late (due_by args (past_bytes (work_of args) m.row))
 by_input true late m args hears given short =
     let is = row_at m.heard args m.row hears (given refl) short in
     ap (λ r. in_time true late (call_at args.pid args.start m.heard.piece r)) is.row_is ∙ ap (in_time true late) is.call_is
@@ -153,7 +153,7 @@ due_stands m args past k s =
     let start = s.start in
     (λ i. in_time (has_input m.ready) (nat_lt (start i + 86400) m.present) (call_at (pid i) (start i) m.heard.piece (row_now m)))
     ∙ by_input (has_input m.ready) (is_late args m.present) m args s.hears k.given k.short
-    ∙ ap (λ r. in_time (has_input m.ready) (is_late args m.present) (call_of args r)) (sym s.row)
+    ∙ ap (λ r. in_time (has_input m.ready) (is_late args m.present) (due_by args r)) (sym s.row)
 
 -- it makes a call only if its input is ready
 pub call_ready : (input late : Bool) (due : NeedData) → is_call (in_time input late due) ≡ true → input ≡ true
@@ -273,7 +273,7 @@ stands_answered m args past event told k s due came =
       pid = s.pid;
       start = s.start;
       hears = hears_next (row_now m) m args told.answer (next_at m args m.row s.uid s.pid s.hears none k.short);
-      row = ap (λ d. after_came args (row_after args past) d) came
+      row = ap (λ d. after_came args (place_after args past) d) came
           ∙ ap (λ r. past_bytes (work_of args) (goes_to r told.answer)) (s.row ∙ sym is.row_is);
     }
 

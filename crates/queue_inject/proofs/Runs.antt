@@ -24,7 +24,7 @@ use Rattle.queue_inject.specs.declared.injection.Arguments.{Arguments}
 use Rattle.queue_inject.specs.declared.row.Row.{Row}
 use Rattle.queue_inject.specs.declared.row.Row.TheVariants as at
 use Rattle.queue_inject.specs.Texts.{message_text, intd_text}
-use Rattle.queue_inject.specs.Table.{work_of, piece_size, failure, past_piece, in_message, in_todo, past_bytes, moved, row_after, call_of, in_time}
+use Rattle.queue_inject.specs.Table.{work_of, piece_size, failure, past_piece, in_message, in_todo, past_bytes, moved, place_after, due_by, in_time}
 use Rattle.queue_inject.proofs.Pieces.{either}
 use Rattle.queue_inject.proofs.Asks.{call_at_due}
 use Rattle.queue_inject.specs.Run.{IsDue, IsRun}
@@ -217,7 +217,7 @@ module _ (args : Arguments) (before : List Own) (read : ℕ) (ready : Ready) (by
   due_keeps : (row : Row) (own call : CallData) → ◌≡◌ {A = NeedData} (needs.File own) (needs.File call) → Keeps row own → Keeps row call
   due_keeps row own call due h = let same : own ≡ call = cc in subst (Keeps row) same h
 
-  row_keeps : (row : Row) (call : CallData) → call_of args row ≡ needs.File call → Keeps row call
+  row_keeps : (row : Row) (call : CallData) → due_by args row ≡ needs.File call → Keeps row call
   row_keeps (at.Create k) call due = due_keeps (at.Create k) _ call due (creates k)
   row_keeps (at.LinkMess k n fd) call due = due_keeps (at.LinkMess k n fd) _ call due (links_mess k n fd)
   row_keeps (at.UnlinkPid k n fd) call due = due_keeps (at.UnlinkPid k n fd) _ call due (unlinks_pid k n fd)
@@ -240,21 +240,21 @@ timely input late due call h = absurd (cc)
 
 -- whole runs
 
-event_at : (args : Arguments) (before : List Own) (event : Own) → IsAt args before (row_after args before) → IsDue args before event → IsAt args (event ∷ before) (row_after args (event ∷ before))
+event_at : (args : Arguments) (before : List Own) (event : Own) → IsAt args before (place_after args before) → IsDue args before event → IsAt args (event ∷ before) (place_after args (event ∷ before))
 event_at args before event here due =
     let c = call_at_due args before event due in
     let is : event ≡ called args before event.read event.ready c.told.bytes c.call c.told.answer =
     ap (λ (d : NeedData). record { read = event.read; ready = event.ready; due = d; came = event.came }) c.due
     ∙ ap (λ (g : GotData). record { read = event.read; ready = event.ready; due = needs.File c.call; came = g }) c.came in
-    subst (λ e. IsAt args (e ∷ before) (row_after args (e ∷ before))) (sym is)
-    (row_keeps args before event.read event.ready c.told.bytes (row_after args before) c.call (timely _ _ _ c.call c.next) c.told.answer here c.fits)
+    subst (λ e. IsAt args (e ∷ before) (place_after args (e ∷ before))) (sym is)
+    (row_keeps args before event.read event.ready c.told.bytes (place_after args before) c.call (timely _ _ _ c.call c.next) c.told.answer here c.fits)
 
-pub run_at : (args : Arguments) (past : List Own) → IsRun args past → IsAt args past (row_after args past)
+pub run_at : (args : Arguments) (past : List Own) → IsRun args past → IsAt args past (place_after args past)
 run_at args [] run = (record { unfailed = λ h. h; unqueued = λ h. h }, (omega arith, omega arith), λ j from to. absurd (omega arith))
 run_at args (event ∷ before) (run, due) = event_at args before event (run_at args before run) due
 
 -- the pid names below one that was tried were taken
-below_taken : (args : Arguments) (before : List Own) (k : ℕ) (row : Row) → call_of args row ≡ needs.File (CreateExcl (pid_name args k)) → IsAt args before row
+below_taken : (args : Arguments) (before : List Own) (k : ℕ) (row : Row) → due_by args row ≡ needs.File (CreateExcl (pid_name args k)) → IsAt args before row
     → (j : ℕ) → 1 ≤ j → j < k → HasCall before (IsTaken args j)
 below_taken args before k (at.Create i) due (clear, in_range, below) j from to =
     let is : i ≡ k = same_try args i k (created _ _ due) in below j from (omega arith) where
@@ -276,4 +276,4 @@ tried args (event ∷ before) k (run, due) h j from to = ⊎_elim
     h where
       newest : IsDue args before event → HoldsOf (IsTaken args k) event → (i : ℕ) → 1 ≤ i → i < k → HasCall before (IsTaken args i)
       newest (next, fit) taken =
-          below_taken args before k (row_after args before) (timely _ _ _ taken.call (next ∙ taken.due) ∙ ap needs.File taken.holds.0) (run_at args before run)
+          below_taken args before k (place_after args before) (timely _ _ _ taken.call (next ∙ taken.due) ∙ ap needs.File taken.holds.0) (run_at args before run)

@@ -23,7 +23,7 @@ use Rattle.queue_inject.specs.declared.injection.Arguments.{Arguments}
 use Rattle.queue_inject.specs.declared.row.Row.{Row}
 use Rattle.queue_inject.specs.declared.row.Row.TheVariants as at
 use Rattle.queue_inject.specs.Texts.{message_text, intd_text}
-use Rattle.queue_inject.specs.Table.{piece_size, failure, in_message, in_todo, past_bytes, work_of, moved, after_came, row_after, call_of}
+use Rattle.queue_inject.specs.Table.{piece_size, failure, in_message, in_todo, past_bytes, work_of, moved, after_came, place_after, due_by}
 use Rattle.queue_inject.specs.Run.{IsDue, IsRun}
 use Rattle.queue_inject.specs.Causes.{first_fault, pid_name, IsTry, FailsWith}
 use Rattle.queue_inject.specs.Causes.FailsWith.{WantsMemory, Appends, Syncs, TakesAll, MakesPid, LeavesPid, LinksMess, MakesIntd, LinksTodo}
@@ -308,7 +308,7 @@ module _ (args : Arguments) (mess todo : List (List ℕ)) (mess_cuts : Cuts (mes
     due_keeps : (row : Row) (own call : CallData) → ◌≡◌ {A = NeedData} (needs.File own) (needs.File call) → Keeps row own → Keeps row call
     due_keeps row own call due h = let same : own ≡ call = cc in subst (Keeps row) same h
 
-    row_keeps : (row : Row) (call : CallData) → call_of args row ≡ needs.File call → Keeps row call
+    row_keeps : (row : Row) (call : CallData) → due_by args row ≡ needs.File call → Keeps row call
     row_keeps (at.Create k) call due = due_keeps (at.Create k) _ call due (creates k)
     row_keeps (at.LinkMess k n fd) call due = due_keeps (at.LinkMess k n fd) _ call due (links_mess k n fd)
     row_keeps (at.UnlinkPid k n fd) call due = due_keeps (at.UnlinkPid k n fd) _ call due (unlinks_pid k n fd)
@@ -325,15 +325,15 @@ module _ (args : Arguments) (mess todo : List (List ℕ)) (mess_cuts : Cuts (mes
 
   -- whole runs
 
-  event_at : (before : List Own) (event : Own) → At (acts_of before) (row_after args before) → IsDue args before event → At (acts_of (event ∷ before)) (row_after args (event ∷ before))
+  event_at : (before : List Own) (event : Own) → At (acts_of before) (place_after args before) → IsDue args before event → At (acts_of (event ∷ before)) (place_after args (event ∷ before))
   event_at before event here due =
       let c = call_at_due args before event due in
-      let row : Row = row_after args before in
+      let row : Row = place_after args before in
       let step : At (acts_of before ++ act c.call c.told.answer ∷ []) (moved args row c.told.answer) =
       row_keeps (acts_of before) row c.call (timely _ _ _ c.call c.next) c.told.answer here c.fits in
       subst (λ (d : NeedData). At (acts_of before ++ act_of d event.came) (after_came args row event.came)) (sym c.due)
       (subst (λ (g : GotData). At (acts_of before ++ act_of (needs.File c.call) g) (after_came args row g)) (sym c.came) step)
 
-  pub stands_at : (past : List Own) → IsRun args past → At (acts_of past) (row_after args past)
+  pub stands_at : (past : List Own) → IsRun args past → At (acts_of past) (place_after args past)
   stands_at [] run = (omega arith, refl)
   stands_at (event ∷ before) (run, due) = event_at before event (stands_at before run) due

@@ -15,7 +15,7 @@ use Rattle.queue_paths.specs.Names.Name.{Pid, Of}
 use Rattle.queue_paths.specs.Names.Part.{Mess, Intd, Todo}
 use Rattle.queue_inject.specs.declared.injection.Arguments.{Arguments}
 use Rattle.queue_inject.specs.Texts.{message_text, intd_text}
-use Rattle.queue_inject.specs.Table.{row_after, call_of}
+use Rattle.queue_inject.specs.Table.{place_after, due_by}
 use Rattle.call_fs.specs.Past.{HasCall}
 use Rattle.queue_limits.specs.declared.statuses.TheConstants.{DONE, IN_INTD, IN_MESS, IN_PID, IN_TODO, INPUT, LATE, LONG_ADDRESS, MALFORMED, MEMORY, OUTPUT, TOO_LONG}
 use Rattle.queue_limits.specs.declared.times.TheConstants.{DAY}
@@ -77,7 +77,7 @@ pub data FailsWith (args : Arguments) : ℕ → CallData → Answer → Type 0 w
 -- a call is due, be it a clean up, and it has run for more than a day
 pub record IsCutShort (args : Arguments) (past : List Own) (now : ℕ) : Type 0 where
   pub next : CallData
-  pub due : call_of args (row_after args past) ≡ needs.File next
+  pub due : due_by args (place_after args past) ≡ needs.File next
   pub late : args.start + DAY < now
 
 -- the statuses of a fault of the input: an address is too long, a message or an envelope is too long, it could not be

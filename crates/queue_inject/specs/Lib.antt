@@ -8,15 +8,13 @@ pub mod Machine
 pub mod Stands
 -- what the code of the table reads of rows and texts
 pub mod Rows
--- what the parts of an injector are, and what their fields keep
-pub mod Inside
 -- a run of an injector, as its past
 pub mod Run
 -- which exit status comes when, and why
 pub mod Causes
--- what an injector holds open
-pub mod Held
 -- the calls of a run as one written-out list
 pub mod Written
 -- what a run leaves in the queue
 pub mod Left
+-- definitions that only proofs and private code need
+pub mod inside

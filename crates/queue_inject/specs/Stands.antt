@@ -14,7 +14,7 @@ use Rattle.queue_inject.specs.declared.row.Row.{Row}
 use Rattle.queue_inject.specs.declared.row.Row.TheVariants as at
 use Rattle.received_line.specs.Received.{received_text}
 use Rattle.queue_inject.specs.Texts.{Text, limit, fault_status, past_limit, message_text, intd_text}
-use Rattle.queue_inject.specs.Table.{work_of, past_bytes, row_after}
+use Rattle.queue_inject.specs.Table.{work_of, past_bytes, place_after}
 use Rattle.queue_inject.specs.Machine.{Heard, Machine, asks}
 
 -- What is known of a text after so many written bytes: the piece that comes next, and whether the text goes on after it,
@@ -99,7 +99,7 @@ pub record Stands (m : Machine) (args : Arguments) (past : List Own) : Type 0 wh
   pub pid : m.pid ≡ args.pid
   pub start : m.start ≡ args.start
   pub hears : Hears m.row m.heard args
-  pub row : row_after args past ≡ past_bytes (work_of args) m.row
+  pub row : place_after args past ≡ past_bytes (work_of args) m.row
 
 -- the arguments of an injector that was started so
 pub record IsStartedBy (args : Arguments) (uid pid : ℕ) (invoked : Invoked) (start : ℕ) : Type 0 where

@@ -102,10 +102,14 @@ abbrev pub after_came : Arguments → Row → GotData → Row
 after_came args row (Answered told) = moved args row told.answer
 after_came args row other = row
 
--- the row after a past, newest event first
-abbrev pub row_after : Arguments → List Own → Row
-row_after args [] = at.Create 1
-row_after args (event ∷ before) = after_came args (row_after args before) event.came
+-- where an injector stands is its row
+abbrev pub Place : Type 0
+Place = Row
+
+-- where it stands after a past, newest event first
+abbrev pub place_after : Arguments → List Own → Place
+place_after args [] = at.Create 1
+place_after args (event ∷ before) = after_came args (place_after args before) event.came
 
 -- the bytes that the append of a row writes
 abbrev pub next_piece : Work → Row → List ℕ
@@ -132,8 +136,8 @@ call_at pid start piece (at.Failed status) = needs.Ended status
 abbrev pub asked : Work → Row → NeedData
 asked work row = call_at work.pid work.start (next_piece work row) row
 
-abbrev pub call_of : Arguments → Row → NeedData
-call_of args row = asked (work_of args) row
+abbrev pub due_by : Arguments → Place → NeedData
+due_by args row = asked (work_of args) row
 
 -- the first of some links, false if there is none
 abbrev pub first_link : List Bool → Bool
@@ -158,4 +162,4 @@ in_time input late due = due
 
 -- what an injector with these arguments does next: after this past, newest event first, at this moment, with this ready
 abbrev pub Next : Arguments → List Own → ℕ → Ready → NeedData
-Next args past now ready = in_time (has_input ready) (is_late args now) (call_of args (row_after args past))
+Next args past now ready = in_time (has_input ready) (is_late args now) (due_by args (place_after args past))

@@ -52,7 +52,7 @@ impl Model for Intake {
 
     ghost Value = { Heard };
 
-    ghost use Rattle.queue_inject.specs.Inside.{heard_of};
+    ghost use Rattle.queue_inject.specs.inside.Fields.{heard_of};
 
     ghost view = { heard_of };
 }

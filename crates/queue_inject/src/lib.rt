@@ -32,9 +32,9 @@
 #![tactic(auto)]
 
 mod injection;
-mod injector;
 mod intake;
 mod laws;
+mod machine;
 mod named_row;
 mod piece;
 mod row;
@@ -42,7 +42,7 @@ mod steps;
 mod whole_runs;
 
 pub use injection::{Arguments, InputEnd, Part};
-pub use injector::Injector;
 pub use laws::statuses_have_causes;
+pub use machine::Injector;
 pub use row::Row;
 pub use whole_runs::{names_are_left, runs_are_written};

@@ -28,7 +28,7 @@ impl Model for NamedRow {
 
     ghost Value = { Place };
 
-    ghost use Rattle.queue_inject.specs.Inside.{HasNames};
+    ghost use Rattle.queue_inject.specs.inside.Fields.{HasNames};
 
     ghost view = { λ i. record { pid = i.pid; start = i.start; row = i.row } };
 

@@ -6,7 +6,7 @@ use Rattle.queue_inject.specs.declared.row.Row.TheVariants as at
 use Rattle.call_fs.specs.Disk.{Disk, Open}
 use Rattle.queue_paths.specs.Names.Name.{Pid, Of}
 use Rattle.queue_paths.specs.Names.Part.{Mess}
-use Rattle.queue_inject.specs.Table.{row_after}
+use Rattle.queue_inject.specs.Table.{place_after as inject_after}
 use Rattle.call_fs.specs.declared.past.Own.{Own}
 use Rattle.queue_law.specs.Books.{Injection, Books, IsInjected, IsLater, HasQueued}
 use Rattle.queue_law.specs.Numbers.{Entry, Queue, look, About, about}
@@ -106,8 +106,8 @@ module _ (now : ℕ) (a : List ℕ) (m : Option ℕ) (q r : Queue) (E : Elsewher
   pub injector_frame : (o : List ℕ) → o ≢ a → (args : Arguments) (past : List Own) (lives ended : Bool) → InjectorFares now q o args past lives ended → InjectorFares now r o args past lives ended
   injector_frame o other args past lives ended h = record {
     stands = λ alive. let s = h.stands alive in record {
-      relies = λ soon. relies_frame o other args soon (row_after args past) (s.relies soon);
-      settles = settles_frame o args (row_after args past) s.settles;
+      relies = λ soon. relies_frame o other args soon (inject_after args past) (s.relies soon);
+      settles = settles_frame o args (inject_after args past) s.settles;
     };
     queued = λ row. queued_frame o args (h.queued row);
     ends = h.ends;

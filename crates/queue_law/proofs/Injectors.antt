@@ -11,7 +11,7 @@ use Rattle.call_fs.specs.Apply.{Fits}
 use Rattle.queue_inject.specs.declared.injection.Arguments.{Arguments}
 use Rattle.queue_inject.specs.declared.row.Row.{Row}
 use Rattle.queue_inject.specs.declared.row.Row.TheVariants as at
-use Rattle.queue_inject.specs.Table.{Next, row_after, call_of, in_time}
+use Rattle.queue_inject.specs.Table.{Next, place_after as inject_after, due_by as inject_due, in_time}
 use Rattle.queue_law.specs.Books.{Books, booked, last_read}
 use Rattle.queue_law.proofs.Tests.{off, tells_number}
 use Rattle.queue_law.specs.Numbers.{Queue, about, IsSorted, Phase, Sound}
@@ -41,7 +41,7 @@ in_time_call : (now start read : ℕ) → nat_lt (start + 86400) read ≡ false 
 in_time_call now start read h stall = let w : read ≤ start + 86400 = ltb-false _ _ h in omega arith
 
 -- an end with 0 comes only if the message was queued
-ends_queued : (b : Books) (a : List ℕ) (args : Arguments) (row : Row) → call_of args row ≡ needs.Ended 0 → Settles b a args row → row ≡ at.Queued
+ends_queued : (b : Books) (a : List ℕ) (args : Arguments) (row : Row) → inject_due args row ≡ needs.Ended 0 → Settles b a args row → row ≡ at.Queued
 ends_queued b a args at.Queued h settles = refl
 ends_queued b a args (at.Failed cause) h settles = absurd (settles (cc))
 ends_queued b a args row h settles = absurd (cc)
@@ -66,7 +66,7 @@ injector_later now m later q a args past lives ended F = record {
 
 -- one that is over relies on nothing
 pub injector_over : (now : ℕ) (q r : Queue) → r.books ≡ q.books → (a : List ℕ) (args : Arguments) (past : List Own) (lived was lives ended : Bool)
-    → InjectorFares now q a args past lived was → (lives ≡ true → ⊥) → (ended ≡ true → row_after args past ≡ at.Queued) → InjectorFares now r a args past lives ended
+    → InjectorFares now q a args past lived was → (lives ≡ true → ⊥) → (ended ≡ true → inject_after args past ≡ at.Queued) → InjectorFares now r a args past lives ended
 injector_over now q r same a args past lived was lives ended F dead ends = record {
   stands = λ h. absurd (dead h);
   queued = λ row. subst (λ (b : Books). Settles b a args at.Queued) (sym same) (F.queued row);
@@ -76,9 +76,9 @@ injector_over now q r same a args past lived was lives ended F dead ends = recor
 
 -- its end with 0 comes only once its message is queued
 pub injector_done : (now : ℕ) (q : Queue) (a : List ℕ) (args : Arguments) (past : List Own) (lives ended : Bool) (read : ℕ) (ready : Found)
-    → InjectorFares now q a args past lives ended → lives ≡ true → Next args past read ready ≡ needs.Ended 0 → row_after args past ≡ at.Queued
+    → InjectorFares now q a args past lives ended → lives ≡ true → Next args past read ready ≡ needs.Ended 0 → inject_after args past ≡ at.Queued
 injector_done now q a args past lives ended read ready F alive next =
-    ends_queued q.books a args (row_after args past) (end_due _ _ _ next) (F.stands alive).settles
+    ends_queued q.books a args (inject_after args past) (end_due _ _ _ next) (F.stands alive).settles
 
 sound_by : (controls : Controls) (now : ℕ) (q : Queue) → Sound controls q → (a : List ℕ) (args : Arguments) (r : Queue) (row : Row) → Outcome controls now q a args r row → Sound controls r
 sound_by controls now q G a args r row O = record {
@@ -106,7 +106,7 @@ injector_calls controls now q a args past read ready call told wrote G F no_earl
     let due = call_due _ _ _ call next in
     let late : args.start ≤ read = le_trans F.reads no_earlier in
     let soon : InTime now args = in_time_call now args.start read due.1 no_stall in
-    let w = step controls now q a args G read late wrote (row_after args past) call due.0 (S.relies soon, S.settles) told.answer fits in
+    let w = step controls now q a args G read late wrote (inject_after args past) call due.0 (S.relies soon, S.settles) told.answer fits in
     let O = w.1 in
     record {
       role = w.0;

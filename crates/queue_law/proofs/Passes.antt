@@ -29,7 +29,7 @@ use Rattle.todo_pass.specs.declared.row.Why.{Why}
 use Rattle.todo_pass.specs.declared.sorted.Sorted.{Sorted as Texts}
 use Rattle.todo_pass.specs.Disks.{HoldsTodo}
 use Rattle.todo_pass.specs.Sorting.{sort_todo, text_of, has}
-use Rattle.todo_pass.specs.Table.{Pass, passed, moved_at, piece_size, cleared, read_row, remote_row, local_row, made_row, sorted_with, answered, due_at}
+use Rattle.todo_pass.specs.Table.{Pass, place_after as pass_after, moved_at, piece_size, cleared, read_row, remote_row, local_row, made_row, sorted_with, answered, due_at}
 use Rattle.todo_pass.proofs.Made.{numbered}
 use Rattle.queue_law.specs.Numbers.{Entry, Role, Queue, IsRight, Suits, about, IsQueued, Sound}
 use Rattle.queue_law.specs.Numbers.Role.{AsPart}
@@ -337,7 +337,7 @@ calling_moves controls at.Lost p asked due read told = refl
 
 pub passes_keep : PassesKeep
 passes_keep controls now q a n past read ready asked told wrote G S due fits =
-    let p = passed controls n past in
+    let p = pass_after controls n past in
     let due_it : due_at p.row (record p { n = n }) ≡ needs.File asked = subst (λ k. due_at p.row (record p { n = k }) ≡ needs.File asked) (numbered controls n past) due in
     let w = step controls now a q G n (S.rests (calling_holds p.row p asked due)) read wrote told.bytes p.row p S.holds asked due_it told.answer fits in
     (w.0, subst (λ (next : Pass). PassLeads controls now a q (called_queue q a read asked told.answer wrote w.0) n next.row) (sym (calling_moves controls p.row p asked due read told)) w.1)

@@ -27,7 +27,7 @@ use Rattle.todo_pass.specs.declared.sorted.Sorted.{Sorted as Texts}
 use Rattle.todo_pass.specs.Disks.{SameAt, fd_in, HoldsTodo, LeaveAlone, IsMade as IsMadeOn}
 use Rattle.todo_pass.specs.Laws.{IsMadeRow}
 use Rattle.todo_pass.specs.Sorting.{info_text, channel_text, locals_of, remotes_of}
-use Rattle.todo_pass.specs.Table.{passed}
+use Rattle.todo_pass.specs.Table.{place_after as pass_after}
 use Rattle.todo_pass.specs.Todo.{Todo as TodoIn, IsTodo}
 use Rattle.todo_pass.proofs.Ends.{files_are_made}
 use Rattle.queue_law.specs.Routes.{sender_read, sender_of, info_of, lane_text, lane_part}
@@ -110,7 +110,7 @@ was_read q n y text read k there synced named holds =
 
 pub passes_make : PassesMake
 passes_make controls n past first q run leads at_give Q =
-    let p = passed controls n past in
+    let p = pass_after controls n past in
     let F = files_are_made controls n past first q.disk run leads (subst IsMadeRow (sym at_give) tt) in
     let args = Q.taken.injection.args in
     let held = F.todo at_give in

@@ -19,7 +19,7 @@ use Rattle.queue_paths.specs.Names.{Name, path, parse}
 use Rattle.queue_paths.specs.Names.Name.{Pid, Of}
 use Rattle.queue_paths.specs.Names.Part.{Mess, Intd, Todo}
 use Rattle.queue_inject.specs.Texts.{Text, message_text, intd_text}
-use Rattle.queue_inject.specs.Table.{piece_size, failure, work_of, past_bytes, moved, call_of}
+use Rattle.queue_inject.specs.Table.{piece_size, failure, work_of, past_bytes, moved, due_by as inject_due}
 use Rattle.queue_law.specs.Books.{linked, IsValid}
 use Rattle.queue_paths.proofs.Paths.{parse-path}
 use Rattle.queue_law.proofs.Tests.{same_text}
@@ -183,7 +183,7 @@ module _ (controls : Controls) (now : ℕ) (q : Queue) (a : List ℕ) (args : Ar
   due_call : (row : Row) (own call : CallData) → ◌≡◌ {A = NeedData} (needs.File own) (needs.File call) → Steps row own → Steps row call
   due_call row own call due h = let same : own ≡ call = cc in subst (Steps row) same h
 
-  pub step : (row : Row) (call : CallData) → call_of args row ≡ needs.File call → Basis q a args row → Steps row call
+  pub step : (row : Row) (call : CallData) → inject_due args row ≡ needs.File call → Basis q a args row → Steps row call
   step (at.Create seq) call due h = due_call (at.Create seq) _ call due (at_create seq)
   step (at.LinkMess seq n fd) call due h = due_call (at.LinkMess seq n fd) _ call due (at_link seq n fd h.0)
   step (at.UnlinkPid seq n fd) call due h = due_call (at.UnlinkPid seq n fd) _ call due (at_unlink seq n fd h.0)

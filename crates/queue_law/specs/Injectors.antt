@@ -7,7 +7,7 @@ use Rattle.queue_inject.specs.declared.injection.Arguments.{Arguments}
 use Rattle.queue_inject.specs.declared.row.Row.{Row}
 use Rattle.queue_inject.specs.declared.row.Row.TheVariants as at
 use Rattle.queue_inject.specs.Texts.{message_text, intd_text}
-use Rattle.queue_inject.specs.Table.{row_after}
+use Rattle.queue_inject.specs.Table.{place_after as inject_after}
 use Rattle.queue_limits.specs.declared.times.TheConstants.{DAY, LONGEST_STALL}
 use Rattle.queue_paths.specs.Names.Name.{Pid, Of}
 use Rattle.queue_paths.specs.Names.Part.{Mess, Intd, Todo}
@@ -145,7 +145,7 @@ pub record Stands (now : ℕ) (q : Queue) (a : List ℕ) (args : Arguments) (row
 -- What holds of an injector: by its row while it lives; if it has queued its message, whether it lives or not; of its end
 -- with 0, if it has ended so; and of its readings.
 pub record InjectorFares (now : ℕ) (q : Queue) (a : List ℕ) (args : Arguments) (past : List Own) (lives ended : Bool) : Type 0 where
-  pub stands : lives ≡ true → Stands now q a args (row_after args past)
-  pub queued : row_after args past ≡ at.Queued → HasQueued q.books a args
-  pub ends : ended ≡ true → row_after args past ≡ at.Queued
+  pub stands : lives ≡ true → Stands now q a args (inject_after args past)
+  pub queued : inject_after args past ≡ at.Queued → HasQueued q.books a args
+  pub ends : ended ≡ true → inject_after args past ≡ at.Queued
   pub reads : args.start ≤ last_read args.start past

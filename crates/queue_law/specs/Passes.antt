@@ -17,7 +17,7 @@ use Rattle.todo_pass.specs.declared.row.Row.{Row}
 use Rattle.todo_pass.specs.declared.row.Row.TheVariants as at
 use Rattle.todo_pass.specs.Disks.{HoldsTodo, LeaveAlone, LeadsTo}
 use Rattle.todo_pass.specs.Run.{IsRun}
-use Rattle.todo_pass.specs.Table.{passed, Next as PassesNext}
+use Rattle.todo_pass.specs.Table.{place_after as pass_after, Next as PassesNext}
 use Rattle.queue_law.specs.Books.{own_call}
 use Rattle.queue_law.specs.Numbers.{Role, Queue, Entry, look, about, IsQueued, Sound}
 use Rattle.queue_law.specs.Injectors.{IsHeld, IsOpen}
@@ -69,14 +69,14 @@ pub record PassLeads (controls : Controls) (now : ℕ) (a : List ℕ) (q r : Que
 -- a file call of a pass that is due keeps what holds of the queue, if its number rests
 abbrev pub PassesKeep : Type 0
 PassesKeep = (controls : Controls) (now : ℕ) (q : Queue) (a : List ℕ) (n : ℕ) (past : List Own) (read : ℕ) (ready : Found) (call : CallData) (told : Told) (wrote : ℕ)
-    → Sound controls q → PassStands controls now q a n (passed controls n past).row
+    → Sound controls q → PassStands controls now q a n (pass_after controls n past).row
     → PassesNext (record { n = n; controls = controls }) past read ready ≡ needs.File call → Fits q.disk call told.answer wrote
-    → (role : ℕ → Role) × PassLeads controls now a q (called_queue q a read call told.answer wrote role) n (passed controls n (own_call read ready call told ∷ past)).row
+    → (role : ℕ → Role) × PassLeads controls now a q (called_queue q a read call told.answer wrote role) n (pass_after controls n (own_call read ready call told ∷ past)).row
 
 -- When a pass gives its command, all is made: info and the channel files are whole, on the disk, and those of the message.
 abbrev pub PassesMake : Type 0
 PassesMake = (controls : Controls) (n : ℕ) (past : List Own) (first : Disk) (q : Queue) → IsRun controls n past → LeadsTo controls n first past q.disk
-    → (passed controls n past).row ≡ at.Give → IsQueued controls (about q n) → IsReady controls (about q n)
+    → (pass_after controls n past).row ≡ at.Give → IsQueued controls (about q n) → IsReady controls (about q n)
 
 -- A step of another actor that leaves all that concerns the number as it was leaves alone what a pass holds. A step that spares the number
 -- leaves what the pass relies on, and so does time.

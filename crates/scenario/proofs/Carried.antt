@@ -38,7 +38,8 @@ use Rattle.mail_world.specs.History.Life.{Alive, Over, Stopped}
 use Rattle.mail_world.specs.Inside.{Owns, RunsAt}
 use Rattle.mail_world.specs.Acting.{MayMake}
 use Rattle.mail_world.specs.Readiness.{found_in}
-use Rattle.mail_world.proofs.Opens.{opens_by, fits_answer, owns_backs, closes_own, own_stays, owns_after}
+use Rattle.call_fs.proofs.Coming.{fits_answer}
+use Rattle.mail_world.proofs.Opens.{opens_by, owns_backs, closes_own, own_stays, owns_after}
 use Rattle.mail_world.specs.ByKind.{BearsIn, IsAlone, IsMail}
 use Rattle.mail_world.specs.Anew.{IsSameButInput, idle}
 use Rattle.mail_world.specs.Pipework.{Pipe, Pipework, Slot, Tenant, Yields, fresh, given, closed, is_member, is_writer, feeder, pipework_after, with_generation}

@@ -9,7 +9,7 @@ use Rattle.std.proofs.lemmas.Slice.Zip.{get_or-zip, length-zip}
 use Rattle.world_events.specs.declared.books.Entry.{Entry}
 use Rattle.scenario.specs.declared.showing.Given.{Given}
 use Rattle.scenario.specs.Shown.{View, entry_lines}
-use Rattle.scenario.specs.Viewed.{given_lines}
+use Rattle.scenario.specs.inside.Viewed.{given_lines}
 use Rattle.scenario.proofs.Receivers.{envelope_at}
 
 -- A text of each pair of two lists

@@ -32,7 +32,8 @@ use Rattle.mail_world.specs.Pipework.{Pipework, with_child, with_generation}
 use Rattle.mail_world.specs.World.{Tells}
 use Rattle.scenario.specs.declared.fates.Fates.{Fates}
 use Rattle.scenario.specs.declared.fates.Following.{Following}
-use Rattle.scenario.specs.Fates.{AreFates, AreNamedStarts, AreNamed, Follows, HasDone, HasDue, IsHeard, IsNamedStart, IsNamedSo, IsReadAs, TellsRead, heard_by, is_delivery_name}
+use Rattle.scenario.specs.Fates.{AreFates, AreNamedStarts, IsNamedStart, IsNamedSo, is_delivery_name}
+use Rattle.scenario.specs.inside.Fates.{AreNamed, Follows, HasDone, HasDue, IsHeard, IsReadAs, TellsRead, heard_by}
 use Rattle.mail_world.proofs.Coming.{may_come}
 use Rattle.scenario.proofs.KeptEvents.{act_told, child_told}
 

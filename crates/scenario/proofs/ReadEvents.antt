@@ -9,7 +9,7 @@ use Rattle.world_events.specs.declared.event.Event.TheVariants as kept
 use Rattle.mail_world.specs.History.{Event}
 use Rattle.mail_world.specs.History.Event.{Start, Act, Child, Generation, Report, End, Stop, Moment, Halt}
 use Rattle.mail_world.specs.World.{Tells}
-use Rattle.scenario.specs.Fates.{TellsRead}
+use Rattle.scenario.specs.inside.Fates.{TellsRead}
 
 -- a giving to a child is told as another event
 pub no_feed : (a : List ℕ) (own : Own) (c message envelope : List ℕ) (e : Event) → Tells (kept.Feed a own c message envelope) e → ⊥

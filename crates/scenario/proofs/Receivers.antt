@@ -17,7 +17,8 @@ use Rattle.mail_world.specs.History.{Event}
 use Rattle.mail_world.specs.History.Event.{Start, Act, Child, Generation, Report, End, Stop, Moment, Halt}
 use Rattle.mail_world.specs.World.{Tells}
 use Rattle.scenario.specs.declared.showing.Given.{Given}
-use Rattle.scenario.specs.Fates.{AreNamedStarts, IsFedSo, IsNamedStart, IsNamedSo, Receiver, given_to, is_delivery_name, is_given, received_by, receiver, receivers_in}
+use Rattle.scenario.specs.Fates.{AreNamedStarts, IsFedSo, IsNamedStart, IsNamedSo, is_delivery_name}
+use Rattle.scenario.specs.inside.Fates.{Receiver, given_to, is_given, received_by, receiver, receivers_in}
 
 -- The newest of some injectors that is that child
 

@@ -15,7 +15,8 @@ use Rattle.script_words.specs.declared.letter.Letter.{Letter}
 use Rattle.scenario.specs.Steps.{plan_through, refusal_line}
 use Rattle.scenario.specs.Steps.Refusal.{Rounds}
 use Rattle.scenario.specs.Turns.{NoneBefore, counted, most_rounds, is_search_deed, is_idle, events_of, text_of, events_in, reports_of}
-use Rattle.scenario.specs.Playing.{IsPlaying, HasTurned, HasReported, HasRounded, HasPlayed, is_search_kept}
+use Rattle.scenario.specs.Playing.{IsPlaying, HasPlayed}
+use Rattle.scenario.specs.inside.Playing.{HasTurned, HasReported, HasRounded, is_search_kept}
 use Rattle.scenario.proofs.Searches.{searches_told}
 use Rattle.scenario.proofs.TurnRuns.{round_printed, round_reported, HasSettledOn, settle_goes_on, settle_rests, settle_full}
 use Rattle.scenario.proofs.TurnParts.{own_none, own_some}

@@ -32,7 +32,8 @@ use Rattle.scenario.specs.Played.{plan_after, Refusal, IsRefusalOf, Plays, Plays
 use Rattle.scenario.specs.Steps.Outcome.{Happens, Is}
 use Rattle.scenario.specs.declared.stepping.Stepped.{Stepped}
 use Rattle.scenario.proofs.Carried.{not_member}
-use Rattle.scenario.specs.Playing.{IsPlaying, HasStepped, HasPlayed, HasPrinted, IsRefusedAs}
+use Rattle.scenario.specs.Playing.{IsPlaying, HasStepped, HasPlayed, IsRefusedAs}
+use Rattle.scenario.specs.inside.Playing.{HasPrinted}
 use Rattle.scenario.specs.Shown.{IsShown}
 use Rattle.scenario.specs.Text.{IsPlayed, IsBegun}
 use Rattle.scenario.specs.Traced.{traced_after, traced_text}

@@ -16,7 +16,8 @@ use Rattle.scenario.specs.Deeds.{Deed, after}
 use Rattle.scenario.specs.Steps.{Refusal, IsRefusalOf, StepsTo, AreSteps, plan_through, has_idled, most_steps, stop_text, refusal_line}
 use Rattle.scenario.specs.Steps.Stops.{Idles, Refused, Full}
 use Rattle.scenario.specs.Steps.Outcome.{Is}
-use Rattle.scenario.specs.Playing.{IsPlaying, HasStepped, HasRun, HasPlayed, IsRefusedAs, is_waiting}
+use Rattle.scenario.specs.Playing.{IsPlaying, HasStepped, HasRun, HasPlayed, IsRefusedAs}
+use Rattle.scenario.specs.inside.Playing.{is_waiting}
 use Rattle.scenario.proofs.Outcomes.{alive_waits}
 
 -- an error has one refusal

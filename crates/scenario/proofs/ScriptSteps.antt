@@ -55,8 +55,10 @@ use Rattle.scenario.specs.Deeds.Deed.{Came, Fed}
 use Rattle.scenario.specs.Steps.{plan_by, plan_left_of, DoesNext, DoesStep, StepsTo, Outcome, next_pid, comes, idles, own_by}
 use Rattle.scenario.specs.Steps.Outcome.{Happens, Is}
 use Rattle.scenario.specs.Steps.Refusal.{Gone, Unknown, NotWaiting}
-use Rattle.scenario.specs.Fates.{AreNamed, IsNamedSo, is_delivery_name}
-use Rattle.scenario.specs.Playing.{HasStepped, IsLeftBy, IsPlaying, IsRefusedAs, is_memory, lacked_memory, stepped_by}
+use Rattle.scenario.specs.Fates.{IsNamedSo, is_delivery_name}
+use Rattle.scenario.specs.inside.Fates.{AreNamed}
+use Rattle.scenario.specs.Playing.{HasStepped, IsLeftBy, IsPlaying, IsRefusedAs}
+use Rattle.scenario.specs.inside.Playing.{is_memory, lacked_memory, stepped_by}
 use Rattle.scenario.proofs.Carried.{no_file_disk}
 use Rattle.scenario.proofs.StepKinds.{IsNoFile}
 use Rattle.scenario.proofs.Deeds.{tells, plain_on, fed_on, playing_push, pid_told, counts_told}

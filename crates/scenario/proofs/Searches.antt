@@ -9,7 +9,7 @@ use Rattle.world_events.specs.declared.event.Event.{Event as Kept}
 use Rattle.mail_world.specs.History.{Event}
 use Rattle.mail_world.specs.History.Event.{Start, Act, Child, Generation, Report, End, Stop, Moment, Halt}
 use Rattle.mail_world.specs.World.{Tells}
-use Rattle.scenario.specs.Playing.{is_search_kept}
+use Rattle.scenario.specs.inside.Playing.{is_search_kept}
 use Rattle.scenario.specs.Deeds.{Deed, TellsDeed}
 use Rattle.scenario.specs.Deeds.Deed.{Came, Fed}
 use Rattle.scenario.specs.Turns.{is_search, is_search_deed}

@@ -32,9 +32,11 @@ use Rattle.mail_world.specs.World.{IsHistory}
 use Rattle.mail_world.specs.Books.{books_in, entry_in, mails_of}
 use Rattle.scenario.specs.declared.overview.Overview.{Overview}
 use Rattle.scenario.specs.declared.showing.Given.{Given}
-use Rattle.scenario.specs.Fates.{AreNamedStarts, IsFedSo, IsUsed, receiver, receivers_in}
+use Rattle.scenario.specs.Fates.{AreNamedStarts, IsFedSo, IsUsed}
+use Rattle.scenario.specs.inside.Fates.{receiver, receivers_in}
 use Rattle.scenario.specs.Shown.{AreNamesIn, AreNumbersIn, pid_line, number_line, all_mail_lines, IsShown, View, entry_lines, view_of}
-use Rattle.scenario.specs.Viewed.{given_lines, view_at}
+use Rattle.scenario.specs.Viewed.{view_at}
+use Rattle.scenario.specs.inside.Viewed.{given_lines}
 use Rattle.scenario.proofs.EachMail.{by_envelope}
 use Rattle.scenario.proofs.Receivers.{envelope_at, envelope_in, envelopes_told}
 

@@ -9,8 +9,8 @@ use Rattle.bounce_record.specs.declared.note_row.NoteRow.{NoteRow}
 use Rattle.bounce_record.specs.declared.note_row.NoteRow.TheVariants as written
 use Rattle.bounce_record.specs.declared.return_row.ReturnRow.{ReturnRow}
 use Rattle.bounce_record.specs.declared.return_row.ReturnRow.TheVariants as back
-use Rattle.bounce_record.specs.Returning.{Returning, return_due_at}
-use Rattle.bounce_record.specs.Writing.{Writing, writing_due_at}
+use Rattle.bounce_record.specs.Returning.{Returning, due_at as return_due_at}
+use Rattle.bounce_record.specs.Writing.{Writing, due_at as note_due_at}
 use Rattle.call_fs.specs.declared.calls.Answer.{Answer}
 use Rattle.call_fs.specs.declared.calls.Answer.TheVariants as answer
 use Rattle.call_fs.specs.declared.calls.CallData.{CallData}
@@ -74,7 +74,7 @@ use Rattle.send_core.specs.Desk.{deferred, heard, link, retried_if, settle, told
 use Rattle.send_core.specs.Past.{Account, Owed, account, work}
 use Rattle.send_core.specs.Stands.{Machine, Stands}
 use Rattle.send_core.specs.Start.{started}
-use Rattle.send_core.specs.Table.{Next, desk_after, due_at, file_of, moved_by, port_of, row_now, sweep_words}
+use Rattle.send_core.specs.Table.{Next, place_after as sender_after, due_at, file_of, moved_by, port_of, row_now, sweep_words}
 use Rattle.send_core.specs.Turn.{took}
 use Rattle.send_core.proofs.Changes.{DeskFits}
 use Rattle.send_core.proofs.Fits.{Fits}
@@ -84,7 +84,8 @@ use Rattle.send_core.proofs.Standing.{FitAt, arrives}
 use Rattle.world_events.specs.declared.event.Program.TheVariants as kinds
 use Rattle.mail_world.specs.History.{books_after}
 use Rattle.scenario.specs.declared.fates.Fates.{Fates}
-use Rattle.scenario.specs.Fates.{AreFates, HasDue, entered_by, entered_of, heard_by}
+use Rattle.scenario.specs.Fates.{AreFates}
+use Rattle.scenario.specs.inside.Fates.{HasDue, entered_by, entered_of, heard_by}
 use Rattle.scenario.proofs.Lives.{Enters, enters_one, line_apart}
 
 -- there is room for the marks of all that is in flight
@@ -340,7 +341,7 @@ not_pass todo.Done p c is = cc
 not_pass (todo.Left why) p c is = cc
 not_pass todo.Lost p c is = cc
 
-not_note : (row : NoteRow) (w : Writing) (c : Channel) → writing_due_at row w ≡ needs.Take (port_of c) → ⊥
+not_note : (row : NoteRow) (w : Writing) (c : Channel) → note_due_at row w ≡ needs.Take (port_of c) → ⊥
 not_note written.Open w c is = cc
 not_note written.Create w c is = cc
 not_note (written.Stat fd) w c is = cc
@@ -434,9 +435,9 @@ both_room : (c : Channel) (al ar : Account) (d : Desk) → DeskFits al ar d → 
 both_room Local al ar d h = fits_room al d.slots.local d.local h.0
 both_room Remote al ar d h = fits_room ar d.slots.remote d.remote h.1
 
-run_room : (past : List Own) (now : ℕ) (ready : Ready) (c : Channel) → IsRunBy (Next None) past → row_now (desk_after None past) now ready ≡ at.TakeLink c → HasRoom (lane c (desk_after None past).slots)
+run_room : (past : List Own) (now : ℕ) (ready : Ready) (c : Channel) → IsRunBy (Next None) past → row_now (sender_after None past) now ready ≡ at.TakeLink c → HasRoom (lane c (sender_after None past).slots)
 run_room past now ready c run is =
-    let d : Desk = desk_after None past in
+    let d : Desk = sender_after None past in
     let fit = arrives (Was past) (work past) (account Local past) (account Remote past) (frees past) d.row d now ready (keeps None past run).0 in
     both_room c (account Local past) (account Remote past) d (subst (λ (row : Row). FitAt (Was past) (work past) (account Local past) (account Remote past) row d) is fit).0
 
@@ -447,11 +448,11 @@ entered_is child c [] b = refl
 entered_is child c (m ∷ marks) b = entered_is child c marks (entered_by c m b)
 
 pub taking_enters : (child : Option Bouncer) (past : List Own) (own : Own) (c : Channel) (b : Books) → HasDue past own → own.due ≡ needs.Take (port_of c)
-    → let d = desk_after None past in entered_of c (drop (length (lane c d.slots).marks) (lane c (desk_after None (own ∷ past)).slots).marks) b ≡ heard_by child past own b
+    → let d = sender_after None past in entered_of c (drop (length (lane c d.slots).marks) (lane c (sender_after None (own ∷ past)).slots).marks) b ≡ heard_by child past own b
 taking_enters child past own c b due takes =
-    let d : Desk = desk_after None past in
+    let d : Desk = sender_after None past in
     let row : Row = row_now d own.read own.ready in
-    let new : List Mark = drop (length (lane c d.slots).marks) (lane c (desk_after None (own ∷ past)).slots).marks in
+    let new : List Mark = drop (length (lane c d.slots).marks) (lane c (sender_after None (own ∷ past)).slots).marks in
     let adds : AddsAt c (booked_at row own.came d) (lane c d.slots).marks (lane c (moved_by row own.read own.came d).slots).marks =
     row_adds row own.read own.came d c (due.due ∙ takes) (run_room past own.read own.ready c due.run) in
     entered_is child c new b
@@ -525,24 +526,24 @@ quiet_all f child [] b quiet h = h
 quiet_all f child (e ∷ es) b quiet h = quiet_all f child es (booked_on child e b) quiet.1 (quiet_on f child e b quiet.0 h)
 
 by_call : (f : Fates) (child : Option Bouncer) (past : List Own) (own : Own) (b : Books) (call : CallData) (came : GotData)
-    → (let d = desk_after None past in AreQuiet (booked_at (row_now d own.read own.ready) came d)) → AreFates f b
+    → (let d = sender_after None past in AreQuiet (booked_at (row_now d own.read own.ready) came d)) → AreFates f b
     → AreFates f (books_after child b (codes "sender") (kinds.Sender 0) past own.read own.ready (needs.File call) came)
 by_call f child past own b call (got.Answered told) quiet h =
-    let d : Desk = desk_after None past in quiet_all f child (booked_at (row_now d own.read own.ready) (got.Answered told) d) b quiet h
+    let d : Desk = sender_after None past in quiet_all f child (booked_at (row_now d own.read own.ready) (got.Answered told) d) b quiet h
 by_call f child past own b call came quiet h = h
 
 by_due : (f : Fates) (child : Option Bouncer) (past : List Own) (own : Own) (b : Books) (due : NeedData)
-    → (let d = desk_after None past in AreQuiet (booked_at (row_now d own.read own.ready) own.came d)) → AreFates f b
+    → (let d = sender_after None past in AreQuiet (booked_at (row_now d own.read own.ready) own.came d)) → AreFates f b
     → AreFates f (books_after child b (codes "sender") (kinds.Sender 0) past own.read own.ready due own.came)
 by_due f child past own b (needs.File call) quiet h = by_call f child past own b call own.came quiet h
 by_due f child past own b (needs.Take p) quiet h =
-    let d : Desk = desk_after None past in quiet_all f child (booked_at (row_now d own.read own.ready) own.came d) b quiet h
+    let d : Desk = sender_after None past in quiet_all f child (booked_at (row_now d own.read own.ready) own.came d) b quiet h
 by_due f child past own b due quiet h = h
 
 pub other_enters : (f : Fates) (child : Option Bouncer) (past : List Own) (own : Own) (b : Books) → HasDue past own → own.due ≢ needs.Take port.Lspawn → own.due ≢ needs.Take port.Rspawn → AreFates f b
     → AreFates f (heard_by child past own b)
 other_enters f child past own b has local remote h =
-    let d : Desk = desk_after None past in
+    let d : Desk = sender_after None past in
     by_due f child past own b own.due (quiet_row (row_now d own.read own.ready) own.came d own.due has.due local remote) h
 
 -- so, with the marks that a sender had and has
@@ -550,7 +551,7 @@ pub taking_is : (child : Option Bouncer) (past : List Own) (own : Own) (c : Chan
     → Stands old None past → Stands new None (own ∷ past) → before ≡ length (lane c old.desk.slots).marks → marks ≡ (lane c new.desk.slots).marks → entered_of c (drop before marks) b ≡ heard_by child past own b
 taking_is child past own c b old new before marks due takes was now many are =
     ap (λ (k : ℕ). entered_of c (drop k marks) b) (many ∙ ap (λ (d : Desk). length (lane c d.slots).marks) was)
-    ∙ ap (λ (m : List Mark). entered_of c (drop (length (lane c (desk_after None past).slots).marks) m) b) (are ∙ ap (λ (d : Desk). (lane c d.slots).marks) now)
+    ∙ ap (λ (m : List Mark). entered_of c (drop (length (lane c (sender_after None past).slots).marks) m) b) (are ∙ ap (λ (d : Desk). (lane c d.slots).marks) now)
     ∙ taking_enters child past own c b due takes
 
 -- Marks, one after the other

@@ -13,7 +13,8 @@ use Rattle.mail_world.specs.History.Event.{Start, Act, Child, Generation, Report
 use Rattle.mail_world.specs.World.{Seen, Tells}
 use Rattle.script_lines.specs.declared.line.Line.{Line}
 use Rattle.script_traces.specs.Events.{kept_line, report_line}
-use Rattle.scenario.specs.Playing.{IsPlaying, HasPlayed, HasPrinted}
+use Rattle.scenario.specs.Playing.{IsPlaying, HasPlayed}
+use Rattle.scenario.specs.inside.Playing.{HasPrinted}
 use Rattle.scenario.specs.Deeds.{Deed, TellsDeed}
 use Rattle.scenario.specs.Deeds.Deed.{Came, Fed}
 use Rattle.scenario.specs.Traced.{event_line, deed_line, letter_in}

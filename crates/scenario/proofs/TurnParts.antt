@@ -11,7 +11,8 @@ use Rattle.mail_world.specs.World.{Seen}
 use Rattle.scenario.specs.Deeds.{Deed, TellsDeed}
 use Rattle.scenario.specs.Steps.{plan_through}
 use Rattle.scenario.specs.Turns.{next_living, events_of}
-use Rattle.scenario.specs.Playing.{IsPlaying, HasRun, HasParted, HasTurned}
+use Rattle.scenario.specs.Playing.{IsPlaying, HasRun}
+use Rattle.scenario.specs.inside.Playing.{HasParted, HasTurned}
 use Rattle.scenario.proofs.Deeds.{told_long}
 use Rattle.scenario.proofs.NextLiving.{next_is}
 use Rattle.scenario.proofs.TurnRuns.{HasTurnedOn, run_parted, one_part, part_goes_on, turn_printed, turn_rests}

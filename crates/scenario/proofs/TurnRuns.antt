@@ -19,7 +19,8 @@ use Rattle.scenario.specs.Steps.Refusal.{Rounds}
 use Rattle.scenario.specs.Turns.{next_living, NoneBefore, Part, events_of, text_of, place_after, AreParts, Round, reports_of, slot_after, ReportsOn, AreReported, AreReportsAfter, round_events, is_search_deed, is_idle, has_bytes, events_in, is_last, most_rounds, SettlesOn}
 use Rattle.scenario.specs.Turns.Settles.{Rests, Full}
 use Rattle.scenario.proofs.DeadStarts.{none_skipped, none_stays}
-use Rattle.scenario.specs.Playing.{IsPlaying, HasRun, HasParted, HasTurned, HasReported, HasRounded, HasPlayed}
+use Rattle.scenario.specs.Playing.{IsPlaying, HasRun, HasPlayed}
+use Rattle.scenario.specs.inside.Playing.{HasParted, HasTurned, HasReported, HasRounded}
 
 -- What events leave of a plan, in two steps
 pub plan_through-append : (plan : Plan) (later before : List Deed) → plan_through plan (later ++ before) ≡ plan_through (plan_through plan before) later

@@ -13,7 +13,8 @@ use Rattle.script_words.specs.declared.letter.Letter.{Letter}
 use Rattle.script_words.specs.Words.{letter_byte}
 use Rattle.scenario.specs.Deeds.{Deed, history_of, after}
 use Rattle.scenario.specs.Turns.{reports_of, has_bytes}
-use Rattle.scenario.specs.Playing.{IsPlaying, HasReported}
+use Rattle.scenario.specs.Playing.{IsPlaying}
+use Rattle.scenario.specs.inside.Playing.{HasReported}
 use Rattle.scenario.proofs.Endings.{lowest}
 use Rattle.scenario.proofs.GenerationLines.{reported}
 use Rattle.scenario.proofs.Knowing.{actors_told, pipework_told, unreported_same}

@@ -21,3 +21,5 @@ pub mod Played
 pub mod Text
 -- a world in which a script is played
 pub mod Playing
+-- definitions that only proofs and private code need
+pub mod inside

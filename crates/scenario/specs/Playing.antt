@@ -1,23 +1,15 @@
 -- A world in which a script is played.
-use Rattle.std.specs.Prelude.{◌≡◌, ◌≢◌, ◌⊎◌, ℕ, List, [], ◌∷◌, ◌++◌, Bool, true, false, ◌||◌, ◌&&◌, Option, Some, None, bytes_eq, codes, reverse}
+use Rattle.std.specs.Prelude.{◌≡◌, ℕ, List, ◌∷◌, ◌++◌, Bool, true, false, Some, reverse}
 use Rattle.std.specs.List.{AllByRecursion, AllZip}
-use Rattle.call_fs.specs.declared.calls.Answer.{Answer}
-use Rattle.call_fs.specs.declared.past.GotData.{GotData}
-use Rattle.call_fs.specs.declared.past.GotData.TheVariants.{Answered}
-use Rattle.call_fs.specs.declared.calls.Answer.TheVariants.{Refused}
-use Rattle.call_fs.specs.declared.calls.FsError.TheVariants.{Memory}
 use Rattle.call_fs.specs.Disk.{Disk}
 use Rattle.crash_fs.specs.Crash.{Crash, crash_disk, crash_plan}
 use Rattle.call_fs.specs.Plan.{Plan}
 use Rattle.mail_world.specs.declared.error.WorldError.{WorldError}
 use Rattle.mail_world.specs.declared.error.WorldError.TheVariants as error
-use Rattle.world_events.specs.declared.event.Event.{Event as Kept}
-use Rattle.world_events.specs.declared.event.Event.TheVariants as kept
 use Rattle.mail_world.specs.History.{IsLiving}
 use Rattle.mail_world.specs.Wired.{AreWholeGivings}
 use Rattle.mail_world.specs.World.{Seen, IsHistory}
 use Rattle.script_lines.specs.declared.line.Line.{Line}
-use Rattle.script_words.specs.declared.letter.Letter.{Letter}
 use Rattle.scenario.specs.declared.stepping.Stepped.{Stepped}
 use Rattle.scenario.specs.declared.stepping.Stepped.TheVariants as how
 use Rattle.scenario.specs.Deeds.{Deed, TellsDeed, event_in, history_of, after}
@@ -26,31 +18,6 @@ use Rattle.scenario.specs.Played.{Plays, plan_after}
 use Rattle.scenario.specs.Steps.{Refusal, IsRefusalOf, StepsTo, plan_by, plan_through, idles, has_idled, IsRunOf}
 use Rattle.scenario.specs.Steps.Outcome.{Happens, Is}
 use Rattle.scenario.specs.Steps.Refusal.{Gone}
-use Rattle.scenario.specs.Traced.{traced_text}
-use Rattle.scenario.specs.Turns.{Part, IsTurnOf, events_of, text_of, AreReported, reports_of, Round, IsRound, round_events, has_bytes, is_idle, is_search_call}
-
--- an answer that there was no memory for the call
-abbrev pub is_memory : Answer → Bool
-is_memory (Refused Memory) = true
-is_memory other = false
-
--- what came of an event is that there was no memory for its call
-abbrev pub is_memory_of : GotData → Bool
-is_memory_of (Answered told) = is_memory told.answer
-is_memory_of other = false
-
--- an event is a call that found no memory
-abbrev pub lacked_memory : Kept → Bool
-lacked_memory (kept.Start a program) = false
-lacked_memory (kept.Act a own) = is_memory_of own.came
-lacked_memory (kept.Child a own c program) = is_memory_of own.came
-lacked_memory (kept.Feed a own c message envelope) = is_memory_of own.came
-lacked_memory (kept.End a read ready status) = false
-lacked_memory (kept.Stop a) = false
-lacked_memory (kept.Generation start) = false
-lacked_memory (kept.Report slot letter text) = false
-lacked_memory (kept.Moment m) = false
-lacked_memory (kept.Halt how) = false
 
 -- The world began with this disk, this happened in it, of which it kept each deed, and its disk tells this plan. No giving failed, no
 -- injector and no delivery has a member's name, and no delivery is given its input at once.
@@ -61,12 +28,6 @@ pub record IsPlaying (d : Disk) (w : Seen Crash) (plan : Plan) (h : List Deed) :
   pub whole : AreWholeGivings (reverse w.events)
   pub starts : AreNamedStarts (history_of h)
   pub fed : AllByRecursion IsFedSo (reverse w.events)
-
--- what a step of the world did, as what it left of its actor
-abbrev pub stepped_by : Option ℕ → Bool → Stepped
-stepped_by (Some status) idle = how.Over
-stepped_by None true = how.Idle
-stepped_by None false = how.On
 
 -- whether an actor is over after a step, and whether an idle turn has just ended
 abbrev pub IsLeftBy : Stepped → Disk → Plan → List ℕ → Deed → List Deed → Type 0
@@ -80,11 +41,6 @@ pub record HasStepped (d : Disk) (new : Seen Crash) (a : List ℕ) (left : Stepp
   pub steps : StepsTo d h plan a (Happens deed)
   pub playing : IsPlaying d new (plan_by (event_in deed) plan) (deed ∷ h)
   pub over : IsLeftBy left d (plan_by (event_in deed) plan) a deed h
-
--- the world refused since the actor waits
-abbrev pub is_waiting : WorldError → Bool
-is_waiting (error.NotWaiting name) = true
-is_waiting other = false
 
 -- a step was refused
 abbrev pub IsRefusedAs : WorldError → Disk → Plan → List ℕ → List Deed → Type 0
@@ -100,42 +56,6 @@ pub record HasRun (d : Disk) (new : Seen Crash) (a : List ℕ) (idle : Bool) (be
   pub playing : IsPlaying d new (plan_through plan events) (events ++ h)
   pub text : after_text ≡ before ++ own
 
--- so the run of a part of a turn; and whether the newest event of the turn ended an idle turn, if before it so was told
-pub record HasParted (d : Disk) (new : Seen Crash) (a : List ℕ) (was now : Bool) (before after_text : List ℕ) (plan : Plan) (h : List Deed) : Type 0 where
-  pub events : List Deed
-  pub own : List ℕ
-  pub run : IsRunOf d h plan a events own
-  pub idled : ((events ≡ []) × (now ≡ was)) ⊎ ((events ≢ []) × (now ≡ has_idled d h events))
-  pub playing : IsPlaying d new (plan_through plan events) (events ++ h)
-  pub text : after_text ≡ before ++ own
-
--- so a turn; and whether its newest event ended an idle turn of a sender
-pub record HasTurned (d : Disk) (new : Seen Crash) (idle : Bool) (before after_text : List ℕ) (plan : Plan) (h : List Deed) : Type 0 where
-  pub parts : List Part
-  pub turn : IsTurnOf d h plan parts
-  pub idled : idle ≡ has_idled d h (events_of parts)
-  pub playing : IsPlaying d new (plan_through plan (events_of parts)) (events_of parts ++ h)
-  pub text : after_text ≡ before ++ text_of parts
-
--- so the reports of a round
-pub record HasReported (d : Disk) (new : Seen Crash) (letter : Letter) (plan : Plan) (h : List Deed) : Type 0 where
-  pub slots : List ℕ
-  pub reported : AreReported d h letter slots
-  pub playing : IsPlaying d new plan (reports_of letter slots ++ h)
-
--- so a round; and whether it is the last one
-pub record HasRounded (d : Disk) (new : Seen Crash) (letter : Letter) (last : Bool) (before after_text : List ℕ) (plan : Plan) (h : List Deed) : Type 0 where
-  pub round : Round
-  pub is : IsRound d h plan letter round
-  pub is_last : last ≡ (has_bytes (text_of round.parts) || is_idle d h letter round)
-  pub playing : IsPlaying d new (plan_through plan (round_events letter round)) (round_events letter round ++ h)
-  pub text : after_text ≡ before ++ text_of round.parts
-
--- a kept event is a search of the sender for a message to preprocess
-abbrev pub is_search_kept : Kept → Bool
-is_search_kept (kept.Act a own) = bytes_eq a (codes "sender") && is_search_call own.due
-is_search_kept other = false
-
 -- what a line added to the history, and to the text
 pub record HasPlayed (d : Disk) (new : Seen Crash) (line : Line) (before after : List ℕ) (plan : Plan) (h : List Deed) : Type 0 where
   pub events : List Deed
@@ -143,9 +63,3 @@ pub record HasPlayed (d : Disk) (new : Seen Crash) (line : Line) (before after :
   pub plays : Plays d h plan line events own
   pub playing : IsPlaying d new (plan_after plan line events own) (events ++ h)
   pub text : after ≡ before ++ own
-
--- what is printed of a line that was played: if events are traced, first those that it added
-pub record HasPrinted (d : Disk) (new : Seen Crash) (traced : Bool) (line : Line) (text : List ℕ) (plan : Plan) (h : List Deed) : Type 0 where
-  pub own : List ℕ
-  pub played : HasPlayed d new line [] own plan h
-  pub text_is : text ≡ traced_text traced played.events ++ own

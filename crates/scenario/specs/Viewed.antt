@@ -1,26 +1,9 @@
 -- What is read of a world for `show`.
-use Rattle.std.specs.Prelude.{◌≡◌, ℕ, List}
-use Rattle.call_fs.specs.Disk.{Disk}
 use Rattle.crash_fs.specs.Crash.{crash_disk}
-use Rattle.script_disks.specs.Controls.{controls_on}
-use Rattle.mail_world.specs.History.{Event, after}
 use Rattle.queue_law.specs.Books.{Books}
-use Rattle.world_events.specs.declared.books.Entry.{Entry}
 use Rattle.scenario.specs.declared.overview.Overview.{Overview}
-use Rattle.scenario.specs.declared.showing.Given.{Given}
-use Rattle.scenario.specs.Fates.{AreFates}
-use Rattle.scenario.specs.Shown.{View, entry_lines}
+use Rattle.scenario.specs.Shown.{View}
 
 -- what the disk and the control files say, with these books
 abbrev pub view_at : Overview → Books → View
 view_at o books = record { disk = crash_disk o.disk.now; controls = o.controls.now; books = books }
-
--- the lines of a mail by its entry in the books, and by what its injector was given
-abbrev pub given_lines : View → Entry × Given → List ℕ
-given_lines v mail = entry_lines v mail.0 mail.1.envelope.now
-
--- it was read of a world in which this happened, since it began with this disk
-pub record IsOf (o : Overview) (d : Disk) (h : List Event) : Type 0 where
-  pub disk : crash_disk o.disk.now ≡ (after d h).disk
-  pub controls : o.controls.now ≡ controls_on (after d h).disk
-  pub fates : AreFates o.fates.now (after d h).books

@@ -13,12 +13,13 @@ ghost use Rattle.queue_inject.specs.declared.injection.Arguments.{Arguments};
 ghost use Rattle.world_events.specs.declared.event.Program.TheVariants.{Injector};
 ghost use Rattle.mail_world.specs.History.{Event as Happening, State, Allowed, acted, after, books_after, happens};
 ghost use Rattle.mail_world.specs.World.{IsHistory};
-ghost use Rattle.scenario.specs.Fates.{AreFates, AreNamedStarts, AreNamed, IsNamedStart, Follows, HasDone, HasDue, TellsRead, entered_of, heard_by, is_delivery_name, spot_of};
+ghost use Rattle.scenario.specs.Fates.{AreFates, AreNamedStarts, IsNamedStart, is_delivery_name, spot_of};
+ghost use Rattle.scenario.specs.inside.Fates.{AreNamed, Follows, HasDone, HasDue, TellsRead, entered_of, heard_by};
 ghost use Rattle.scenario.specs.Shown.{lasts, is_channel, is_delivered, is_entered_so, is_spot};
 
-use actor_names::{ActorName, is_member};
+use actor_names::{ActorName, Member, is_member};
 use call_fs::{NeedData, Own, Port};
-use mail_bytes::Memory;
+use mail_bytes::{LAST_MOMENT, Memory};
 use mail_world::Event;
 use send_core::Sender;
 use send_jobs::{Channel, Mark, Marks};
@@ -26,9 +27,6 @@ use std::alloc::Global;
 use std::collections::BTreeMap;
 use std::mem::replace;
 use world_events::{got_of, number_by};
-
-/// The last moment that a clock tells.
-const LAST_MOMENT: u64 = 250_000_000_000;
 
 /// Where the record of a recipient is.
 #[derive(Clone, Copy, Debug)]
@@ -239,7 +237,7 @@ impl Following {
             → Follows self.old s → Follows self.new (acted s actor.now own.now wrote (s.actors actor.now))) }
     {
         let name = actor.as_slice();
-        if name == b"sender".as_slice() {
+        if name == Member::Sender.name() {
             self.hear(alloc, own)
         } else if is_member(name) || is_delivery(name) {
             Ok(())

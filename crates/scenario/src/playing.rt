@@ -11,7 +11,8 @@ ghost use Rattle.script_lines.specs.declared.keyword.OfCount.TheVariants as OfCo
 ghost use Rattle.script_lines.specs.declared.keyword.OfMoment.TheVariants as OfMomentOf;
 ghost use Rattle.script_lines.specs.declared.keyword.OfSurvival.TheVariants as OfSurvivalOf;
 ghost use Rattle.scenario.specs.Played.{Refusal, refusal_line};
-ghost use Rattle.scenario.specs.Playing.{IsPlaying, HasPlayed, HasPrinted};
+ghost use Rattle.scenario.specs.Playing.{IsPlaying, HasPlayed};
+ghost use Rattle.scenario.specs.inside.Playing.{HasPrinted};
 ghost use Rattle.scenario.specs.Text.{IsPlayed, IsBegun};
 
 use crate::generating::{begin, report};

@@ -9,9 +9,11 @@ ghost use Rattle.call_fs.specs.Plan.{Plan};
 ghost use Rattle.scenario.specs.Playing.{IsPlaying};
 ghost use Rattle.queue_law.specs.Books.{Books};
 ghost use Rattle.world_events.specs.Programs.{injection_of};
-ghost use Rattle.scenario.specs.Fates.{AreFates, IsUsed, given_to, received_by, receiver, receivers_in};
+ghost use Rattle.scenario.specs.Fates.{AreFates, IsUsed};
+ghost use Rattle.scenario.specs.inside.Fates.{given_to, received_by, receiver, receivers_in};
 ghost use Rattle.scenario.specs.Shown.{IsShown, all_mail_lines, number_line};
-ghost use Rattle.scenario.specs.Viewed.{IsOf, given_lines, view_at};
+ghost use Rattle.scenario.specs.Viewed.{view_at};
+ghost use Rattle.scenario.specs.inside.Viewed.{IsOf, given_lines};
 ghost use Rattle.scenario.specs.Played.{cat_line};
 
 use crate::fates::Fates;

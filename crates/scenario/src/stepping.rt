@@ -5,7 +5,8 @@ ghost use Rattle.call_fs.specs.Plan.{Plan};
 ghost use Rattle.world_events.specs.declared.event.Event.{Event as Kept};
 ghost use Rattle.scenario.specs.Deeds.{Deed};
 ghost use Rattle.mail_world.specs.Kept.{events_of};
-ghost use Rattle.scenario.specs.Playing.{IsPlaying, HasStepped, HasRun, IsRefusedAs, is_memory_of, is_waiting, lacked_memory, stepped_by};
+ghost use Rattle.scenario.specs.Playing.{IsPlaying, HasStepped, HasRun, IsRefusedAs};
+ghost use Rattle.scenario.specs.inside.Playing.{is_memory_of, is_waiting, lacked_memory, stepped_by};
 
 use crate::refusing::{put_refusal, refuse};
 use call_fs::{Answer, FsError, GotData};

@@ -8,11 +8,13 @@ ghost use Rattle.scenario.specs.Deeds.{Deed};
 ghost use Rattle.script_lines.specs.declared.line.Line.TheVariants as LineOf;
 ghost use Rattle.script_lines.specs.declared.keyword.Alone.TheVariants as AloneOf;
 ghost use Rattle.script_lines.specs.declared.keyword.OfLetter.TheVariants as OfLetterOf;
-ghost use Rattle.scenario.specs.Playing.{IsPlaying, HasPlayed, HasTurned, HasParted, HasRounded, HasReported, is_search_kept};
+ghost use Rattle.scenario.specs.Playing.{IsPlaying, HasPlayed};
+ghost use Rattle.scenario.specs.inside.Playing.{HasTurned, HasParted, HasRounded, HasReported, is_search_kept};
 ghost use Rattle.scenario.specs.Turns.{counted, is_search_call, NoneBefore};
 
 use crate::refusing::put_refusal;
 use crate::stepping::run;
+use actor_names::Member;
 use call_fs::{CallData, NeedData};
 use crash_fs::CrashDisk;
 use mail_bytes::Memory;
@@ -192,7 +194,7 @@ fn is_search(event: &Event) -> bool
 {
     match event {
         Event::Act { actor, own } => {
-            actor.as_slice() == b"sender".as_slice() && is_search_call(&own.due)
+            actor.as_slice() == Member::Sender.name() && is_search_call(&own.due)
         }
         _ => false,
     }

@@ -11,9 +11,10 @@ use Rattle.script_words.specs.declared.error.WordError.TheVariants.{Malformed}
 use Rattle.script_words.specs.Entries.{IsEntryLine, Agree, AllAgree}
 use Rattle.script_words.proofs.EntryTexts.{one_entry}
 use Rattle.script_lines.specs.declared.line.Line.{Line}
-use Rattle.script_lines.specs.Contents.{Content, with_entry, with_line}
+use Rattle.script_lines.specs.Contents.{Content}
+use Rattle.script_lines.specs.inside.Contents.{with_entry, with_line}
 use Rattle.script_lines.specs.Lines.{IsLine, IsShort, is_remark, kept_texts, AreContent}
-use Rattle.script_lines.specs.Reading.{MayFollow, IsTextRead}
+use Rattle.script_lines.specs.inside.Reading.{MayFollow, IsTextRead}
 use Rattle.script_lines.proofs.Divisions.{HasLast, empty_or_last, no_push, same_push, zip_push, zip_pop, zip_none, zip_of_none}
 use Rattle.script_lines.proofs.LineHeads.{no_entry_line}
 use Rattle.script_lines.proofs.OneLine.{one_zip}

@@ -16,7 +16,8 @@ use Rattle.script_lines.specs.declared.keyword.OfMoment.TheVariants as of_moment
 use Rattle.script_lines.specs.declared.keyword.OfSurvival.TheVariants as of_survival
 use Rattle.script_lines.specs.declared.keyword.OfWord.TheVariants as of_word
 use Rattle.script_lines.specs.declared.keyword.OfLetter.TheVariants as of_letter
-use Rattle.script_lines.specs.Keywords.{keyword_text, keywords, keyword_texts}
+use Rattle.script_lines.specs.Keywords.{keyword_text}
+use Rattle.script_lines.specs.inside.Keywords.{keywords, keyword_texts}
 
 -- Each of the next two is computed for every word; the first of each kind tells the kinds apart.
 

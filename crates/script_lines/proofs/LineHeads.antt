@@ -14,9 +14,10 @@ use Rattle.script_lines.specs.declared.keyword.Keyword.{Keyword}
 use Rattle.script_lines.specs.declared.keyword.Keyword.TheVariants as keyword
 use Rattle.script_lines.specs.declared.line.Line.{Line}
 use Rattle.script_lines.specs.declared.line.Line.TheVariants.{Mail, Alone, Actor, Count, Moment, Survival, Word, Letter, Report}
-use Rattle.script_lines.specs.Keywords.{keyword_text, keywords, keyword_texts}
+use Rattle.script_lines.specs.Keywords.{keyword_text}
+use Rattle.script_lines.specs.inside.Keywords.{keywords, keyword_texts}
 use Rattle.script_lines.specs.Lines.{IsLine, IsReportLine}
-use Rattle.script_lines.specs.Reading.{CanFollow}
+use Rattle.script_lines.specs.inside.Reading.{CanFollow}
 use Rattle.script_lines.proofs.Keywords.{keyword_lacks, one_keyword, is_listed, row_in, no_row}
 use Rattle.script_lines.proofs.MailLines.{has_mail, has_raw}
 

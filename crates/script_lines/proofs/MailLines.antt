@@ -14,7 +14,7 @@ use Rattle.script_words.proofs.Envelopes.{has-body, body-ends}
 use Rattle.actor_names.specs.MailNames.{IsLetterOrDigit, IsMailName}
 use Rattle.script_lines.specs.declared.line.Line.TheVariants.{Mail}
 use Rattle.script_lines.specs.Lines.{IsMailLine, IsRawLine, IsLine}
-use Rattle.script_lines.specs.Reading.{HasMail}
+use Rattle.script_lines.specs.inside.Reading.{HasMail}
 
 -- no name of a mail has a space
 pub name_lacks : (name : List ℕ) → IsMailName name → ¬ (Contains name 32)

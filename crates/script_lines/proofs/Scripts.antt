@@ -8,7 +8,7 @@ use Rattle.std.proofs.lemmas.List.Elements.{All-push, All-head, All-tail}
 use Rattle.std.proofs.lemmas.Grind.{flat_map-append}
 use Rattle.script_lines.specs.Contents.{Content}
 use Rattle.script_lines.specs.Lines.{is_remark, AreContent, IsScript, IsRefused, HasBadLine, IsUnbroken, completed, ended}
-use Rattle.script_lines.specs.Reading.{IsFirstLine, IsTextRead}
+use Rattle.script_lines.specs.inside.Reading.{IsFirstLine, IsTextRead}
 use Rattle.script_words.specs.Reading.{IsCut}
 use Rattle.script_words.proofs.Cuts.{contains-head, contains-tail, not-cut, same-cut}
 use Rattle.script_lines.proofs.ContentTexts.{one_more_read, last_read, front_read, one_content}

@@ -1,5 +1,5 @@
 -- What a script says: what its disk holds at its beginning, and its lines.
-use Rattle.std.specs.Prelude.{List, [], ◌∷◌, ◌++◌, All}
+use Rattle.std.specs.Prelude.{List, All}
 use Rattle.script_words.specs.declared.entry.Entry.{Entry}
 use Rattle.script_words.specs.Entries.{IsEntryPath, path_of}
 use Rattle.script_lines.specs.declared.line.Line.{Line}
@@ -8,17 +8,6 @@ use Rattle.script_lines.specs.declared.line.Line.{Line}
 pub record Content : Type 0 where
   pub opening : List Entry
   pub lines : List Line
-
--- neither
-abbrev pub nothing : Content
-nothing = record { opening = []; lines = [] }
-
--- one entry more, and one line more
-abbrev pub with_entry : Content → Entry → Content
-with_entry c entry = record { opening = c.opening ++ entry ∷ []; lines = c.lines }
-
-abbrev pub with_line : Content → Line → Content
-with_line c line = record { opening = c.opening; lines = c.lines ++ line ∷ [] }
 
 -- each entry lies below control, users, home or pid
 abbrev pub HaveEntryPaths : List Entry → Type 0

@@ -1,7 +1,6 @@
 -- The words that lines begin with, by the kind of what follows each.
-use Rattle.std.specs.Prelude.{List, [], ◌∷◌, ℕ, map, codes}
+use Rattle.std.specs.Prelude.{List, ℕ, codes}
 use Rattle.script_words.specs.Reading.{form_text}
-use Rattle.script_words.specs.declared.envelope.Form.TheVariants.{Written, Raw}
 use Rattle.script_lines.specs.declared.keyword.Keyword.{Keyword}
 use Rattle.script_lines.specs.declared.keyword.Keyword.TheVariants.{Mail, Alone, Actor, Count, Moment, Survival, Word, Letter, Report}
 use Rattle.script_lines.specs.declared.keyword.Alone.TheVariants as alone
@@ -29,20 +28,3 @@ keyword_text (Survival of_survival.Halt) = codes "halt"
 keyword_text (Word of_word.Cat) = codes "cat"
 keyword_text (Letter of_letter.Settle) = codes "settle"
 keyword_text Report = codes "report"
-
--- all of them, a row for each kind
-abbrev pub keywords : List Keyword
-keywords =
-    Mail Written ∷ Mail Raw
-    ∷ Alone alone.Trace ∷ Alone alone.Show ∷ Alone alone.Sender ∷ Alone alone.Turn
-    ∷ Actor of_actor.Step ∷ Actor of_actor.Run ∷ Actor of_actor.Stop
-    ∷ Count of_count.Fault ∷ Count of_count.Number
-    ∷ Moment of_moment.Moment
-    ∷ Survival of_survival.Halt
-    ∷ Word of_word.Cat
-    ∷ Letter of_letter.Settle
-    ∷ Report
-    ∷ []
-
-abbrev pub keyword_texts : List (List ℕ)
-keyword_texts = map keyword_text keywords

@@ -4,5 +4,5 @@ pub mod Keywords
 pub mod Contents
 -- which bytes are a script
 pub mod Lines
--- the parts of a line, as they are read
-pub mod Reading
+-- definitions that only proofs and private code need
+pub mod inside

@@ -1,6 +1,7 @@
 // The words that a line begins with: a row for each, by the kind of what follows it.
 ghost use Rattle.std.specs.Prelude.{◌≡◌, IfSome, IfNone, Contains};
-ghost use Rattle.script_lines.specs.Keywords.{keyword_text, keyword_texts};
+ghost use Rattle.script_lines.specs.Keywords.{keyword_text};
+ghost use Rattle.script_lines.specs.inside.Keywords.{keyword_texts};
 
 use script_words::Form;
 

@@ -5,10 +5,11 @@ ghost use Rattle.script_words.specs.Reading.{form_text};
 ghost use Rattle.actor_names.specs.MailNames.{IsMailName};
 ghost use Rattle.script_lines.specs.declared.line.Line.{Line};
 ghost use Rattle.script_lines.specs.declared.keyword.Keyword.TheVariants as KeywordOf;
-ghost use Rattle.script_lines.specs.Contents.{Content, with_entry};
+ghost use Rattle.script_lines.specs.Contents.{Content};
+ghost use Rattle.script_lines.specs.inside.Contents.{with_entry};
 ghost use Rattle.script_lines.specs.Lines.{IsActorName, IsChildName, child_kinds, is_remark, IsLine, IsScript, IsScriptFault};
 ghost use Rattle.script_lines.specs.Keywords.{keyword_text};
-ghost use Rattle.script_lines.specs.Reading.{HasMail, CanFollow, IsFirstLine, MayFollow, IsTextRead};
+ghost use Rattle.script_lines.specs.inside.Reading.{HasMail, CanFollow, IsFirstLine, MayFollow, IsTextRead};
 
 use crate::keyword::{Keyword, keyword_of};
 use crate::{Line, Script, ScriptError};

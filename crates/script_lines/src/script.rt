@@ -1,7 +1,8 @@
 // A script.
 ghost use Rattle.std.specs.Prelude.{◌≡◌, ◌<◌, ◌^◌, length, OnOk};
 ghost use Rattle.script_words.specs.Entries.{IsEntryPath, path_of};
-ghost use Rattle.script_lines.specs.Contents.{HaveEntryPaths, nothing, with_entry, with_line};
+ghost use Rattle.script_lines.specs.Contents.{HaveEntryPaths};
+ghost use Rattle.script_lines.specs.inside.Contents.{nothing, with_entry, with_line};
 
 use crate::Line;
 use mail_bytes::Memory;

@@ -6,7 +6,7 @@ ghost use Rattle.script_traces.specs.Events.{survival_word, start_line, report_l
 
 use crate::acting::put_act;
 use crate::printing::put_number;
-use actor_names::ActorName;
+use actor_names::{ActorName, Member};
 use call_fs::Survival;
 use mail_bytes::Memory;
 use queue_states::put_line;
@@ -43,17 +43,18 @@ fn put_start(text: &mut Vec<u8>, actor: &ActorName) -> Result<(), Memory>
 fn put_generation(text: &mut Vec<u8>) -> Result<(), Memory>
     ensures { OnOk result (text.new.items ≡ text.old.items ++ flat_map start_line members) }
 {
-    put_line(text, b"sender", b"start")?;
-    put_line(text, b"clean", b"start")?;
-    put_line(text, b"lspawn", b"start")?;
-    put_line(text, b"rspawn", b"start")
+    put_line(text, Member::Sender.name(), b"start")?;
+    put_line(text, Member::Cleaner.name(), b"start")?;
+    put_line(text, Member::LocalSpawner.name(), b"start")?;
+    put_line(text, Member::RemoteSpawner.name(), b"start")
 }
 
 /// Puts the line of a report at the end of a text.
 fn put_report(text: &mut Vec<u8>, slot: u8, letter: u8) -> Result<(), Memory>
     ensures { OnOk result (text.new.items ≡ text.old.items ++ report_line slot letter) }
 {
-    text.extend_from_slice(b"rspawn ")?;
+    text.extend_from_slice(Member::RemoteSpawner.name())?;
+    text.push(b' ')?;
     put_reported(text, slot, letter)?;
     text.extend_from_slice(b"\n")
 }

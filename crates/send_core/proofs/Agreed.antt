@@ -9,7 +9,7 @@ use Rattle.send_core.specs.declared.row.MarkRow.TheVariants as mark
 use Rattle.send_core.specs.declared.row.Marked.{Marked}
 use Rattle.send_core.specs.declared.row.Row.{Row}
 use Rattle.send_core.specs.declared.row.Row.TheVariants as at
-use Rattle.send_core.specs.Table.{Next, desk_after}
+use Rattle.send_core.specs.Table.{Next, place_after}
 use Rattle.send_jobs.specs.declared.attempts.Mark.{Mark}
 use Rattle.send_jobs.specs.declared.channels.Channel.{Channel}
 use Rattle.send_jobs.specs.declared.channels.Channel.TheVariants.{Local, Remote}
@@ -88,5 +88,5 @@ of_each Remote past at_work l h = h
 
 pub lanes_agree : (turns : Option ℕ) (past : List Own) → IsRunBy (Next turns) past → LanesAgree turns past
 lanes_agree turns past run c alive =
-    let d : Desk = desk_after turns past in
+    let d : Desk = place_after turns past in
     of_each c past (is_opened d.row c) (lane c d.slots) (by_row (Was past) (work past) (account Local past) (account Remote past) c d.row d alive (keeps turns past run).0)

@@ -4,7 +4,7 @@ use Rattle.std.specs.Prelude.{min, slice_get}
 use Rattle.bounce_record.specs.declared.note_row.NoteRow.{NoteRow}
 use Rattle.bounce_record.specs.declared.note_row.NoteRow.TheVariants as written
 use Rattle.bounce_record.specs.Runs.{IsWriting, begun, written_after}
-use Rattle.bounce_record.specs.Writing.{Writing, bounce_path, due_of_writing, piece_size, writing_due_at, written_on, written_row}
+use Rattle.bounce_record.specs.Writing.{Writing, bounce_path, due_by as note_due, piece_size, due_at as note_due_at, moved as note_moved, written_row}
 use Rattle.call_fs.specs.declared.calls.Answer.{Answer}
 use Rattle.call_fs.specs.declared.calls.Answer.TheVariants as answer
 use Rattle.call_fs.specs.declared.calls.FsError.TheVariants as why
@@ -23,7 +23,7 @@ use Rattle.send_core.specs.declared.row.Row.TheVariants as at
 use Rattle.send_core.specs.Laws.{ComesNext, IsUnderWay, NotesReports, note_by}
 use Rattle.send_core.specs.Past.{Owed, account, work}
 use Rattle.send_core.specs.Senders.{IsSaid}
-use Rattle.send_core.specs.Table.{Next, act, arrive, desk_after, due_at, row_now}
+use Rattle.send_core.specs.Table.{Next, act, arrive, place_after, due_at, row_now}
 use Rattle.send_core.specs.Turn.{note_of, noted_at}
 use Rattle.send_core.specs.Agrees.{owed_at}
 use Rattle.send_core.proofs.Coming.{by_file}
@@ -127,20 +127,20 @@ on_row (written.Shut fd) text told bytes = tt
 on_row written.Written text told bytes = tt
 on_row written.Failed text told bytes = tt
 
-on_after : (r : NoteRow) (w : Writing) (got : GotData) → w.row ≡ r → MayCome (writing_due_at r w) got → IsOn (written_on w got).row
-on_after written.Open w got e may = by_file (writing_due_at written.Open w) tt (λ (g : GotData). IsOn (written_on w g).row) got may (λ told fit. on_row w.row w.text told.answer told.bytes)
-on_after written.Create w got e may = by_file (writing_due_at written.Create w) tt (λ (g : GotData). IsOn (written_on w g).row) got may (λ told fit. on_row w.row w.text told.answer told.bytes)
-on_after (written.Stat fd) w got e may = by_file (writing_due_at (written.Stat fd) w) tt (λ (g : GotData). IsOn (written_on w g).row) got may (λ told fit. on_row w.row w.text told.answer told.bytes)
-on_after (written.Read fd place len) w got e may = by_file (writing_due_at (written.Read fd place len) w) tt (λ (g : GotData). IsOn (written_on w g).row) got may (λ told fit. on_row w.row w.text told.answer told.bytes)
-on_after (written.Append fd done) w got e may = by_file (writing_due_at (written.Append fd done) w) tt (λ (g : GotData). IsOn (written_on w g).row) got may (λ told fit. on_row w.row w.text told.answer told.bytes)
-on_after (written.Sync fd) w got e may = by_file (writing_due_at (written.Sync fd) w) tt (λ (g : GotData). IsOn (written_on w g).row) got may (λ told fit. on_row w.row w.text told.answer told.bytes)
-on_after (written.Close fd) w got e may = by_file (writing_due_at (written.Close fd) w) tt (λ (g : GotData). IsOn (written_on w g).row) got may (λ told fit. on_row w.row w.text told.answer told.bytes)
-on_after (written.Shut fd) w got e may = by_file (writing_due_at (written.Shut fd) w) tt (λ (g : GotData). IsOn (written_on w g).row) got may (λ told fit. on_row w.row w.text told.answer told.bytes)
+on_after : (r : NoteRow) (w : Writing) (got : GotData) → w.row ≡ r → MayCome (note_due_at r w) got → IsOn (note_moved w got).row
+on_after written.Open w got e may = by_file (note_due_at written.Open w) tt (λ (g : GotData). IsOn (note_moved w g).row) got may (λ told fit. on_row w.row w.text told.answer told.bytes)
+on_after written.Create w got e may = by_file (note_due_at written.Create w) tt (λ (g : GotData). IsOn (note_moved w g).row) got may (λ told fit. on_row w.row w.text told.answer told.bytes)
+on_after (written.Stat fd) w got e may = by_file (note_due_at (written.Stat fd) w) tt (λ (g : GotData). IsOn (note_moved w g).row) got may (λ told fit. on_row w.row w.text told.answer told.bytes)
+on_after (written.Read fd place len) w got e may = by_file (note_due_at (written.Read fd place len) w) tt (λ (g : GotData). IsOn (note_moved w g).row) got may (λ told fit. on_row w.row w.text told.answer told.bytes)
+on_after (written.Append fd done) w got e may = by_file (note_due_at (written.Append fd done) w) tt (λ (g : GotData). IsOn (note_moved w g).row) got may (λ told fit. on_row w.row w.text told.answer told.bytes)
+on_after (written.Sync fd) w got e may = by_file (note_due_at (written.Sync fd) w) tt (λ (g : GotData). IsOn (note_moved w g).row) got may (λ told fit. on_row w.row w.text told.answer told.bytes)
+on_after (written.Close fd) w got e may = by_file (note_due_at (written.Close fd) w) tt (λ (g : GotData). IsOn (note_moved w g).row) got may (λ told fit. on_row w.row w.text told.answer told.bytes)
+on_after (written.Shut fd) w got e may = by_file (note_due_at (written.Shut fd) w) tt (λ (g : GotData). IsOn (note_moved w g).row) got may (λ told fit. on_row w.row w.text told.answer told.bytes)
 on_after written.Written w got e may = absurd may
 on_after written.Failed w got e may = absurd may
 
 -- at which something is due, it is under way
-is_under : (r : NoteRow) (w : Writing) (got : GotData) → IsOn r → MayCome (writing_due_at r w) got → IsUnderWay r
+is_under : (r : NoteRow) (w : Writing) (got : GotData) → IsOn r → MayCome (note_due_at r w) got → IsUnderWay r
 is_under written.Open w got is may = absurd is
 is_under written.Create w got is may = tt
 is_under (written.Stat fd) w got is may = tt
@@ -171,11 +171,11 @@ module _ (turns : Option ℕ) (before : List Own) (it : Owed) (f : Failure) (not
   first = begun (note_by before it.task f)
 
   -- it begins with the open of its bounce file
-  begins : (event : Own) → IsRunBy (Next turns) (event ∷ before) → due_of_writing first ≡ event.due → IsUnderWay (written_on first event.came).row
-      → AtNote (desk_after turns (event ∷ before)) (written_on first event.came)
+  begins : (event : Own) → IsRunBy (Next turns) (event ∷ before) → note_due first ≡ event.due → IsUnderWay (note_moved first event.came).row
+      → AtNote (place_after turns (event ∷ before)) (note_moved first event.came)
   begins event run due under = record { marked = m; row = row_is; note = note_is } where
     d : Desk
-    d = desk_after turns before
+    d = place_after turns before
 
     row : Row
     row = row_now d event.read event.ready
@@ -209,34 +209,34 @@ module _ (turns : Option ℕ) (before : List Own) (it : Owed) (f : Failure) (not
         ∙ begun_so turns event before m it_is f d fit_note.1.0.2 (ap (λ (o : Owed). o.note) (sym same) ∙ note) (controls_at before row m d knows opens.1)
 
     w : Writing
-    w = written_on (note_of (slice_get (lane m.channel d.slots).marks 0) m.n d.book.controls) event.came
+    w = note_moved (note_of (slice_get (lane m.channel d.slots).marks 0) m.n d.book.controls) event.came
 
-    w_is : w ≡ written_on first event.came
-    w_is = ap (λ (o : Option Mark). written_on (note_of o m.n d.book.controls) event.came) there ∙ ap (λ (x : Writing). written_on x event.came) (sym text)
+    w_is : w ≡ note_moved first event.came
+    w_is = ap (λ (o : Option Mark). note_moved (note_of o m.n d.book.controls) event.came) there ∙ ap (λ (x : Writing). note_moved x event.came) (sym text)
 
     goes : ((noted_at w.row m (record d { note = w })).row ≡ at.Mark mark.Noting m) × ((noted_at w.row m (record d { note = w })).note ≡ w)
     goes = goes_on w.row m (record d { note = w }) (subst (λ (x : Writing). IsUnderWay x.row) (sym w_is) under)
 
-    row_is : (desk_after turns (event ∷ before)).row ≡ at.Mark mark.Noting m
+    row_is : (place_after turns (event ∷ before)).row ≡ at.Mark mark.Noting m
     row_is = ap (λ (r : Row). (act r event.read event.came d).row) opens.1 ∙ goes.0
 
-    note_is : (desk_after turns (event ∷ before)).note ≡ written_on first event.came
+    note_is : (place_after turns (event ∷ before)).note ≡ note_moved first event.came
     note_is = ap (λ (r : Row). (act r event.read event.came d).note) opens.1 ∙ goes.1 ∙ w_is
 
   -- and goes on with its steps
-  continues : (event : Own) (past : List Own) (w : Writing) → AtNote (desk_after turns past) w → IsUnderWay (written_on w event.came).row → AtNote (desk_after turns (event ∷ past)) (written_on w event.came)
+  continues : (event : Own) (past : List Own) (w : Writing) → AtNote (place_after turns past) w → IsUnderWay (note_moved w event.came).row → AtNote (place_after turns (event ∷ past)) (note_moved w event.came)
   continues event past w h under = record { marked = m; row = row_is; note = note_is } where
     d : Desk
-    d = desk_after turns past
+    d = place_after turns past
 
     m : Marked
     m = h.marked
 
     v : Writing
-    v = written_on d.note event.came
+    v = note_moved d.note event.came
 
-    v_is : v ≡ written_on w event.came
-    v_is = ap (λ (x : Writing). written_on x event.came) h.note
+    v_is : v ≡ note_moved w event.came
+    v_is = ap (λ (x : Writing). note_moved x event.came) h.note
 
     now_is : row_now d event.read event.ready ≡ at.Mark mark.Noting m
     now_is = ap (λ (r : Row). arrive r d event.read event.ready) h.row
@@ -244,35 +244,35 @@ module _ (turns : Option ℕ) (before : List Own) (it : Owed) (f : Failure) (not
     goes : ((noted_at v.row m (record d { note = v })).row ≡ at.Mark mark.Noting m) × ((noted_at v.row m (record d { note = v })).note ≡ v)
     goes = goes_on v.row m (record d { note = v }) (subst (λ (x : Writing). IsUnderWay x.row) (sym v_is) under)
 
-    row_is : (desk_after turns (event ∷ past)).row ≡ at.Mark mark.Noting m
+    row_is : (place_after turns (event ∷ past)).row ≡ at.Mark mark.Noting m
     row_is = ap (λ (r : Row). (act r event.read event.came d).row) now_is ∙ goes.0
 
-    note_is : (desk_after turns (event ∷ past)).note ≡ written_on w event.came
+    note_is : (place_after turns (event ∷ past)).note ≡ note_moved w event.came
     note_is = ap (λ (r : Row). (act r event.read event.came d).note) now_is ∙ goes.1 ∙ v_is
 
   at_note : (recent : List Own) → IsRunBy (Next turns) (recent ++ before) → IsWriting (note_by before it.task f) recent → IsUnderWay (written_after first recent).row
-      → AtNote (desk_after turns (recent ++ before)) (written_after first recent)
+      → AtNote (place_after turns (recent ++ before)) (written_after first recent)
   at_note [] run writing under = absurd under
   at_note (event ∷ []) run writing under = begins event run writing.1.0 under
   at_note (event ∷ (last ∷ rest)) run writing under =
       let was : Writing = written_after first (last ∷ rest) in
-      let may : MayCome (due_of_writing was) event.came = subst (λ (due : NeedData). MayCome due event.came) (sym writing.1.0) writing.1.1 in
+      let may : MayCome (note_due was) event.came = subst (λ (due : NeedData). MayCome due event.came) (sym writing.1.0) writing.1.1 in
       let x : Writing = written_after first rest in
-      let may_last : MayCome (due_of_writing x) last.came = subst (λ (due : NeedData). MayCome due last.came) (sym writing.0.1.0) writing.0.1.1 in
+      let may_last : MayCome (note_due x) last.came = subst (λ (due : NeedData). MayCome due last.came) (sym writing.0.1.0) writing.0.1.1 in
       continues event (last ∷ rest ++ before) was
       (at_note (last ∷ rest) run.0 writing.0 (is_under was.row was event.came (on_after x.row x last.came refl may_last) may)) under
 
-due_then : (turns : Option ℕ) (past : List Own) (now : ℕ) (ready : Ready) (w : Writing) → AtNote (desk_after turns past) w → Next turns past now ready ≡ due_of_writing w
+due_then : (turns : Option ℕ) (past : List Own) (now : ℕ) (ready : Ready) (w : Writing) → AtNote (place_after turns past) w → Next turns past now ready ≡ note_due w
 due_then turns past now ready w h =
-    let d : Desk = desk_after turns past in
-    ap (λ (r : Row). due_at (arrive r d now ready) d) h.row ∙ ap (λ (x : Writing). due_of_writing x) h.note
+    let d : Desk = place_after turns past in
+    ap (λ (r : Row). due_at (arrive r d now ready) d) h.row ∙ ap (λ (x : Writing). note_due x) h.note
 
 pub notes_reports : (turns : Option ℕ) (past : List Own) (now : ℕ) (ready : Ready) → IsRunBy (Next turns) past → NotesReports past (Next turns past now ready)
 notes_reports turns past now ready run = record {
   opens = λ name e. subst (Due past) e (due_is turns past now ready run);
   follows = λ it f w note h under.
       due_then turns past now ready w
-      (subst (λ (p : List Own). AtNote (desk_after turns p) w) (sym h.all)
-      (subst (λ (x : Writing). AtNote (desk_after turns (h.recent ++ h.before)) x) h.stands
+      (subst (λ (p : List Own). AtNote (place_after turns p) w) (sym h.all)
+      (subst (λ (x : Writing). AtNote (place_after turns (h.recent ++ h.before)) x) h.stands
       (at_note turns h.before it f note h.channel h.next h.recent (subst (IsRunBy (Next turns)) h.all run) h.run (subst (λ (x : Writing). IsUnderWay x.row) (sym h.stands) under))));
 }

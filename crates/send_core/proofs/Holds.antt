@@ -9,7 +9,7 @@ use Rattle.bounce_record.specs.declared.note_row.NoteRow.TheVariants as written
 use Rattle.bounce_record.specs.declared.return_row.ReturnRow.{ReturnRow}
 use Rattle.bounce_record.specs.declared.return_row.ReturnRow.TheVariants as back
 use Rattle.bounce_record.specs.Returning.{Returning, return_begun}
-use Rattle.bounce_record.specs.Writing.{Writing, parted_note, written_on}
+use Rattle.bounce_record.specs.Writing.{Writing, parted_note, moved as note_moved}
 use Rattle.bounce_record.proofs.HoldsNote.{HoldsNote, step as note_step, uses_row as uses_note}
 use Rattle.bounce_record.proofs.HoldsReturn.{HoldsReturn, step as return_step, uses_row as uses_return}
 use Rattle.call_fs.specs.declared.calls.Answer.{Answer}
@@ -59,7 +59,7 @@ use Rattle.send_parts.specs.Replies.{Said, said, answered}
 use Rattle.send_parts.specs.Steps.{control_text, dir_text, due_by}
 use Rattle.todo_pass.specs.declared.row.Row.{Row as PassRow}
 use Rattle.todo_pass.specs.declared.row.Row.TheVariants as todo
-use Rattle.todo_pass.specs.Table.{Pass, answer_row, due_of_pass, moved as pass_moved}
+use Rattle.todo_pass.specs.Table.{Pass, answer_row, due_by as pass_due, moved as pass_moved}
 use Rattle.call_fs.proofs.Coming.{by_fit}
 use Rattle.todo_pass.proofs.Holds.{HoldsRow, some_held, step as pass_step, uses_row}
 use Rattle.send_core.specs.declared.desk.Desk.{Desk}
@@ -85,7 +85,7 @@ use Rattle.send_parts.specs.Sweep.{sweep_to}
 use Rattle.send_parts.specs.Start.{act_start}
 use Rattle.send_core.specs.Turn.{begin_note, is_done, known_of, lost, note_of, noted_at, put_later, is_fine, file_read, mark_opened, mark_over, told_report, pass_opened, requested, todo_found, todo_named, todo_none, todo_on, todo_over, todo_went, took, unlinked}
 use Rattle.send_core.specs.Finish.{bounce_on, finish_at, forgot, returned_to, looked_up, put_off_to, sweep_at, sweep_begun}
-use Rattle.send_core.specs.Table.{Next, act, arrive, busy, file_of, search_words, begin_by, beginning, desk_after, due_at, finishing_by, from_point, from_local, from_remote, from_reports, from_take, from_begin, from_sweep, going_on, holds, link_of, marking_by, or_else, passing, row_now, sweeping, taking, marking, finishing}
+use Rattle.send_core.specs.Table.{Next, act, arrive, busy, file_of, search_words, begin_by, beginning, place_after, due_at, finishing_by, from_point, from_local, from_remote, from_reports, from_take, from_begin, from_sweep, going_on, holds, link_of, marking_by, or_else, passing, row_now, sweeping, taking, marking, finishing}
 use Rattle.send_core.proofs.HoldsRows.{HoldsReading, HoldsProgress, HoldsStart, Parts, parts, HoldsMark, HoldsFinish, HoldsAt, Holds, failed_holds, filed_holds, control_holds, info_holds, greeted_holds, greeted_too, scanned_holds, by_way_holds, remote_holds, start_holds}
 
 -- Where a row leads that holds nothing open
@@ -434,17 +434,17 @@ module _ (h : ℕ → Option Mode) (now : ℕ) (d : Desk) where
   noted_holds k (written.Shut fd) n text m e own = own
 
   note_begins : (m : Marked) (o : Option Mark) (got : GotData) → MayCome (due_at (at.Mark mark.Note m) d) got
-      → HoldsNote (held_by h (due_at (at.Mark mark.Note m) d) got) (written_on (note_of o m.n d.book.controls) got).row
+      → HoldsNote (held_by h (due_at (at.Mark mark.Note m) d) got) (note_moved (note_of o m.n d.book.controls) got).row
   note_begins m None got may = note_step m.n (parted_note d.book.controls [] []) h written.Open got tt may
   note_begins m (Some k) got may = note_step m.n (parted_note d.book.controls k.attempt.address (told_report k.note)) h written.Open got tt may
 
   mark_step_holds : (row : MarkRow) (m : Marked) (got : GotData) → HoldsMark h row d.note.row → MayCome (due_at (at.Mark row m) d) got → StepOf h (at.Mark row m) now d got
   mark_step_holds mark.Note m got own may =
       let o : Option Mark = slice_get (lane m.channel d.slots).marks 0 in
-      let w : Writing = written_on (note_of o m.n d.book.controls) got in
+      let w : Writing = note_moved (note_of o m.n d.book.controls) got in
       noted_holds (held_by h (due_at (at.Mark mark.Note m) d) got) w.row w.n w.text m (begin_note m d) (note_begins m o got may)
   mark_step_holds mark.Noting m got own may =
-      let w : Writing = written_on d.note got in
+      let w : Writing = note_moved d.note got in
       noted_holds (held_by h (due_at (at.Mark mark.Noting m) d) got) w.row w.n w.text m d (note_step d.note.n d.note.text h d.note.row got own may)
   mark_step_holds mark.Open m got own may =
       by_fit (call.Open (file_path m.channel m.n) how.Write) (StepOf h (at.Mark mark.Open m) now d) got may (λ told fit. mark_opens m told.answer told.bytes fit)
@@ -491,7 +491,7 @@ module _ (h : ℕ → Option Mode) (now : ℕ) (d : Desk) where
       by_fit (call.NextName (dir_text dir.Todo) (search_words search d)) (StepOf h (at.FindTodo search) now d) got may
       (λ told fit. named_holds (held_after h (call.NextName (dir_text dir.Todo) (search_words search d)) told.answer) (answered told.answer told.bytes).way (answered told.answer told.bytes).bytes search now d)
   step at.InTodo got own may =
-      went_holds (held_by h (due_of_pass d.pass) got) d.pass.row got (pass_moved d.book.controls d.pass now got) now d
+      went_holds (held_by h (pass_due d.pass) got) d.pass.row got (pass_moved d.book.controls d.pass now got) now d
       (pass_step d.book.controls d.pass now h d.pass.row got own may)
   step (at.Finish row n) got own may = finish_step_holds row n got own may
   step (at.Sweep row) got own may =
@@ -590,10 +590,10 @@ module _ (h : ℕ → Option Mode) (pass : Parts) where
   arrives (at.Finish row n) d now ready own = own
   arrives (at.Ended status) d now ready own = own
 
-keeps : (turns : Option ℕ) (past : List Own) → IsRunBy (Next turns) past → Holds (held past) (desk_after turns past)
+keeps : (turns : Option ℕ) (past : List Own) → IsRunBy (Next turns) past → Holds (held past) (place_after turns past)
 keeps turns [] run = tt
 keeps turns (event ∷ before) run =
-    let d : Desk = desk_after turns before in
+    let d : Desk = place_after turns before in
     let row : Row = row_now d event.read event.ready in
     let own = arrives (held before) (parts d) d.row d event.read event.ready (keeps turns before run.0) in
     let may = subst (λ x. MayCome x event.came) (sym run.1.0) run.1.1 in
@@ -666,5 +666,5 @@ uses_at h d (at.Ended status) own = tt
 
 pub uses : (turns : Option ℕ) (past : List Own) (now : ℕ) (ready : Ready) → IsRunBy (Next turns) past → UsesHeld (held past) (Next turns past now ready)
 uses turns past now ready run =
-    let d : Desk = desk_after turns past in
+    let d : Desk = place_after turns past in
     uses_at (held past) d (row_now d now ready) (arrives (held past) (parts d) d.row d now ready (keeps turns past run))

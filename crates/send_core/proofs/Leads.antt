@@ -4,7 +4,7 @@ use Rattle.std.specs.Prelude.{◌||◌, is_some, slice_get}
 use Rattle.bounce_record.specs.declared.note_row.NoteRow.{NoteRow}
 use Rattle.bounce_record.specs.declared.note_row.NoteRow.TheVariants as written
 use Rattle.bounce_record.specs.Returning.{Returning, return_begun}
-use Rattle.bounce_record.specs.Writing.{Writing, written_on}
+use Rattle.bounce_record.specs.Writing.{Writing, moved as note_moved}
 use Rattle.call_fs.specs.declared.calls.Fd.{Fd}
 use Rattle.call_fs.specs.declared.past.GotData.{GotData}
 use Rattle.envelope_records.specs.declared.channel.Record.{Record}
@@ -121,8 +121,8 @@ module _ (S : ℕ → List ℕ → Type 0) (t : Facts) where
 
   pub ok_mark : (row : MarkRow) (m : Marked) (got : GotData) (d : Desk) → Base S t d → Ok (act_mark row m got d)
   ok_mark mark.Note m got d h =
-      let w : Writing = written_on (note_of (slice_get (lane m.channel d.slots).marks 0) m.n d.book.controls) got in ok_noted w.row m (record d { note = w }) h
-  ok_mark mark.Noting m got d h = let w : Writing = written_on d.note got in ok_noted w.row m (record d { note = w }) h
+      let w : Writing = note_moved (note_of (slice_get (lane m.channel d.slots).marks 0) m.n d.book.controls) got in ok_noted w.row m (record d { note = w }) h
+  ok_mark mark.Noting m got d h = let w : Writing = note_moved d.note got in ok_noted w.row m (record d { note = w }) h
   ok_mark mark.Open m got d h = ok_opened (said got).way m (said got).fd d h
   ok_mark (mark.Write fd) m got d h = (h, tt)
   ok_mark (mark.Close fd done) m got d h = ok_mark_over done m.channel m.n m.place d h

@@ -3,7 +3,7 @@ use Rattle.std.proofs.Common.{◌≡◌, ℕ, ◌+◌, ◌-◌, List, [], ◌∷
 use Rattle.std.specs.Prelude.{min, slice_get}
 use Rattle.bounce_record.specs.declared.note_row.NoteRow.{NoteRow}
 use Rattle.bounce_record.specs.declared.note_row.NoteRow.TheVariants as written
-use Rattle.bounce_record.specs.Writing.{Writing, bounce_path, piece, piece_size, writing_due_at, written_on, written_row}
+use Rattle.bounce_record.specs.Writing.{Writing, bounce_path, piece, piece_size, due_at as note_due_at, moved as note_moved, written_row}
 use Rattle.call_fs.specs.declared.calls.Answer.{Answer}
 use Rattle.call_fs.specs.declared.calls.Answer.TheVariants as answer
 use Rattle.call_fs.specs.declared.calls.CallData.{CallData}
@@ -102,8 +102,8 @@ module _ (P Q : MarkRow → Option Mark → Marked → Writing → Type 0) (late
   then_note r w got = record w { row = row_on r w got }
 
   abbrev ToNote : Option Work → NoteRow → Writing → GotData → Type 0
-  ToNote f r w got = IsFit Q (work_by late f (writing_due_at r w) got) (account_by (happening (writing_due_at r w) got f al.to_mark Local) al)
-      (account_by (happening (writing_due_at r w) got f al.to_mark Remote) ar) (noted_at (row_on r w got) m (record d { note = then_note r w got }))
+  ToNote f r w got = IsFit Q (work_by late f (note_due_at r w) got) (account_by (happening (note_due_at r w) got f al.to_mark Local) al)
+      (account_by (happening (note_due_at r w) got f al.to_mark Remote) ar) (noted_at (row_on r w got) m (record d { note = then_note r w got }))
 
   module _ (h : DeskFits al ar d) (next : IsNext P None al ar m d.slots) where
     failed : (w : Writing) → IsFit Q None (account_by (given_up Local al.to_mark) al) (account_by (given_up Remote al.to_mark) ar) (mark_over false m (record d { note = w }))
@@ -163,36 +163,36 @@ module _ (P Q : MarkRow → Option Mark → Marked → Writing → Type 0) (late
     synced fd w (answer.Refused why.Fault) bytes fit follows = (h, refl, next, follows.0 tt)
     synced fd w told bytes fit follows = absurd fit
 
-    note_goes : (f : Option Work) (r : NoteRow) (w : Writing) (got : GotData) → NoteStands P f al ar r → MayCome (writing_due_at r w) got → Follows (then_note r w got) → ToNote f r w got
+    note_goes : (f : Option Work) (r : NoteRow) (w : Writing) (got : GotData) → NoteStands P f al ar r → MayCome (note_due_at r w) got → Follows (then_note r w got) → ToNote f r w got
     note_goes f written.Open w got stands may = absurd stands
     note_goes f written.Create w got stands may = subst (λ (o : Option Work). Follows (then_note written.Create w got) → ToNote o written.Create w got) (sym stands)
-        (by_file (writing_due_at written.Create w) tt (λ (g : GotData). Follows (then_note written.Create w g) → ToNote (Some Missing) written.Create w g) got may
+        (by_file (note_due_at written.Create w) tt (λ (g : GotData). Follows (then_note written.Create w g) → ToNote (Some Missing) written.Create w g) got may
         (λ told fit follows. subst
         (λ (o : Option Name). IsFit Q (note_created o told.answer) (account_by (uncreated_note o told.answer al.to_mark Local) al) (account_by (uncreated_note o told.answer al.to_mark Remote) ar)
         (noted_at (written_row written.Create w.text told.answer []) m (record d { note = record w { row = written_row written.Create w.text told.answer [] } })))
         (sym (parse-path (Of BounceFile w.n))) (created w w.n told.answer fit follows)))
     note_goes f (written.Stat fd) w got stands may = subst (λ (o : Option Work). Follows (then_note (written.Stat fd) w got) → ToNote o (written.Stat fd) w got) (sym stands)
-        (by_file (writing_due_at (written.Stat fd) w) tt (λ (g : GotData). Follows (then_note (written.Stat fd) w g) → ToNote (Some (Noting fd false)) (written.Stat fd) w g) got may
+        (by_file (note_due_at (written.Stat fd) w) tt (λ (g : GotData). Follows (then_note (written.Stat fd) w g) → ToNote (Some (Noting fd false)) (written.Stat fd) w g) got may
         (λ told fit follows. stated fd w told.answer told.bytes fit follows))
     note_goes f (written.Read fd place len) w got stands may = subst (λ (o : Option Work). Follows (then_note (written.Read fd place len) w got) → ToNote o (written.Read fd place len) w got) (sym stands)
-        (by_file (writing_due_at (written.Read fd place len) w) tt (λ (g : GotData). Follows (then_note (written.Read fd place len) w g) → ToNote (Some (Noting fd false)) (written.Read fd place len) w g) got may
+        (by_file (note_due_at (written.Read fd place len) w) tt (λ (g : GotData). Follows (then_note (written.Read fd place len) w g) → ToNote (Some (Noting fd false)) (written.Read fd place len) w g) got may
         (λ told fit follows. tail_read fd place len w told.answer told.bytes fit follows))
     note_goes f (written.Append fd done) w got stands may = subst (λ (o : Option Work). Follows (then_note (written.Append fd done) w got) → ToNote o (written.Append fd done) w got) (sym stands)
-        (by_file (writing_due_at (written.Append fd done) w) tt (λ (g : GotData). Follows (then_note (written.Append fd done) w g) → ToNote (Some (Noting fd false)) (written.Append fd done) w g) got may
+        (by_file (note_due_at (written.Append fd done) w) tt (λ (g : GotData). Follows (then_note (written.Append fd done) w g) → ToNote (Some (Noting fd false)) (written.Append fd done) w g) got may
         (λ told fit follows. appended fd done w told.answer told.bytes fit follows))
     note_goes f (written.Sync fd) w got stands may = subst (λ (o : Option Work). Follows (then_note (written.Sync fd) w got) → ToNote o (written.Sync fd) w got) (sym stands)
-        (by_file (writing_due_at (written.Sync fd) w) tt (λ (g : GotData). Follows (then_note (written.Sync fd) w g) → ToNote (Some (Noting fd false)) (written.Sync fd) w g) got may
+        (by_file (note_due_at (written.Sync fd) w) tt (λ (g : GotData). Follows (then_note (written.Sync fd) w g) → ToNote (Some (Noting fd false)) (written.Sync fd) w g) got may
         (λ told fit follows. synced fd w told.answer told.bytes fit follows))
     note_goes f (written.Close fd) w got stands may = subst (λ (o : Option Work). Follows (then_note (written.Close fd) w got) → ToNote o (written.Close fd) w got) (sym stands)
-        (by_file (writing_due_at (written.Close fd) w) tt (λ (g : GotData). Follows (then_note (written.Close fd) w g) → ToNote (Some (Noting fd true)) (written.Close fd) w g) got may
+        (by_file (note_due_at (written.Close fd) w) tt (λ (g : GotData). Follows (then_note (written.Close fd) w g) → ToNote (Some (Noting fd true)) (written.Close fd) w g) got may
         (λ told fit follows. ((h, refl), next, follows.1 refl)))
     note_goes f (written.Shut fd) w got stands may = subst (λ (o : Option Work). Follows (then_note (written.Shut fd) w got) → ToNote o (written.Shut fd) w got) (sym stands)
-        (by_file (writing_due_at (written.Shut fd) w) tt (λ (g : GotData). Follows (then_note (written.Shut fd) w g) → ToNote (Some (Noting fd false)) (written.Shut fd) w g) got may
+        (by_file (note_due_at (written.Shut fd) w) tt (λ (g : GotData). Follows (then_note (written.Shut fd) w g) → ToNote (Some (Noting fd false)) (written.Shut fd) w g) got may
         (λ told fit follows. failed (record w { row = written.Failed })))
     note_goes f written.Written w got stands may = absurd stands
     note_goes f written.Failed w got stands may = absurd stands
 
-    no_other : (f : Option Work) (r : NoteRow) (got : GotData) → NoteStands P f al ar r → MayCome (writing_due_at r d.note) got → IsOther got → ⊥
+    no_other : (f : Option Work) (r : NoteRow) (got : GotData) → NoteStands P f al ar r → MayCome (note_due_at r d.note) got → IsOther got → ⊥
     no_other f written.Open got stands may other = stands
     no_other f written.Create got stands may other = not_file (call.CreateExcl (bounce_path d.note.n)) got may other
     no_other f (written.Stat fd) got stands may other = not_file (call.Stat (bounce_path d.note.n)) got may other
@@ -205,9 +205,9 @@ module _ (P Q : MarkRow → Option Mark → Marked → Writing → Type 0) (late
     no_other f written.Failed got stands may other = stands
 
     -- a note under way
-    pub noting_step : (f : Option Work) (got : GotData) → NoteStands P f al ar d.note.row → MayCome (due_at (at.Mark mark.Noting m) d) got → Follows (written_on d.note got) → StepOf Q late now d f al ar (at.Mark mark.Noting m) got
+    pub noting_step : (f : Option Work) (got : GotData) → NoteStands P f al ar d.note.row → MayCome (due_at (at.Mark mark.Noting m) d) got → Follows (note_moved d.note got) → StepOf Q late now d f al ar (at.Mark mark.Noting m) got
     noting_step f got stands may follows = by got may follows where
-      by : (got : GotData) → MayCome (writing_due_at d.note.row d.note) got → Follows (written_on d.note got) → StepOf Q late now d f al ar (at.Mark mark.Noting m) got
+      by : (got : GotData) → MayCome (note_due_at d.note.row d.note) got → Follows (note_moved d.note got) → StepOf Q late now d f al ar (at.Mark mark.Noting m) got
       by (came.Answered told) may follows = note_goes f d.note.row d.note (came.Answered told) stands may follows
       by (came.Took bytes) may follows = absurd (no_other f d.note.row (came.Took bytes) stands may tt)
       by came.End may follows = absurd (no_other f d.note.row came.End stands may tt)
@@ -220,14 +220,14 @@ module _ (P Q : MarkRow → Option Mark → Marked → Writing → Type 0) (late
 
     -- a note begins
     pub note_step : (it : Mark) (got : GotData) → slice_get (lane m.channel d.slots).marks 0 ≡ Some it → MayCome (due_at (at.Mark mark.Note m) d) got
-        → Follows (written_on (note_of (Some it) m.n d.book.controls) got) → StepOf Q late now d None al ar (at.Mark mark.Note m) got
+        → Follows (note_moved (note_of (Some it) m.n d.book.controls) got) → StepOf Q late now d None al ar (at.Mark mark.Note m) got
     note_step it got there may = by_file (due_at (at.Mark mark.Note m) d) tt
-        (λ (g : GotData). Follows (written_on (note_of (Some it) m.n d.book.controls) g) → StepOf Q late now d None al ar (at.Mark mark.Note m) g) got may
+        (λ (g : GotData). Follows (note_moved (note_of (Some it) m.n d.book.controls) g) → StepOf Q late now d None al ar (at.Mark mark.Note m) g) got may
         (λ told fit follows.
         let w : Writing = note_of (Some it) m.n d.book.controls in
         let r : NoteRow = written_row written.Open w.text told.answer [] in
         subst
-        (λ (o : Option Mark). let x : Writing = written_on (note_of o m.n d.book.controls) (came.Answered told) in
+        (λ (o : Option Mark). let x : Writing = note_moved (note_of o m.n d.book.controls) (came.Answered told) in
         IsFit Q (note_opened (parse (path (Of BounceFile m.n))) told.answer) (account_by (unopened_note told.answer al.to_mark Local) al) (account_by (unopened_note told.answer al.to_mark Remote) ar)
         (noted_at x.row m (record d { note = x })))
         (sym there)

@@ -6,10 +6,10 @@ use Rattle.bounce_record.specs.declared.note_row.NoteRow.{NoteRow}
 use Rattle.bounce_record.specs.declared.note_row.NoteRow.TheVariants as written
 use Rattle.bounce_record.specs.declared.return_row.ReturnRow.{ReturnRow}
 use Rattle.bounce_record.specs.declared.return_row.ReturnRow.TheVariants as back
-use Rattle.bounce_record.specs.Returning.{Returning, return_due_at}
+use Rattle.bounce_record.specs.Returning.{Returning, due_at as return_due_at}
 use Rattle.address_rules.specs.declared.controls.Controls.{Controls}
 use Rattle.bounce_record.specs.Runs.{begun}
-use Rattle.bounce_record.specs.Writing.{Writing, bounce_path, due_of_writing, writing_begun, writing_due_at, written_on}
+use Rattle.bounce_record.specs.Writing.{Writing, bounce_path, due_by as note_due_by, writing_begun, due_at as note_due_at, moved as note_moved}
 use Rattle.call_fs.specs.declared.calls.Answer.{Answer}
 use Rattle.call_fs.specs.declared.calls.Answer.TheVariants as answer
 use Rattle.call_fs.specs.declared.calls.CallData.{CallData}
@@ -36,7 +36,7 @@ use Rattle.send_core.specs.declared.row.Marked.{Marked}
 use Rattle.send_core.specs.declared.row.Row.{Row}
 use Rattle.send_core.specs.declared.row.Row.TheVariants as at
 use Rattle.send_core.specs.Desk.{is_dying, link}
-use Rattle.send_core.specs.Table.{Next, act, arrive, desk_after, due_at, file_of, row_now}
+use Rattle.send_core.specs.Table.{Next, act, arrive, place_after as sender_after, due_at, file_of, row_now}
 use Rattle.send_core.specs.Turn.{note_of, told_report}
 use Rattle.send_jobs.specs.declared.attempts.Attempt.{Attempt}
 use Rattle.send_jobs.specs.declared.attempts.Failure.{Failure}
@@ -152,8 +152,8 @@ module _ (P Q : MarkRow → Option Mark → Marked → Writing → Type 0) (late
   step_in : (row : Row) (got : GotData) → FitAt P f al ar row d → Addressed d.slots.local d.local → Addressed d.slots.remote d.remote
       → ((m : Marked) (told : Told) (fd : Fd) → row ≡ at.Mark mark.Open m → got ≡ came.Answered told → told.answer ≡ answer.Opened fd → Q (mark.Write fd) None m d.note)
       → ((c : Channel) (n begun : ℕ) → row ≡ at.ReadFile c n begun Opening → late n ≡ is_dying n now d)
-      → ((m : Marked) (it : Mark) → row ≡ at.Mark mark.Note m → slice_get (lane m.channel d.slots).marks 0 ≡ Some it → m.n ≡ it.attempt.n → Follows P Q late now d al ar m (written_on (note_of (Some it) m.n d.book.controls) got))
-      → ((m : Marked) → row ≡ at.Mark mark.Noting m → P mark.Noting (slice_get (lane m.channel d.slots).marks 0) m d.note → Follows P Q late now d al ar m (written_on d.note got))
+      → ((m : Marked) (it : Mark) → row ≡ at.Mark mark.Note m → slice_get (lane m.channel d.slots).marks 0 ≡ Some it → m.n ≡ it.attempt.n → Follows P Q late now d al ar m (note_moved (note_of (Some it) m.n d.book.controls) got))
+      → ((m : Marked) → row ≡ at.Mark mark.Noting m → P mark.Noting (slice_get (lane m.channel d.slots).marks 0) m d.note → Follows P Q late now d al ar m (note_moved d.note got))
       → MayCome (due_at row d) got → StepOf Q late now d f al ar row got
   step_in (at.Start row) got h wl wr opens dies notes notings may = start_step Q late now d al ar f row got h may
   step_in (at.Turn p) got h wl wr opens dies notes notings may = absurd may
@@ -169,8 +169,8 @@ module _ (P Q : MarkRow → Option Mark → Marked → Writing → Type 0) (late
 
     mark_in : (row : MarkRow) (m : Marked) (got : GotData) → FitAt P f al ar (at.Mark row m) d
         → ((n : Marked) (told : Told) (fd : Fd) → at.Mark row m ≡ at.Mark mark.Open n → got ≡ came.Answered told → told.answer ≡ answer.Opened fd → Q (mark.Write fd) None n d.note)
-        → ((n : Marked) (it : Mark) → at.Mark row m ≡ at.Mark mark.Note n → slice_get (lane n.channel d.slots).marks 0 ≡ Some it → n.n ≡ it.attempt.n → Follows P Q late now d al ar n (written_on (note_of (Some it) n.n d.book.controls) got))
-        → ((n : Marked) → at.Mark row m ≡ at.Mark mark.Noting n → P mark.Noting (slice_get (lane n.channel d.slots).marks 0) n d.note → Follows P Q late now d al ar n (written_on d.note got))
+        → ((n : Marked) (it : Mark) → at.Mark row m ≡ at.Mark mark.Note n → slice_get (lane n.channel d.slots).marks 0 ≡ Some it → n.n ≡ it.attempt.n → Follows P Q late now d al ar n (note_moved (note_of (Some it) n.n d.book.controls) got))
+        → ((n : Marked) → at.Mark row m ≡ at.Mark mark.Noting n → P mark.Noting (slice_get (lane n.channel d.slots).marks 0) n d.note → Follows P Q late now d al ar n (note_moved d.note got))
         → MayCome (due_at (at.Mark row m) d) got → StepOf Q late now d f al ar (at.Mark row m) got
     mark_in mark.Note m got h opens notes notings may = subst (λ (o : Option Work). StepOf Q late now d o al ar (at.Mark mark.Note m) got) (sym h.0.1)
         (note_step P Q late now d al ar m h.0.0 h.1 h.1.0.0 got h.1.0.1 may (notes m h.1.0.0 refl h.1.0.1 h.1.0.2))
@@ -264,11 +264,11 @@ is_noted past f m d h = by_channel m.channel m.n m.place h where
 
 -- After each run
 
-opened_then : (turns : Option ℕ) (event : Own) (before : List Own) (row : Row) (m : Marked) (told : Told) (fd : Fd) → due_at row (desk_after turns before) ≡ event.due → row ≡ at.Mark mark.Open m
-    → event.came ≡ came.Answered told → told.answer ≡ answer.Opened fd → FitAt (Was before) (work before) (account Local before) (account Remote before) row (desk_after turns before)
+opened_then : (turns : Option ℕ) (event : Own) (before : List Own) (row : Row) (m : Marked) (told : Told) (fd : Fd) → due_at row (sender_after turns before) ≡ event.due → row ≡ at.Mark mark.Open m
+    → event.came ≡ came.Answered told → told.answer ≡ answer.Opened fd → FitAt (Was before) (work before) (account Local before) (account Remote before) row (sender_after turns before)
     → WasOpened (event ∷ before) fd m
 opened_then turns event before row m told fd due is got fd_is fit =
-    let d : Desk = desk_after turns before in
+    let d : Desk = sender_after turns before in
     let it : (o : IsOpened before (path (name_of (file_of m.channel m.n)))) × (m.place ≡ o.owed.task.place) =
     is_opened before (work before) m d (subst (λ (r : Row). FitAt (Was before) (work before) (account Local before) (account Remote before) r d) is fit)
     in record {
@@ -286,7 +286,7 @@ opened_then turns event before row m told fd due is got fd_is fit =
 
 abbrev pub Kept : Option ℕ → List Own → Type 0
 Kept turns past =
-    let d : Desk = desk_after turns past in
+    let d : Desk = sender_after turns past in
     IsFit (Was past) (work past) (account Local past) (account Remote past) d × Addressed d.slots.local d.local × Addressed d.slots.remote d.remote
 
 -- what a past tells besides
@@ -294,7 +294,7 @@ abbrev pub facts : List Own → Facts
 facts past = record { letter = letter past; births = births past; papers = papers past }
 
 abbrev pub Known : Option ℕ → List Own → Type 0
-Known turns past = Knows (IsSaid past) (facts past) (desk_after turns past)
+Known turns past = Knows (IsSaid past) (facts past) (sender_after turns past)
 
 -- by what is told, a pass is a dying one if it is so by what is known
 late_so : (before : List Own) (n now : ℕ) (d : Desk) → is_known n d.book.messages.known ≡ true → Base (IsSaid before) (facts before) d → is_late before n now ≡ is_dying n now d
@@ -321,7 +321,7 @@ module _ (turns : Option ℕ) (event : Own) (before : List Own) where
 
   note_begins : (m : Marked) (it other : Mark) (f : Failure) (d : Desk) → controls_told before ≡ d.book.controls → m.n ≡ it.attempt.n → it ≡ other → other.note ≡ Some f
       → due_at (at.Mark mark.Note m) d ≡ event.due → MayCome event.due event.came → ComesNext before m.channel (owed_at it)
-      → WritesNote (event ∷ before) (owed_at other) f (written_on (note_of (Some it) m.n d.book.controls) event.came)
+      → WritesNote (event ∷ before) (owed_at other) f (note_moved (note_of (Some it) m.n d.book.controls) event.came)
   note_begins m it other f d controls n same note due may next = record {
     recent = event ∷ [];
     before = before;
@@ -329,38 +329,38 @@ module _ (turns : Option ℕ) (event : Own) (before : List Own) where
     all = refl;
     next = subst (λ (x : Mark). ComesNext before m.channel (owed_at x)) same next;
     run = (tt, (ap (λ (k : ℕ). needs.File (call.Open (bounce_path k) how.Append)) (sym (n ∙ ap (λ (x : Mark). x.attempt.n) same)) ∙ due, may));
-    stands = ap (λ (w : Writing). written_on w event.came) (begun_so m other f d (n ∙ ap (λ (x : Mark). x.attempt.n) same) note controls ∙ ap (λ (x : Mark). note_of (Some x) m.n d.book.controls) (sym same));
+    stands = ap (λ (w : Writing). note_moved w event.came) (begun_so m other f d (n ∙ ap (λ (x : Mark). x.attempt.n) same) note controls ∙ ap (λ (x : Mark). note_of (Some x) m.n d.book.controls) (sym same));
   }
 
-  note_goes : (it : Owed) (f : Failure) (w : Writing) → WritesNote before it f w → due_of_writing w ≡ event.due → MayCome event.due event.came → WritesNote (event ∷ before) it f (written_on w event.came)
+  note_goes : (it : Owed) (f : Failure) (w : Writing) → WritesNote before it f w → note_due_by w ≡ event.due → MayCome event.due event.came → WritesNote (event ∷ before) it f (note_moved w event.came)
   note_goes it f w was due may = record {
     recent = event ∷ was.recent;
     before = was.before;
     channel = was.channel;
     next = was.next;
     all = ap (λ (t : List Own). event ∷ t) was.all;
-    run = (was.run, (ap due_of_writing was.stands ∙ due, may));
-    stands = ap (λ (x : Writing). written_on x event.came) was.stands;
+    run = (was.run, (ap note_due_by was.stands ∙ due, may));
+    stands = ap (λ (x : Writing). note_moved x event.came) was.stands;
   }
 
   notes_on : (m : Marked) (it : Mark) (d : Desk) → controls_told before ≡ d.book.controls → slice_get (lane m.channel d.slots).marks 0 ≡ Some it → m.n ≡ it.attempt.n
       → due_at (at.Mark mark.Note m) d ≡ event.due → MayCome event.due event.came → ComesNext before m.channel (owed_at it)
-      → let w : Writing = written_on (note_of (Some it) m.n d.book.controls) event.came in
+      → let w : Writing = note_moved (note_of (Some it) m.n d.book.controls) event.came in
       (IsUnderWay w.row → Was (event ∷ before) mark.Noting (slice_get (lane m.channel d.slots).marks 0) m w) × (w.row ≡ written.Written → Was (event ∷ before) mark.Open (slice_get (lane m.channel d.slots).marks 0) m w)
   notes_on m it d controls there n due may next = (
     λ under other f is note. note_begins m it other f d controls n (some_is it other (sym there ∙ is)) note due may next,
     λ end other f is note. record {
-      note = written_on (note_of (Some it) m.n d.book.controls) event.came;
+      note = note_moved (note_of (Some it) m.n d.book.controls) event.came;
       writes = note_begins m it other f d controls n (some_is it other (sym there ∙ is)) note due may next;
       whole = end;
     },
   )
 
   notings_on : (o : Option Mark) (m : Marked) (d : Desk) → Was before mark.Noting o m d.note → due_at (at.Mark mark.Noting m) d ≡ event.due → MayCome event.due event.came
-      → let w : Writing = written_on d.note event.came in (IsUnderWay w.row → Was (event ∷ before) mark.Noting o m w) × (w.row ≡ written.Written → Was (event ∷ before) mark.Open o m w)
+      → let w : Writing = note_moved d.note event.came in (IsUnderWay w.row → Was (event ∷ before) mark.Noting o m w) × (w.row ≡ written.Written → Was (event ∷ before) mark.Open o m w)
   notings_on o m d was due may = (
     λ under it f is note. note_goes (owed_at it) f d.note (was it f is note) due may,
-    λ end it f is note. record { note = written_on d.note event.came; writes = note_goes (owed_at it) f d.note (was it f is note) due may; whole = end },
+    λ end it f is note. record { note = note_moved d.note event.came; writes = note_goes (owed_at it) f d.note (was it f is note) due may; whole = end },
   )
 
 pub controls_at : (before : List Own) (row : Row) (m : Marked) (d : Desk) → KnowsAt (IsSaid before) (facts before) row d → row ≡ at.Mark mark.Note m → controls_told before ≡ d.book.controls
@@ -385,7 +385,7 @@ all_kept turns [] run = ((((refl, none_out_fits, none_out_fits, refl), refl, ref
   first_sound : Sound (IsSaid []) (births []).of none_known
   first_sound = (tt, (λ m e. absurd (cc)), (λ m e. absurd (cc)), (λ m x e. absurd (cc)))
 all_kept turns (event ∷ before) run =
-    let d : Desk = desk_after turns before in
+    let d : Desk = sender_after turns before in
     let row : Row = row_now d event.read event.ready in
     let al : Account = account Local before in
     let ar : Account = account Remote before in
@@ -487,7 +487,7 @@ module _ (Gives : Channel → List ℕ → Type 0) (Opens Appends : List ℕ →
   pass_due todo.Lost p = tt
 
   -- a note that has begun opens its file no more
-  note_due : (row : NoteRow) (w : Writing) → (row ≡ written.Open → ⊥) → DueOf (writing_due_at row w)
+  note_due : (row : NoteRow) (w : Writing) → (row ≡ written.Open → ⊥) → DueOf (note_due_at row w)
   note_due written.Open w begun = absurd (begun refl)
   note_due written.Create w begun = tt
   note_due (written.Stat fd) w begun = tt
@@ -629,14 +629,14 @@ has_begun P f al ar row m d fit e is =
     let at_note : FitAt P f al ar (at.Mark mark.Noting m) d = subst (λ (r : Row). FitAt P f al ar r d) e fit in
     subst (NoteStands P f al ar) is at_note.1
 
-is_due : (turns : Option ℕ) (past : List Own) (row : Row) → let d : Desk = desk_after turns past in
+is_due : (turns : Option ℕ) (past : List Own) (row : Row) → let d : Desk = sender_after turns past in
     FitAt (Was past) (work past) (account Local past) (account Remote past) row d → Addressed d.slots.local d.local → Addressed d.slots.remote d.remote
     → KnowsAt (IsSaid past) (facts past) row d → Due past (due_at row d)
 is_due turns past row fit wl wr knows = row_due (λ c text. IsRequest past (account c past) text) (λ name. IsOpened past name) (λ name. IsNoteOpened past name) (λ fd place bytes. IsMark past fd place bytes) row d
     gives opens writes notes (λ m e. has_begun (Was past) (work past) (account Local past) (account Remote past) row m d fit e)
   where
     d : Desk
-    d = desk_after turns past
+    d = sender_after turns past
 
     At : Row → Type 0
     At r = FitAt (Was past) (work past) (account Local past) (account Remote past) r d
@@ -665,7 +665,7 @@ is_due turns past row fit wl wr knows = row_due (λ c text. IsRequest past (acco
 
 pub due_is : (turns : Option ℕ) (past : List Own) (now : ℕ) (ready : Ready) → IsRunBy (Next turns) past → Due past (Next turns past now ready)
 due_is turns past now ready run =
-    let d : Desk = desk_after turns past in
+    let d : Desk = sender_after turns past in
     let k : Kept turns past = keeps turns past run in
     is_due turns past (row_now d now ready) (arrives (Was past) (work past) (account Local past) (account Remote past) (frees past) d.row d now ready k.0) k.1 k.2
     (arrive_says (IsSaid past) (facts past) d now ready d.row (knows turns past run))
@@ -698,7 +698,7 @@ overwrites turns past now ready run fd o = subst (λ (p : List Own). Overwrites 
   was = subst (IsRunBy (Next turns)) o.newest run
 
   d : Desk
-  d = desk_after turns o.before
+  d = sender_after turns o.before
 
   row : Row
   row = row_now d o.event.read o.event.ready
@@ -710,7 +710,7 @@ overwrites turns past now ready run fd o = subst (λ (p : List Own). Overwrites 
   marks = opens_for_mark row d o.name (λ m e. has_begun (Was o.before) (work o.before) (account Local o.before) (account Remote o.before) row m d fit e) (was.1.0 ∙ o.due)
 
   goes : Overwrites fd (Next turns (o.event ∷ o.before) now ready)
-  goes = written_next (desk_after turns (o.event ∷ o.before)).row marks.0 fd (desk_after turns (o.event ∷ o.before)) now ready
+  goes = written_next (sender_after turns (o.event ∷ o.before)).row marks.0 fd (sender_after turns (o.event ∷ o.before)) now ready
       (opened_row row marks.0 o.event.read o.event.came o.told fd d marks.1 o.came o.fd_is)
 
 -- The laws

@@ -4,8 +4,8 @@ use Rattle.bounce_record.specs.declared.note_row.NoteRow.{NoteRow}
 use Rattle.bounce_record.specs.declared.note_row.NoteRow.TheVariants as written
 use Rattle.bounce_record.specs.declared.return_row.ReturnRow.{ReturnRow}
 use Rattle.bounce_record.specs.declared.return_row.ReturnRow.TheVariants as back
-use Rattle.bounce_record.specs.Returning.{Returning, return_due_at}
-use Rattle.bounce_record.specs.Writing.{Writing, writing_due_at}
+use Rattle.bounce_record.specs.Returning.{Returning, due_at as return_due_at}
+use Rattle.bounce_record.specs.Writing.{Writing, due_at as note_due_at}
 use Rattle.call_fs.specs.declared.calls.Answer.{Answer}
 use Rattle.call_fs.specs.declared.calls.Answer.TheVariants as answer
 use Rattle.call_fs.specs.declared.past.GotData.{GotData}
@@ -115,15 +115,15 @@ module _ (b : Births) (now : ℕ) where
   pass_still (todo.Left why) p got is may = absurd may
   pass_still todo.Lost p got is may = absurd may
 
-  note_still : (row : NoteRow) (w : Writing) (got : GotData) → MayCome (writing_due_at row w) got → IsStill (writing_due_at row w) got
-  note_still written.Open w got may = by_file (writing_due_at written.Open w) tt (IsStill (writing_due_at written.Open w)) got may (λ told fit. refl)
-  note_still written.Create w got may = by_file (writing_due_at written.Create w) tt (IsStill (writing_due_at written.Create w)) got may (λ told fit. refl)
-  note_still (written.Stat fd) w got may = by_file (writing_due_at (written.Stat fd) w) tt (IsStill (writing_due_at (written.Stat fd) w)) got may (λ told fit. of_stat (Of BounceFile w.n) (λ a c. refl) told.answer)
-  note_still (written.Read fd place len) w got may = by_file (writing_due_at (written.Read fd place len) w) tt (IsStill (writing_due_at (written.Read fd place len) w)) got may (λ told fit. refl)
-  note_still (written.Append fd done) w got may = by_file (writing_due_at (written.Append fd done) w) tt (IsStill (writing_due_at (written.Append fd done) w)) got may (λ told fit. refl)
-  note_still (written.Sync fd) w got may = by_file (writing_due_at (written.Sync fd) w) tt (IsStill (writing_due_at (written.Sync fd) w)) got may (λ told fit. refl)
-  note_still (written.Close fd) w got may = by_file (writing_due_at (written.Close fd) w) tt (IsStill (writing_due_at (written.Close fd) w)) got may (λ told fit. refl)
-  note_still (written.Shut fd) w got may = by_file (writing_due_at (written.Shut fd) w) tt (IsStill (writing_due_at (written.Shut fd) w)) got may (λ told fit. refl)
+  note_still : (row : NoteRow) (w : Writing) (got : GotData) → MayCome (note_due_at row w) got → IsStill (note_due_at row w) got
+  note_still written.Open w got may = by_file (note_due_at written.Open w) tt (IsStill (note_due_at written.Open w)) got may (λ told fit. refl)
+  note_still written.Create w got may = by_file (note_due_at written.Create w) tt (IsStill (note_due_at written.Create w)) got may (λ told fit. refl)
+  note_still (written.Stat fd) w got may = by_file (note_due_at (written.Stat fd) w) tt (IsStill (note_due_at (written.Stat fd) w)) got may (λ told fit. of_stat (Of BounceFile w.n) (λ a c. refl) told.answer)
+  note_still (written.Read fd place len) w got may = by_file (note_due_at (written.Read fd place len) w) tt (IsStill (note_due_at (written.Read fd place len) w)) got may (λ told fit. refl)
+  note_still (written.Append fd done) w got may = by_file (note_due_at (written.Append fd done) w) tt (IsStill (note_due_at (written.Append fd done) w)) got may (λ told fit. refl)
+  note_still (written.Sync fd) w got may = by_file (note_due_at (written.Sync fd) w) tt (IsStill (note_due_at (written.Sync fd) w)) got may (λ told fit. refl)
+  note_still (written.Close fd) w got may = by_file (note_due_at (written.Close fd) w) tt (IsStill (note_due_at (written.Close fd) w)) got may (λ told fit. refl)
+  note_still (written.Shut fd) w got may = by_file (note_due_at (written.Shut fd) w) tt (IsStill (note_due_at (written.Shut fd) w)) got may (λ told fit. refl)
   note_still written.Written w got may = absurd may
   note_still written.Failed w got may = absurd may
 

@@ -5,7 +5,7 @@ use Rattle.std.proofs.lemmas.Bool.{and_from, and_parts, eq-eqb, not-true}
 use Rattle.address_rules.specs.Files.{place}
 use Rattle.bounce_record.specs.declared.return_row.ReturnRow.{ReturnRow}
 use Rattle.bounce_record.specs.declared.return_row.ReturnRow.TheVariants as back
-use Rattle.bounce_record.specs.Returning.{Returning, return_begun, return_due_at}
+use Rattle.bounce_record.specs.Returning.{Returning, return_begun, due_at as return_due_at}
 use Rattle.bounce_record.specs.Writing.{Writing}
 use Rattle.call_fs.specs.declared.calls.Answer.{Answer}
 use Rattle.call_fs.specs.declared.calls.Answer.TheVariants as answer
@@ -67,7 +67,7 @@ use Rattle.send_parts.specs.Sweep.{sweep_to}
 use Rattle.todo_pass.specs.declared.part.Target.TheVariants as target
 use Rattle.todo_pass.specs.declared.row.Row.{Row as PassRow}
 use Rattle.todo_pass.specs.declared.row.Row.TheVariants as todo
-use Rattle.todo_pass.specs.Table.{Pass, answer_row, due_of_pass, moved as pass_moved}
+use Rattle.todo_pass.specs.Table.{Pass, answer_row, due_by as pass_due, moved as pass_moved}
 use Rattle.todo_pass.specs.Table as pass_table
 use Rattle.send_core.specs.Past.{Account, Happening, Owed, Source, Work, account_by, closed_if, took as took_in, longer, given, happening, note_created, opened as file_opened, opened_as, source_of, tasks_by, uncreated_note, work_by}
 use Rattle.send_core.specs.Past.Happening.{Nothing, Gives, Marks}
@@ -326,9 +326,9 @@ module _ (P : MarkRow → Option Mark → Marked → Writing → Type 0) (late :
 
   pub todo_step : (got : GotData) → DeskFits al ar d → IsBare al ar → MayCome (due_at at.InTodo d) got → StepOf P late now d None al ar at.InTodo got
   todo_step got h b may =
-      let s : Silent late al.to_mark (due_of_pass d.pass) got = pass_silent late al.to_mark d.pass.row d.pass got may in
-      went_fits P (work_by late None (due_of_pass d.pass) got) (account_by (happening (due_of_pass d.pass) got None al.to_mark Local) al) (account_by (happening (due_of_pass d.pass) got None al.to_mark Remote) ar)
-      d.pass.row got (pass_moved d.book.controls d.pass now got) now d (quiet P late (due_of_pass d.pass) got al ar d s b h)
+      let s : Silent late al.to_mark (pass_due d.pass) got = pass_silent late al.to_mark d.pass.row d.pass got may in
+      went_fits P (work_by late None (pass_due d.pass) got) (account_by (happening (pass_due d.pass) got None al.to_mark Local) al) (account_by (happening (pass_due d.pass) got None al.to_mark Remote) ar)
+      d.pass.row got (pass_moved d.book.controls d.pass now got) now d (quiet P late (pass_due d.pass) got al ar d s b h)
 
   pub finish_step : (row : FinishRow) (n : ℕ) (got : GotData) → DeskFits al ar d → IsBare al ar → MayCome (due_at (at.Finish row n) d) got → StepOf P late now d None al ar (at.Finish row n) got
   finish_step finish.OpenBounce n got h b may =

@@ -14,7 +14,7 @@ use Rattle.send_core.specs.declared.row.MarkRow.TheVariants as mark
 use Rattle.send_core.specs.declared.row.Row.{Row}
 use Rattle.send_core.specs.declared.row.Row.TheVariants as at
 use Rattle.send_core.specs.Past.{Account, Owed, Task, account}
-use Rattle.send_core.specs.Table.{desk_after}
+use Rattle.send_core.specs.Table.{place_after}
 
 -- the record of an attempt; and of a mark, with what is noted before it
 abbrev pub task_of : Attempt → Task
@@ -57,4 +57,4 @@ pub record Agrees (a : Account) (at_work : Bool) (lane : Lane) : Type 0 where
 
 -- so it is of each channel until the sender has ended
 abbrev pub LanesAgree : Option ℕ → List Own → Type 0
-LanesAgree turns past = (c : Channel) → has_ended (desk_after turns past).row ≡ false → Agrees (account c past) (is_opened (desk_after turns past).row c) (lane c (desk_after turns past).slots)
+LanesAgree turns past = (c : Channel) → has_ended (place_after turns past).row ≡ false → Agrees (account c past) (is_opened (place_after turns past).row c) (lane c (place_after turns past).slots)

@@ -1,6 +1,7 @@
 -- What the sender keeps, and what its steps do to that.
 use Rattle.std.specs.Prelude.{ℕ, ◌+◌, ◌-◌, ◌^◌, List, [], ◌∷◌, length, drop, Bool, false, ◌&&◌, ◌||◌, Option, Some, None, if◌then◌else◌, nat_lt, is_some}
 use Rattle.envelope_records.specs.declared.channel.Record.{Record}
+use Rattle.queue_limits.specs.declared.counts.TheConstants.{MAX_SLOTS}
 use Rattle.send_jobs.specs.declared.attempts.Attempt.{Attempt}
 use Rattle.send_jobs.specs.declared.attempts.Failure.{Failure}
 use Rattle.send_jobs.specs.declared.channels.Channel.{Channel}
@@ -99,10 +100,10 @@ deferred c n d =
 abbrev pub waits : Channel → Attempt → Option Failure → Desk → Desk
 waits c a note d = record d { slots = at_lane c (owes (record { attempt = a; note = note })) d.slots }
 
--- The place of a recipient that isn't tried again is to be marked, and else it stays `T`. It does so too if 120 marks are to be made already, as in no run.
+-- The place of a recipient that isn't tried again is to be marked, and else it stays `T`. It does so too if `MAX_SLOTS` marks are to be made already, as in no run.
 abbrev pub settle : Report → Channel → Attempt → Desk → Desk
 settle r c a d =
-    if is_final (counted r.letter) a.dying && nat_lt (length (lane c d.slots).marks) 120 then waits c a (failure_in r) d else deferred c a.n d
+    if is_final (counted r.letter) a.dying && nat_lt (length (lane c d.slots).marks) MAX_SLOTS then waits c a (failure_in r) d else deferred c a.n d
 
 abbrev pub told_by : Option Attempt → Channel → Report → Desk → Desk
 told_by None c r d = d

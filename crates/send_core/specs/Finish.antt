@@ -2,7 +2,7 @@
 use Rattle.std.specs.Prelude.{ℕ, Some, true}
 use Rattle.bounce_record.specs.declared.return_row.ReturnRow.{ReturnRow}
 use Rattle.bounce_record.specs.declared.return_row.ReturnRow.TheVariants as back
-use Rattle.bounce_record.specs.Returning.{Returning, return_begun, returned_on}
+use Rattle.bounce_record.specs.Returning.{Returning, return_begun, moved as return_moved}
 use Rattle.call_fs.specs.declared.past.GotData.{GotData}
 use Rattle.send_known.specs.Known.{put_off, sender_of}
 use Rattle.send_known.specs.Messages.{forgotten}
@@ -38,7 +38,7 @@ finish_at row n now d = goes d (at.Finish row n)
 
 -- after what came at a step of it, by the controls and the sender that are known
 abbrev pub bounce_on : ℕ → ℕ → GotData → Returning → Book → Returning
-bounce_on n now came r b = returned_on b.controls (sender_of n b.messages.known) r now came
+bounce_on n now came r b = return_moved b.controls (sender_of n b.messages.known) r now came
 
 -- where the finish then stands: without a bounce file at the unlink of the info file
 abbrev pub returned_to : ReturnRow → FinishRow

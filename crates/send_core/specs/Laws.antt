@@ -3,7 +3,7 @@ use Rattle.std.specs.Prelude.{◌≡◌, ◌≢◌, ℕ, ◌<◌, List, [], ◌�
 use Rattle.bounce_record.specs.declared.note_row.NoteRow.{NoteRow}
 use Rattle.bounce_record.specs.declared.note_row.NoteRow.TheVariants as written
 use Rattle.bounce_record.specs.Runs.{IsWriting, NoteOf, begun, written_after}
-use Rattle.bounce_record.specs.Writing.{Writing, bounce_path, due_of_writing}
+use Rattle.bounce_record.specs.Writing.{Writing, bounce_path, due_by as note_due}
 use Rattle.call_fs.specs.declared.calls.CallData.TheVariants.{Open, WriteAt}
 use Rattle.call_fs.specs.declared.calls.Answer.TheVariants.{Opened}
 use Rattle.call_fs.specs.declared.calls.Fd.{Fd}
@@ -138,4 +138,4 @@ IsUnderWay row = Unit {0}
 -- A bounce file is opened to append only for a note; and while that is being written, its next step is what is done.
 pub record NotesReports (past : List Own) (due : NeedData) : Type 0 where
   pub opens : (name : List ℕ) → due ≡ needs.File (Open name Appending) → IsNoteOpened past name
-  pub follows : (it : Owed) (f : Failure) (w : Writing) → it.note ≡ Some f → WritesNote past it f w → IsUnderWay w.row → due ≡ due_of_writing w
+  pub follows : (it : Owed) (f : Failure) (w : Writing) → it.note ≡ Some f → WritesNote past it f w → IsUnderWay w.row → due ≡ note_due w

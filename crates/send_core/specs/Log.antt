@@ -29,7 +29,7 @@ use Rattle.send_core.specs.declared.row.Row.{Row}
 use Rattle.send_core.specs.declared.row.Row.TheVariants as at
 use Rattle.send_core.specs.Desk.{link, told, with_reader}
 use Rattle.send_core.specs.Turn.{is_done}
-use Rattle.send_core.specs.Table.{desk_after, row_now}
+use Rattle.send_core.specs.Table.{place_after, row_now}
 pub use Rattle.send_jobs.specs.Lines.{status_if}
 pub use Rattle.todo_pass.specs.Lines.{left_lines, queued_lines, queued_room}
 
@@ -86,4 +86,4 @@ lines_of d event = lines_at (row_now d event.read event.ready) event.read event.
 -- the log of a past, newest event first, since it was cleared: of the events since then, and those before
 abbrev pub log_since : Option ℕ → List Own → List Own → List ℕ
 log_since turns [] before = []
-log_since turns (event ∷ recent) before = log_since turns recent before ++ lines_of (desk_after turns (recent ++ before)) event
+log_since turns (event ∷ recent) before = log_since turns recent before ++ lines_of (place_after turns (recent ++ before)) event

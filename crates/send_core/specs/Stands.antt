@@ -10,7 +10,7 @@ use Rattle.send_core.specs.declared.row.Point.TheVariants as point
 use Rattle.send_core.specs.declared.row.Row.{Row}
 use Rattle.send_core.specs.declared.row.Row.TheVariants as at
 use Rattle.send_core.specs.Log.{lines_at, log_since}
-use Rattle.send_core.specs.Table.{desk_after, due_at, moved, moved_by, row_now}
+use Rattle.send_core.specs.Table.{place_after, due_at, moved, moved_by, row_now}
 
 -- A sender: what it keeps; the moment and readiness that it was told last, and whether it was told them since its last event;
 -- and its log since that was cleared last.
@@ -46,7 +46,7 @@ gone_on m came = record m {
 
 -- the sender of so many turns stands for this past, newest event first: it keeps what the table says of that
 abbrev pub Stands : Machine → Option ℕ → List Own → Type 0
-Stands m turns past = m.desk ≡ desk_after turns past
+Stands m turns past = m.desk ≡ place_after turns past
 
 -- It stands for these events since its log was cleared last, after those before; and its log has the lines of these.
 abbrev pub Logs : Machine → Option ℕ → List Own → List Own → Type 0

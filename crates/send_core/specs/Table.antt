@@ -4,8 +4,8 @@ use Rattle.std.specs.Prelude.{ℕ, List, [], ◌∷◌, length, Bool, true, fals
 use Rattle.address_rules.specs.declared.control_file.ControlFile.TheVariants.{Me}
 use Rattle.bounce_record.specs.declared.note_row.NoteRow.TheVariants as written
 use Rattle.bounce_record.specs.declared.return_row.ReturnRow.TheVariants as back
-use Rattle.bounce_record.specs.Returning.{bare, due_of_return}
-use Rattle.bounce_record.specs.Writing.{Writing, due_of_writing}
+use Rattle.bounce_record.specs.Returning.{bare, due_by as return_due}
+use Rattle.bounce_record.specs.Writing.{Writing, due_by as note_due}
 use Rattle.call_fs.specs.declared.calls.How.TheVariants as how
 use Rattle.call_fs.specs.declared.past.GotData.{GotData}
 use Rattle.call_fs.specs.declared.past.NeedData.{NeedData}
@@ -28,7 +28,7 @@ use Rattle.send_parts.specs.Lines.{finish_takes_memory}
 use Rattle.send_parts.specs.Readings.{read_on, reading_step}
 use Rattle.send_parts.specs.Replies.{said}
 use Rattle.send_parts.specs.Steps.{due_by}
-use Rattle.todo_pass.specs.Table.{begun as pass_begun, due_of_pass}
+use Rattle.todo_pass.specs.Table.{begun as pass_begun, due_by as pass_due}
 use Rattle.send_core.specs.declared.desk.Desk.{Desk}
 use Rattle.send_parts.specs.declared.rows.FinishRow.TheVariants as finish
 use Rattle.send_core.specs.declared.row.MarkRow.{MarkRow}
@@ -192,9 +192,9 @@ words_of (at.Sweep row) d = sweep_words row d
 words_of row d = []
 
 abbrev pub due_at : Row → Desk → NeedData
-due_at at.InTodo d = due_of_pass d.pass
-due_at (at.Mark mark.Noting m) d = due_of_writing d.note
-due_at (at.Finish finish.Return n) d = due_of_return d.bounce
+due_at at.InTodo d = pass_due d.pass
+due_at (at.Mark mark.Noting m) d = note_due d.note
+due_at (at.Finish finish.Return n) d = return_due d.bounce
 due_at row d = due_by (step_of row (length d.book.read)) (words_of row d)
 
 -- Where what came leads, at this row and this moment
@@ -232,6 +232,10 @@ takes_memory row = false
 
 -- The past
 
+-- where the sender stands is its desk
+abbrev pub Place : Type 0
+Place = Desk
+
 -- the row at which a sender with this desk is, at this moment and with this ready
 abbrev pub row_now : Desk → ℕ → Ready → Row
 row_now d now ready = arrive d.row d now ready
@@ -241,7 +245,7 @@ abbrev pub moved_by : Row → ℕ → GotData → Desk → Desk
 moved_by row now came d = ready (act row now came d)
 
 -- what it keeps after one event more
-abbrev pub moved : Desk → Own → Desk
+abbrev pub moved : Place → Own → Place
 moved d event = moved_by (row_now d event.read event.ready) event.read event.came d
 
 -- no note is written, and none is to be
@@ -265,11 +269,11 @@ begun turns = record {
   bounce = bare 0 back.Over;
 }
 
--- what it keeps after a past, newest event first
-abbrev pub desk_after : Option ℕ → List Own → Desk
-desk_after turns [] = begun turns
-desk_after turns (event ∷ before) = moved (desk_after turns before) event
+-- where it stands after a past, newest event first
+abbrev pub place_after : Option ℕ → List Own → Place
+place_after turns [] = begun turns
+place_after turns (event ∷ before) = moved (place_after turns before) event
 
 -- What a sender of so many turns does next: after this past, newest event first, at this moment, with this ready.
 abbrev pub Next : Option ℕ → List Own → ℕ → Ready → NeedData
-Next turns past now ready = let d = desk_after turns past in due_at (row_now d now ready) d
+Next turns past now ready = let d = place_after turns past in due_at (row_now d now ready) d

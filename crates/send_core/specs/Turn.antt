@@ -4,7 +4,7 @@ use Rattle.address_rules.specs.declared.controls.Controls.{Controls}
 use Rattle.bounce_record.specs.declared.note_row.NoteRow.{NoteRow}
 use Rattle.bounce_record.specs.declared.note_row.NoteRow.TheVariants as written
 use Rattle.bounce_record.specs.Notes.{late_report}
-use Rattle.bounce_record.specs.Writing.{Writing, writing_begun, written_on}
+use Rattle.bounce_record.specs.Writing.{Writing, writing_begun, moved as note_moved}
 use Rattle.call_fs.specs.declared.calls.Fd.{Fd}
 use Rattle.call_fs.specs.declared.past.GotData.{GotData}
 use Rattle.envelope_records.specs.declared.channel.Record.{Record}
@@ -94,7 +94,7 @@ noted_at written.Failed m d = mark_over false m d
 noted_at row m d = goes d (at.Mark mark.Noting m)
 
 abbrev pub noted : Marked → GotData → Desk → Desk
-noted m came d = let w = written_on d.note came in noted_at w.row m (record d { note = w })
+noted m came d = let w = note_moved d.note came in noted_at w.row m (record d { note = w })
 
 -- what came of the open of the bounce file
 abbrev pub note_opened : Marked → GotData → Desk → Desk

@@ -10,7 +10,7 @@ ghost use Rattle.send_core.specs.Turn.{after_take, lost, took, unlinked};
 
 use crate::{Desk, Point, Row};
 use mail_bytes::Memory;
-use queue_limits::{NO_LOCAL, NO_REMOTE};
+use queue_limits::{MAX_SLOTS, NO_LOCAL, NO_REMOTE};
 use send_jobs::{
     Attempt, Channel, Job, Mark, done_with, due_again, failure_in, is_final, put_settled,
 };
@@ -130,7 +130,9 @@ fn tell(desk: &mut Desk, log: &mut Log, channel: Channel, report: Report)
 fn settle(desk: &mut Desk, channel: Channel, attempt: Attempt, report: Report)
     ensures { desk.new ≡ settle report channel attempt desk.old }
 {
-    if is_final(report.counts_as(), attempt.dying) && desk.slots.marks(channel).len() < 120 {
+    if is_final(report.counts_as(), attempt.dying)
+        && desk.slots.marks(channel).len() < usize::from(MAX_SLOTS)
+    {
         let note = failure_in(report);
         desk.slots.add_mark(channel, Mark { attempt, note });
     } else {

@@ -3,6 +3,7 @@
 use Rattle.std.specs.Prelude.{ℕ, ◌+◌, ◌≤◌, min, List, [], ◌∷◌, ◌++◌, length, drop, replicate, set, Bool, not, ◌&&◌, Option, Some, None, if◌then◌else◌, slice_get, is_some, is_none, count_by}
 use Rattle.std.specs.List.{list_any}
 use Rattle.envelope_records.specs.declared.channel.Record.{Record}
+use Rattle.queue_limits.specs.declared.counts.TheConstants.{MAX_SLOTS}
 use Rattle.send_jobs.specs.declared.attempts.Attempt.{Attempt}
 use Rattle.send_jobs.specs.declared.attempts.Mark.{Mark}
 use Rattle.send_jobs.specs.declared.jobs.Job.{Job}
@@ -11,9 +12,9 @@ use Rattle.send_jobs.specs.Jobs.{new_job, put, unmark, without, job_of}
 use Rattle.send_jobs.specs.Passes.{attempts_of}
 use Rattle.send_jobs.specs.Slots.{lowest, is_on}
 
--- so many free slots, at most 120, and nothing else
+-- so many free slots, at most `MAX_SLOTS`, and nothing else
 abbrev pub empty : ℕ → Lane
-empty limit = record { left = []; slots = replicate (min limit 120) None; marks = []; jobs = [] }
+empty limit = record { left = []; slots = replicate (min limit MAX_SLOTS) None; marks = []; jobs = [] }
 
 -- the next attempt of the open pass; none when no pass is open
 abbrev pub next : Lane → Option Attempt

@@ -42,6 +42,5 @@ pub use jobs::Job;
 pub use laws::{jobs_are_a_map, marks_have_room, slots_are_sound};
 pub use lines::{put_settled, put_starting, put_status, status_if};
 pub use marks::Marks;
-pub use slot_table::MAX_SLOTS;
 pub use slots::{OutOfRange, Slots};
 pub use tries::{done_with, due_again, due_then, first_due, retry};

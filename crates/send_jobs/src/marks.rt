@@ -5,8 +5,8 @@ ghost use Rattle.std.specs.Option.{option_copied};
 ghost use Rattle.send_jobs.specs.Lanes.{is_mark_on};
 
 use crate::attempts::Mark;
-use crate::slot_table::MAX_SLOTS;
 use mail_bytes::Memory;
+use queue_limits::MAX_SLOTS;
 use std::alloc::Global;
 use std::collections::VecDeque;
 use std::marker::Model;
@@ -22,7 +22,7 @@ impl Model for Marks {
     ghost use Rattle.std.specs.Prelude.{List, ◌≤◌};
     ghost use Rattle.std.specs.VecDeque.{deque_capacity};
     ghost use Rattle.send_jobs.specs.declared.attempts.Mark.{Mark};
-    ghost use Rattle.send_jobs.specs.declared.slot_table.TheConstants.{MAX_SLOTS};
+    ghost use Rattle.queue_limits.specs.declared.counts.TheConstants.{MAX_SLOTS};
 
     ghost Value = { List Mark };
 

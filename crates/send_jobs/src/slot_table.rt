@@ -6,11 +6,9 @@ ghost use Rattle.send_jobs.specs.Slots.{attempt_in, lowest, is_on};
 
 use crate::attempts::Attempt;
 use mail_bytes::Memory;
+use queue_limits::MAX_SLOTS;
 use std::alloc::Global;
 use std::marker::Model;
-
-/// The greatest number of slots of a channel, which is how many programs a spawner runs at once.
-pub const MAX_SLOTS: u8 = 120;
 
 /// The slots of a channel; contracts see the list of what each has in flight.
 #[derive(Debug, Drop)]
@@ -21,7 +19,7 @@ pub struct SlotTable {
 impl Model for SlotTable {
     ghost use Rattle.std.specs.Prelude.{List, Option, ◌≤◌, length};
     ghost use Rattle.send_jobs.specs.declared.attempts.Attempt.{Attempt};
-    ghost use Rattle.send_jobs.specs.declared.slot_table.TheConstants.{MAX_SLOTS};
+    ghost use Rattle.queue_limits.specs.declared.counts.TheConstants.{MAX_SLOTS};
 
     ghost Value = { List (Option Attempt) };
 
@@ -33,7 +31,7 @@ impl Model for SlotTable {
 impl SlotTable {
     /// So many free slots, and no more than `MAX_SLOTS`. The error: out of memory.
     pub fn free(alloc: Global, count: u8) -> Result<Self, Memory>
-        ensures { IfOk result (λ table. table ≡ replicate (min count 120) None) }
+        ensures { IfOk result (λ table. table ≡ replicate (min count MAX_SLOTS) None) }
     {
         let mut slots = Vec::new(alloc);
         for _ in 0..count.min(MAX_SLOTS) {

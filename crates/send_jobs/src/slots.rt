@@ -5,9 +5,9 @@ use crate::channels::Channel;
 use crate::jobs::Job;
 use crate::lane::Lane;
 use crate::marks::Marks;
-use crate::slot_table::MAX_SLOTS;
 use envelope_records::Record;
 use mail_bytes::Memory;
+use queue_limits::MAX_SLOTS;
 use std::alloc::Global;
 use thiserror::Error;
 

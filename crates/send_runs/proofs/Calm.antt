@@ -4,7 +4,7 @@ use Rattle.std.specs.Prelude.{◌||◌, is_some, slice_get}
 use Rattle.bounce_record.specs.declared.note_row.NoteRow.{NoteRow}
 use Rattle.bounce_record.specs.declared.note_row.NoteRow.TheVariants as written
 use Rattle.bounce_record.specs.Returning.{return_begun}
-use Rattle.bounce_record.specs.Writing.{written_on}
+use Rattle.bounce_record.specs.Writing.{moved as note_moved}
 use Rattle.call_fs.specs.declared.calls.Fd.{Fd}
 use Rattle.call_fs.specs.declared.past.GotData.{GotData}
 use Rattle.call_fs.specs.declared.program.Ready.{Ready}
@@ -120,7 +120,7 @@ calm_noted written.Failed m d = calm_marked false m d
 calm_noted row m d = tt
 
 calm_note : (m : Marked) (got : GotData) (d : Desk) → Calm (noted m got d)
-calm_note m got d = calm_noted (written_on d.note got).row m (record d { note = written_on d.note got })
+calm_note m got d = calm_noted (note_moved d.note got).row m (record d { note = note_moved d.note got })
 
 calm_mark : (row : MarkRow) (m : Marked) (got : GotData) (d : Desk) → Calm (act_mark row m got d)
 calm_mark mark.Note m got d = calm_note m got (begin_note m d)

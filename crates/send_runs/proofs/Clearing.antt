@@ -5,7 +5,7 @@ use Rattle.address_rules.specs.declared.controls.Controls.{Controls}
 use Rattle.bounce_record.specs.declared.note_row.NoteRow.{NoteRow}
 use Rattle.bounce_record.specs.declared.note_row.NoteRow.TheVariants as written
 use Rattle.bounce_record.specs.Returning.{return_begun}
-use Rattle.bounce_record.specs.Writing.{Writing, written_on, writing_due_at}
+use Rattle.bounce_record.specs.Writing.{Writing, moved as note_moved, due_at as note_due_at}
 use Rattle.call_fs.specs.Past.{IsRunBy}
 use Rattle.call_fs.specs.Program.{MayCome}
 use Rattle.call_fs.specs.declared.calls.Answer.{Answer}
@@ -23,7 +23,7 @@ use Rattle.send_core.proofs.Coming.{by_file}
 use Rattle.send_core.specs.Desk.{closed_by, goes, has_begun, is_free_for, later, next_idle, past_finish, past_todo, request_sent, retried, stands_at, sweep_due, turn_counted, turn_over, with_requests, link}
 use Rattle.send_core.specs.Finish.{act_finish, bounce_on, finish_at, forgot, looked_up, put_off_to, returned_to, sweep_at, sweep_begun}
 use Rattle.send_core.specs.Start.{start_at, started}
-use Rattle.send_core.specs.Table.{Next, act, arrive, desk_after, due_at, from_point, row_now}
+use Rattle.send_core.specs.Table.{Next, act, arrive, place_after, due_at, from_point, row_now}
 use Rattle.send_core.specs.Turn.{act_mark, begin_note, begun_at, file_read, is_done, known_of, lost, mark_opened, mark_over, noted, noted_at, pass_opened, put_later, requested, todo_found, todo_named, todo_none, todo_on, todo_over, todo_went, took, unlinked}
 use Rattle.send_core.specs.declared.desk.Desk.{Desk}
 use Rattle.send_core.specs.declared.row.MarkRow.{MarkRow}
@@ -261,7 +261,7 @@ outside_noted written.Failed m d = outside_marked false m d
 outside_noted row m d = tt
 
 outside_note : (m : Marked) (got : GotData) (d : Desk) → Outside (noted m got d)
-outside_note m got d = outside_noted (written_on d.note got).row m (record d { note = written_on d.note got })
+outside_note m got d = outside_noted (note_moved d.note got).row m (record d { note = note_moved d.note got })
 
 pub outside_mark : (row : MarkRow) (m : Marked) (got : GotData) (d : Desk) → Outside (act_mark row m got d)
 outside_mark mark.Note m got d = outside_note m got (begin_note m d)
@@ -272,7 +272,7 @@ outside_mark (mark.Close fd done) m got d = outside_marked done m d
 
 -- marks and readings unlink nothing
 
-not_note : (row : NoteRow) (w : Writing) → is_unlink (writing_due_at row w) ≡ false
+not_note : (row : NoteRow) (w : Writing) → is_unlink (note_due_at row w) ≡ false
 not_note written.Written w = refl
 not_note row w = refl
 
@@ -422,15 +422,15 @@ row_cleared (at.Sweep row) now got d may =
     clears_near (is_unlink (due_at (at.Sweep row) d)) (act (at.Sweep row) now got d) (near_swept (sweep_to row now (said got) d.book) (looked_up row (said got) (sweep_begun row now d)))
 row_cleared (at.Ended status) now got d may = absurd may
 
-cleared_kept : (turns : Option ℕ) (past : List Own) → IsRunBy (Next turns) past → ClearedAt (desk_after turns past).row (desk_after turns past).pass (has_unlinked past)
+cleared_kept : (turns : Option ℕ) (past : List Own) → IsRunBy (Next turns) past → ClearedAt (place_after turns past).row (place_after turns past).pass (has_unlinked past)
 cleared_kept turns [] run = tt
 cleared_kept turns (event ∷ before) run =
-    let d : Desk = desk_after turns before in
+    let d : Desk = place_after turns before in
     let row : Row = row_now d event.read event.ready in
     let may : MayCome (due_at row d) event.came = subst (λ (x : NeedData). MayCome x event.came) (sym run.1.0) run.1.1 in
-    let e : Desk = desk_after turns (event ∷ before) in
+    let e : Desk = place_after turns (event ∷ before) in
     subst (λ (due : NeedData). ClearedAt e.row e.pass (is_unlink due)) run.1.0 (row_cleared row event.read event.came d may)
 
 -- so it is where the next event begins
-pub cleared_here : (turns : Option ℕ) (past : List Own) (now : ℕ) (ready : Ready) → IsRunBy (Next turns) past → ClearedAt (row_now (desk_after turns past) now ready) (desk_after turns past).pass (has_unlinked past)
-cleared_here turns past now ready run = let d : Desk = desk_after turns past in arrives_cleared d.row d (has_unlinked past) now ready (cleared_kept turns past run)
+pub cleared_here : (turns : Option ℕ) (past : List Own) (now : ℕ) (ready : Ready) → IsRunBy (Next turns) past → ClearedAt (row_now (place_after turns past) now ready) (place_after turns past).pass (has_unlinked past)
+cleared_here turns past now ready run = let d : Desk = place_after turns past in arrives_cleared d.row d (has_unlinked past) now ready (cleared_kept turns past run)

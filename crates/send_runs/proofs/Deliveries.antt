@@ -8,8 +8,8 @@ use Rattle.bounce_record.specs.declared.note_row.NoteRow.{NoteRow}
 use Rattle.bounce_record.specs.declared.note_row.NoteRow.TheVariants as written
 use Rattle.bounce_record.specs.declared.return_row.ReturnRow.{ReturnRow}
 use Rattle.bounce_record.specs.declared.return_row.ReturnRow.TheVariants as back
-use Rattle.bounce_record.specs.Returning.{Returning, return_due_at}
-use Rattle.bounce_record.specs.Writing.{Writing, writing_due_at}
+use Rattle.bounce_record.specs.Returning.{Returning, due_at as return_due_at}
+use Rattle.bounce_record.specs.Writing.{Writing, due_at as note_due_at}
 use Rattle.call_fs.proofs.Maps.{put_cases}
 use Rattle.call_fs.specs.Maps.{put}
 use Rattle.call_fs.specs.Past.{IsRunBy}
@@ -33,7 +33,7 @@ use Rattle.send_core.specs.Laws.{IsRequest}
 use Rattle.send_core.specs.Log.{lines_at, lines_of, status_if}
 use Rattle.send_core.specs.Past.{Account, Happening, Task, Work, account, given, work}
 use Rattle.send_core.specs.Past.Happening.{Gives, Nothing}
-use Rattle.send_core.specs.Table.{Next, act, desk_after, due_at, port_of, row_now}
+use Rattle.send_core.specs.Table.{Next, act, place_after as sender_after, due_at, port_of, row_now}
 use Rattle.send_core.specs.Turn.{took}
 use Rattle.send_core.specs.declared.desk.Desk.{Desk}
 use Rattle.send_core.specs.declared.row.MarkRow.{MarkRow}
@@ -96,7 +96,7 @@ module _ (c : Channel) (got : GotData) where
   none_reading Opening opening read e = e
   none_reading reading opening read e = refl
 
-  none_note : (row : NoteRow) (w : Writing) → given_by (writing_due_at row w) got c ≡ Nothing
+  none_note : (row : NoteRow) (w : Writing) → given_by (note_due_at row w) got c ≡ Nothing
   none_note written.Written w = refl
   none_note row w = refl
 
@@ -358,26 +358,26 @@ module _ (al ar : Account) (now n : ℕ) (of : Channel → ℕ → ℕ) (d : Des
 
 -- The request at such a row, by the law of requests
 
-asks_at : (turns : Option ℕ) (past : List Own) (now : ℕ) (ready : Ready) → IsRunBy (Next turns) past → let d = desk_after turns past in (c : Channel) (slot : ℕ) → row_now d now ready ≡ at.Request c
+asks_at : (turns : Option ℕ) (past : List Own) (now : ℕ) (ready : Ready) → IsRunBy (Next turns) past → let d = sender_after turns past in (c : Channel) (slot : ℕ) → row_now d now ready ≡ at.Request c
     → Flight (account Local past) d.slots.local.slots → Flight (account Remote past) d.slots.remote.slots → lowest (lane c d.slots).slots ≡ Some slot → Asks c d slot
 asks_at turns past now ready run c slot is fl fr low =
-    let d : Desk = desk_after turns past in
+    let d : Desk = sender_after turns past in
     let due : Next turns past now ready ≡ needs.Give (port_of c) (first_text (link c d).requests) = ap (λ (r : Row). due_at r d) is in
     let it : IsRequest past (account c past) (first_text (link c d).requests) = gives_requests turns past now ready run c (first_text (link c d).requests) due in
     let least : IsLeastFree (lane c d.slots).slots (Some slot) = subst (IsLeastFree (lane c d.slots).slots) low (lowest_is_least (lane c d.slots).slots) in
     let same : it.slot ≡ slot = least_left (account c past) (lane c d.slots).slots slot it.slot (flies c) least it.free it.lowest in
     record { rest = drop 1 (request_of it.task.n it.sender it.task.address); is = it.is ∙ ap (λ (k : ℕ). to_slot k (request_of it.task.n it.sender it.task.address)) same }
   where
-    flies : (c : Channel) → Flight (account c past) (lane c (desk_after turns past).slots).slots
+    flies : (c : Channel) → Flight (account c past) (lane c (sender_after turns past).slots).slots
     flies Local = fl
     flies Remote = fr
 
 -- After each run
 
-pub counts_kept : (turns : Option ℕ) (past : List Own) → IsRunBy (Next turns) past → Counts (requests_given past) (λ c. number_in c past) (desk_after turns past).slots
+pub counts_kept : (turns : Option ℕ) (past : List Own) → IsRunBy (Next turns) past → Counts (requests_given past) (λ c. number_in c past) (sender_after turns past).slots
 counts_kept turns [] run = none_out_counts 0 0 (λ c slot. 0)
 counts_kept turns (event ∷ before) run =
-    let d : Desk = desk_after turns before in
+    let d : Desk = sender_after turns before in
     let row : Row = row_now d event.read event.ready in
     let may : MayCome (due_at row d) event.came = subst (λ (x : NeedData). MayCome x event.came) (sym run.1.0) run.1.1 in
     let fit = arrives (Was before) (work before) (account Local before) (account Remote before) (frees before) d.row d event.read event.ready (keeps turns before run.0).0 in
@@ -462,16 +462,16 @@ module _ (al ar : Account) (now number : ℕ) (d : Desk) (t : Task) where
 
 starts : (turns : Option ℕ) (past : List Own) (event : Own) → IsRunBy (Next turns) (event ∷ past) → (c : Channel) (slot : ℕ) → given_by event.due event.came c ≡ Gives slot
     → (t : Task) (rest : List Task) → (account c past).to_give ≡ t ∷ rest
-    → lines_of (desk_after turns past) event ≡ starting (requests_given (event ∷ past)) t.n (channel_word c) t.address ++ status_after (event ∷ past)
+    → lines_of (sender_after turns past) event ≡ starting (requests_given (event ∷ past)) t.n (channel_word c) t.address ++ status_after (event ∷ past)
 starts turns past event run c slot gives t rest next_is =
-    let d : Desk = desk_after turns past in
+    let d : Desk = sender_after turns past in
     let row : Row = row_now d event.read event.ready in
     let may : MayCome (due_at row d) event.came = subst (λ (x : NeedData). MayCome x event.came) (sym run.1.0) run.1.1 in
     let fit = arrives (Was past) (work past) (account Local past) (account Remote past) (frees past) d.row d event.read event.ready (keeps turns past run.0).0 in
     let gift : given_by (due_at row d) event.came c ≡ Gives slot = ap (λ (x : NeedData). given_by x event.came c) run.1.0 ∙ gives in
     let number : raised d.slots.given ≡ requests_given (event ∷ past) =
     ap raised (counts_kept turns past run.0).0 ∙ sym (ap (λ (b : Bool). if b then raised (requests_given past) else requests_given past) (request_true c slot event.due event.came gives)) in
-    let e : Desk = desk_after turns (event ∷ past) in
+    let e : Desk = sender_after turns (event ∷ past) in
     let line = gift_line (account Local past) (account Remote past) event.read (requests_given (event ∷ past)) d t (Was past) (work past) c slot rest row event.came fit may gift (to_give c next_is) number in
     let turn : e.row ≡ at.Turn line.1.0 = line.1.1 in
     line.0 ∙ ap (λ (text : List ℕ). starting (requests_given (event ∷ past)) t.n (channel_word c) t.address ++ text)

@@ -44,7 +44,7 @@ use Rattle.send_core.specs.Desk.{closed_by, done_with, due_again, due_on, due_th
 use Rattle.send_core.specs.Finish.{bounce_on, forgot, looked_up, put_off_to, returned_to, sweep_begun}
 use Rattle.send_core.specs.Past.{Account, Work, account, work}
 use Rattle.send_core.specs.Senders.{IsSaid}
-use Rattle.send_core.specs.Table.{Next, act, busy, desk_after, due_at, row_now}
+use Rattle.send_core.specs.Table.{Next, act, busy, place_after, due_at, row_now}
 use Rattle.send_core.specs.Turn.{file_read, known_of, pass_opened, put_later, todo_on, todo_over, todo_went, took, unlinked}
 use Rattle.send_core.specs.declared.desk.Desk.{Desk}
 use Rattle.send_core.specs.declared.row.MarkRow.{MarkRow}
@@ -691,21 +691,21 @@ module _ (S : ℕ → List ℕ → Type 0) (t : Facts) (d : Desk) (now : ℕ) (w
 abbrev Stands : List Own → Desk → Type 0
 Stands past d = Dues (λ c n due. IsDue c n past due) d.book.messages × EachJob (λ n. begun_in Local n past) d.slots.local.jobs × EachJob (λ n. begun_in Remote n past) d.slots.remote.jobs
 
-dues_kept : (turns : Option ℕ) (past : List Own) → IsRunBy (Next turns) past → Stands past (desk_after turns past)
+dues_kept : (turns : Option ℕ) (past : List Own) → IsRunBy (Next turns) past → Stands past (place_after turns past)
 dues_kept turns [] run = (none, tt, tt) where
-  none : (c : Channel) (n due : ℕ) → Among (due, n) (due_on c (desk_after turns []).book.messages) → ⊥
+  none : (c : Channel) (n due : ℕ) → Among (due, n) (due_on c (place_after turns []).book.messages) → ⊥
   none Local n due among = among
   none Remote n due among = among
 dues_kept turns (event ∷ before) run =
     let past : List Own = event ∷ before in
-    let d : Desk = desk_after turns before in
+    let d : Desk = place_after turns before in
     let row : Row = row_now d event.read event.ready in
     let h : Stands before d = dues_kept turns before run.0 in
     let may : MayCome (due_at row d) event.came = subst (λ (x : NeedData). MayCome x event.came) (sym run.1.0) run.1.1 in
     let fit = arrives (Was before) (work before) (account Local before) (account Remote before) (frees before) d.row d event.read event.ready (keeps turns before run.0).0 in
     let says : KnowsAt (IsSaid before) (facts before) row d = arrive_says (IsSaid before) (facts before) d event.read event.ready d.row (all_kept turns before run.0).1 in
     let at_trial : TrialAt row (trial before) = arrives_trial d.row (trial before) d event.read event.ready (trial_kept turns before run.0) in
-    let e : Desk = desk_after turns past in
+    let e : Desk = place_after turns past in
     subst (λ (due : NeedData).
     Of (Keeps (IsSaid before) (facts before) d event.read (λ c n x. IsDue c n before x) (λ c n. begun_in c n before) (λ c. account c before) (λ c. account c past) (has_unlinked before)
     (λ c n. shift_by c n event.read (births before).command (has_unlinked before) (work before) (trial before) due event.came) ((births_by (births before) event.read due event.came).of)) (act row event.read event.came d)) run.1.0

@@ -1,5 +1,5 @@
 -- What each row makes due, exactly.
-use Rattle.bounce_record.specs.Writing.{Writing, writing_due_at, written_on}
+use Rattle.bounce_record.specs.Writing.{Writing, due_at as note_due_at, moved as note_moved}
 use Rattle.bounce_record.specs.declared.note_row.NoteRow.TheVariants as written
 use Rattle.bounce_record.specs.declared.note_row.NoteRow.{NoteRow}
 use Rattle.call_fs.specs.Columns.{IsAnswerTo}
@@ -337,7 +337,7 @@ module _ (S : ℕ → List ℕ → Type 0) (t : Facts) (d : Desk) (now : ℕ) (c
 
     -- marks
 
-    unmarking : (row : NoteRow) (w : Writing) (got : GotData) → is_marking (writing_due_at row w) got ≡ false
+    unmarking : (row : NoteRow) (w : Writing) (got : GotData) → is_marking (note_due_at row w) got ≡ false
     unmarking written.Written w got = refl
     unmarking row w got = refl
 
@@ -376,9 +376,9 @@ module _ (S : ℕ → List ℕ → Type 0) (t : Facts) (d : Desk) (now : ℕ) (c
 
       pub mark_out : (row : MarkRow) (got : GotData) → MayCome (due_at (at.Mark row m) d) got → States (at.Mark row m) d.slots pass → Lands b (act (at.Mark row m) now got d) → To None (at.Mark row m) got
       mark_out mark.Note got may hs lands =
-          let e : Desk = begin_note m d in settles mark.Note m got hs gives may sound is one refl (shut_noted (written_on e.note got).row m (record e { note = written_on e.note got })) lands
+          let e : Desk = begin_note m d in settles mark.Note m got hs gives may sound is one refl (shut_noted (note_moved e.note got).row m (record e { note = note_moved e.note got })) lands
       mark_out mark.Noting got may hs lands =
-          settles mark.Noting m got hs gives may sound is one (unmarking d.note.row d.note got) (shut_noted (written_on d.note got).row m (record d { note = written_on d.note got })) lands
+          settles mark.Noting m got hs gives may sound is one (unmarking d.note.row d.note got) (shut_noted (note_moved d.note got).row m (record d { note = note_moved d.note got })) lands
       mark_out mark.Open got may hs lands = by_file (due_at (at.Mark mark.Open m) d) tt (λ g. MayCome (due_at (at.Mark mark.Open m) d) g → Lands b (act (at.Mark mark.Open m) now g d) → To None (at.Mark mark.Open m) g) got may
           (λ told fit. opened_out hs told.answer told.bytes fit) may lands
       mark_out (mark.Write fd) got may hs lands = works (mark.Write fd) m got hs gives (act (at.Mark (mark.Write fd) m) now got d) refl refl refl (λ x n. refl)

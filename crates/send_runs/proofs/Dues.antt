@@ -36,7 +36,7 @@ use Rattle.send_core.specs.Laws.{IsRequest}
 use Rattle.send_core.specs.Past.{Account, Source, Task, Work, account, account_by, closed as close_of, closed_if, given, happening, tasks_in, whole_of, work}
 use Rattle.send_core.specs.Senders.{IsSaid}
 use Rattle.send_core.specs.Start.{start_at, started}
-use Rattle.send_core.specs.Table.{Next, act, arrive, busy, desk_after, due_at, from_point, port_of, row_now}
+use Rattle.send_core.specs.Table.{Next, act, arrive, busy, place_after, due_at, from_point, port_of, row_now}
 use Rattle.send_core.specs.Turn.{file_read, known_of, todo_on, todo_over, todo_went}
 use Rattle.send_core.specs.declared.desk.Desk.{Desk}
 use Rattle.send_core.specs.declared.row.MarkRow.{MarkRow}
@@ -688,9 +688,9 @@ moves past event d row p q same hs c n = ⊎_elim
     (hs c n)
 
 module _ (turns : Option ℕ) where
-  alive_at : (past : List Own) (event : Own) → IsRunBy (Next turns) (event ∷ past) → has_ended (desk_after turns past).row ≡ false
+  alive_at : (past : List Own) (event : Own) → IsRunBy (Next turns) (event ∷ past) → has_ended (place_after turns past).row ≡ false
   alive_at past event run =
-      let d : Desk = desk_after turns past in
+      let d : Desk = place_after turns past in
       let row : Row = row_now d event.read event.ready in
       let may : MayCome (due_at row d) event.came = subst (λ (x : NeedData). MayCome x event.came) (sym run.1.0) run.1.1 in
       arrives_alive d.row d event.read event.ready (went_on row event.due event.read d event.came may)
@@ -698,14 +698,14 @@ module _ (turns : Option ℕ) where
   abbrev Agreeing : (Channel → Account) → Row → Slots → Type 0
   Agreeing a row s = (c : Channel) → Agrees (a c) (is_opened row c) (lane c s) × (length (lane c s).slots ≤ 120)
 
-  agreeing : (past : List Own) → IsRunBy (Next turns) past → has_ended (desk_after turns past).row ≡ false → Agreeing (λ c. account c past) (desk_after turns past).row (desk_after turns past).slots
+  agreeing : (past : List Own) → IsRunBy (Next turns) past → has_ended (place_after turns past).row ≡ false → Agreeing (λ c. account c past) (place_after turns past).row (place_after turns past).slots
   agreeing past run alive c =
-      let d : Desk = desk_after turns past in
+      let d : Desk = place_after turns past in
       (lanes_agree turns past run c alive, few_row (Was past) (work past) (account Local past) (account Remote past) d.row d alive (keeps turns past run).0 c)
 
-  lands_at : (past : List Own) → IsRunBy (Next turns) past → has_ended (desk_after turns past).row ≡ false → Lands (λ c. account c past) (desk_after turns past)
+  lands_at : (past : List Own) → IsRunBy (Next turns) past → has_ended (place_after turns past).row ≡ false → Lands (λ c. account c past) (place_after turns past)
   lands_at past run alive c shut =
-      let d : Desk = desk_after turns past in
+      let d : Desk = place_after turns past in
       let w = agreeing past run alive c in (subst (λ (x : Bool). Agrees (account c past) x (lane c d.slots)) shut w.0, w.1)
 
   fresh_shut : (row : Row) (c : Channel) → IsFresh row → is_opened row c ≡ false
@@ -715,17 +715,17 @@ module _ (turns : Option ℕ) where
   arrives_opened (at.Turn p) d now ready c = fresh_shut (from_point p d now ready) c (point_fresh d now ready p)
   arrives_opened row d now ready c = refl
 
-  stands_on : (last : Own) (before : List Own) (event : Own) → IsRunBy (Next turns) (event ∷ (last ∷ before)) → (let d : Desk = desk_after turns before in Stands before last d (row_now d last.read last.ready))
-      → let e : Desk = desk_after turns (last ∷ before) in Stands (last ∷ before) event e (row_now e event.read event.ready)
+  stands_on : (last : Own) (before : List Own) (event : Own) → IsRunBy (Next turns) (event ∷ (last ∷ before)) → (let d : Desk = place_after turns before in Stands before last d (row_now d last.read last.ready))
+      → let e : Desk = place_after turns (last ∷ before) in Stands (last ∷ before) event e (row_now e event.read event.ready)
   stands_on last before event run h = (moves past event e row (λ c n. pass_in c n past) (λ c n. pass_in c n past) (λ c n. arrives_links c n e.row e event.read event.ready) out.0, dues, out.2) where
     past : List Own
     past = last ∷ before
 
     d : Desk
-    d = desk_after turns before
+    d = place_after turns before
 
     e : Desk
-    e = desk_after turns past
+    e = place_after turns past
 
     row : Row
     row = row_now e event.read event.ready
@@ -772,10 +772,10 @@ module _ (turns : Option ℕ) where
     dues c n due among = out.1 c n due among
         ∙ ap (λ (x : Bool). due_by (shift c n before last) last.read (flies n (account c before)) (over_at c n before last && not x) (pass_in c n before) (retry_at past c n) (due_in c n last.due before)) (unlinks_so c n)
 
-  stands : (past : List Own) (event : Own) → IsRunBy (Next turns) (event ∷ past) → let d : Desk = desk_after turns past in Stands past event d (row_now d event.read event.ready)
+  stands : (past : List Own) (event : Own) → IsRunBy (Next turns) (event ∷ past) → let d : Desk = place_after turns past in Stands past event d (row_now d event.read event.ready)
   stands [] event run = (states, none, gone) where
     d : Desk
-    d = desk_after turns []
+    d = place_after turns []
 
     states : States (row_now d event.read event.ready) d.slots (λ c n. pass_in c n [])
     states Local n = inr (inl (refl, refl, refl))

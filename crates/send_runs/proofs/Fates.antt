@@ -13,7 +13,7 @@ use Rattle.send_core.specs.Desk.{closed_by, deferred, due_on, due_then, failure_
 use Rattle.send_core.specs.declared.desk.Desk.{Desk}
 use Rattle.bounce_record.specs.declared.note_row.NoteRow.{NoteRow}
 use Rattle.bounce_record.specs.declared.note_row.NoteRow.TheVariants as written
-use Rattle.bounce_record.specs.Writing.{written_on}
+use Rattle.bounce_record.specs.Writing.{moved as note_moved}
 use Rattle.call_fs.specs.declared.calls.Fd.{Fd}
 use Rattle.call_fs.specs.declared.past.GotData.{GotData}
 use Rattle.send_core.specs.Agrees.{is_same}
@@ -498,8 +498,8 @@ module _ (first : Channel → ℕ → Option Job) (was : Channel → ℕ → ℕ
     noted_fates row m d is h = finals (noted_at row m d) (λ c n. refl) h
 
     pub mark_fates : (row : MarkRow) (m : Marked) (got : GotData) (d : Desk) → IsFirst m d → OfBoth Fates d → Finals (act_mark row m got d)
-    mark_fates mark.Note m got d is h = let e : Desk = begin_note m d in noted_fates (written_on e.note got).row m (record e { note = written_on e.note got }) is h
-    mark_fates mark.Noting m got d is h = noted_fates (written_on d.note got).row m (record d { note = written_on d.note got }) is h
+    mark_fates mark.Note m got d is h = let e : Desk = begin_note m d in noted_fates (note_moved e.note got).row m (record e { note = note_moved e.note got }) is h
+    mark_fates mark.Noting m got d is h = noted_fates (note_moved d.note got).row m (record d { note = note_moved d.note got }) is h
     mark_fates mark.Open m got d is h = opened_fates (said got).way m (said got).fd d is h
     mark_fates (mark.Write fd) m got d is h = finals (act_mark (mark.Write fd) m got d) (λ c n. refl) h
     mark_fates (mark.Close fd done) m got d is h = marked done m d is h

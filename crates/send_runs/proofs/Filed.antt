@@ -5,7 +5,7 @@ use Rattle.std.proofs.lemmas.Bool.{cases_eq}
 use Rattle.call_fs.specs.declared.past.Own.{Own}
 use Rattle.retry_schedule.proofs.Entries.{in_added, in_removed}
 use Rattle.retry_schedule.specs.Due.{HasEntry, is_due, moved, put, removed}
-use Rattle.send_core.specs.Table.{desk_after}
+use Rattle.send_core.specs.Table.{place_after}
 use Rattle.send_jobs.specs.declared.channels.Channel.{Channel}
 use Rattle.send_jobs.specs.declared.channels.Channel.TheVariants.{Local, Remote}
 use Rattle.send_jobs.specs.Tries.{due_then, file_gone}
@@ -134,5 +134,5 @@ keep = record {
   forgets = λ n m h. (rise_filtered (λ k. not (known.is_of n k)) 0 m.known h.0, filed_forgotten n m.local m.remote m.known h.1);
 }
 
-pub filed_past : (turns : Option ℕ) (past : List Own) → let m : Messages = (desk_after turns past).book.messages in EachOf (Filed m.local m.remote) m.known
+pub filed_past : (turns : Option ℕ) (past : List Own) → let m : Messages = (place_after turns past).book.messages in EachOf (Filed m.local m.remote) m.known
 filed_past turns past = (of_past AreFiled keep turns past).1

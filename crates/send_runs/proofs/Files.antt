@@ -32,7 +32,7 @@ use Rattle.send_jobs.specs.Tries.{due_on}
 use Rattle.send_core.specs.Desk.{closed_by, due_then, file_gone, has_begun, is_free_for, later, retry_of}
 use Rattle.send_core.specs.Finish.{bounce_on, looked_up, returned_to, sweep_begun}
 use Rattle.send_core.specs.Senders.{IsSaid}
-use Rattle.send_core.specs.Table.{Next, act, desk_after, due_at, row_now}
+use Rattle.send_core.specs.Table.{Next, act, place_after, due_at, row_now}
 use Rattle.send_core.specs.Turn.{begun_at, file_read, known_of, pass_opened, put_later, todo_on, todo_over, todo_went, unlinked}
 use Rattle.send_core.specs.declared.desk.Desk.{Desk}
 use Rattle.send_core.specs.declared.row.Point.TheVariants as point
@@ -407,10 +407,10 @@ module _ (S : ℕ → List ℕ → Type 0) (t : Facts) (d : Desk) (now : ℕ) (h
 
 -- After each run
 
-files_kept : (turns : Option ℕ) (past : List Own) → IsRunBy (Next turns) past → EachOf (Has (λ c n. has_in c n past)) (desk_after turns past).book.messages.known
+files_kept : (turns : Option ℕ) (past : List Own) → IsRunBy (Next turns) past → EachOf (Has (λ c n. has_in c n past)) (place_after turns past).book.messages.known
 files_kept turns [] run = tt
 files_kept turns (event ∷ before) run =
-    let d : Desk = desk_after turns before in
+    let d : Desk = place_after turns before in
     let row : Row = row_now d event.read event.ready in
     let may : MayCome (due_at row d) event.came = subst (λ (x : NeedData). MayCome x event.came) (sym run.1.0) run.1.1 in
     let says : KnowsAt (IsSaid before) (facts before) row d = arrive_says (IsSaid before) (facts before) d event.read event.ready d.row (all_kept turns before run.0).1 in
@@ -430,9 +430,9 @@ each_due has m (k ∷ ks) h w = (due_of has m k h.0 w.0, each_due has m ks h.1 w
 
 pub files_are_of_past : FilesAreOfPast
 files_are_of_past = record {
-  files = λ turns past run. all_of (Has (λ c n. has_in c n past)) (desk_after turns past).book.messages.known (files_kept turns past run);
+  files = λ turns past run. all_of (Has (λ c n. has_in c n past)) (place_after turns past).book.messages.known (files_kept turns past run);
   due = λ turns past run.
-      let m : Messages = (desk_after turns past).book.messages in
+      let m : Messages = (place_after turns past).book.messages in
       let has : Channel → ℕ → Bool = (λ c n. has_in c n past) in
       all_of (λ (k : Known). (c : Channel) → (has c k.n ≡ true) ↔ HasEntry k.n (due_on c m)) m.known (each_due has m m.known (files_kept turns past run) (filed_past turns past));
 }

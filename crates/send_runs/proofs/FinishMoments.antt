@@ -1,7 +1,7 @@
 -- From when messages may be finished.
 use Rattle.std.proofs.Common.{◌≡◌, ℕ, List, [], ◌∷◌, position, bytes_eq, Bool, true, false, not, if◌then◌else◌, Option, Some, None, refl, sym, ap, ◌∙◌, subst, eq-eqb}
 use Rattle.std.specs.Prelude.{◌||◌, ◌&&◌, ◌==◌}
-use Rattle.bounce_record.specs.Returning.{Returning, return_begun, return_due_at, notes_opened}
+use Rattle.bounce_record.specs.Returning.{Returning, return_begun, due_at as return_due_at, notes_opened}
 use Rattle.bounce_record.specs.declared.return_row.ReturnRow.TheVariants as back
 use Rattle.bounce_record.specs.declared.return_row.ReturnRow.{ReturnRow}
 use Rattle.call_fs.specs.Columns.{IsAnswerTo}
@@ -34,7 +34,7 @@ use Rattle.send_core.specs.Births.{births}
 use Rattle.send_core.specs.Desk.{closed_by, due_then, file_gone, has_begun, is_free_for, later, past_finish, retry_of, turn_over}
 use Rattle.send_core.specs.Finish.{bounce_on, finish_at, forgot, looked_up, put_off_to, returned_to, sweep_at, sweep_begun}
 use Rattle.send_core.specs.Senders.{IsSaid}
-use Rattle.send_core.specs.Table.{Next, act, arrive, desk_after, due_at, from_point, row_now}
+use Rattle.send_core.specs.Table.{Next, act, arrive, place_after, due_at, from_point, row_now}
 use Rattle.send_core.specs.Turn.{begun_at, file_read, known_of, pass_opened, put_later, todo_on, todo_over, todo_went, unlinked}
 use Rattle.send_core.specs.declared.desk.Desk.{Desk}
 use Rattle.send_core.specs.declared.row.Point.TheVariants as point
@@ -520,10 +520,10 @@ arrives_last : (row : Row) (d : Desk) (now : ℕ) (ready : Ready) (searched misr
 arrives_last (at.Turn p) d now ready searched misread h = calm_last (from_point p d now ready) d.bounce searched misread (point_calm d now ready p)
 arrives_last row d now ready searched misread h = h
 
-last_kept : (turns : Option ℕ) (past : List Own) → IsRunBy (Next turns) past → let d : Desk = desk_after turns past in LastAt d.row d.bounce (has_searched past) (has_misread past)
+last_kept : (turns : Option ℕ) (past : List Own) → IsRunBy (Next turns) past → let d : Desk = place_after turns past in LastAt d.row d.bounce (has_searched past) (has_misread past)
 last_kept turns [] run = tt
 last_kept turns (event ∷ before) run =
-    let d : Desk = desk_after turns before in
+    let d : Desk = place_after turns before in
     let row : Row = row_now d event.read event.ready in
     let may : MayCome (due_at row d) event.came = subst (λ (x : NeedData). MayCome x event.came) (sym run.1.0) run.1.1 in
     subst (λ (due : NeedData). LastAt (act row event.read event.came d).row (act row event.read event.came d).bounce (is_search due) (is_misread due event.came)) run.1.0
@@ -535,19 +535,19 @@ arrives_return row d now ready f h = h
 
 -- After each run
 
-return_kept : (turns : Option ℕ) (past : List Own) → IsRunBy (Next turns) past → let d : Desk = desk_after turns past in ReturnAt d.row d.bounce.n (returning past)
+return_kept : (turns : Option ℕ) (past : List Own) → IsRunBy (Next turns) past → let d : Desk = place_after turns past in ReturnAt d.row d.bounce.n (returning past)
 return_kept turns [] run = tt
 return_kept turns (event ∷ before) run =
-    let d : Desk = desk_after turns before in
+    let d : Desk = place_after turns before in
     let row : Row = row_now d event.read event.ready in
     let may : MayCome (due_at row d) event.came = subst (λ (x : NeedData). MayCome x event.came) (sym run.1.0) run.1.1 in
     subst (λ (due : NeedData). ReturnAt (act row event.read event.came d).row (act row event.read event.came d).bounce.n (returning_by (returning before) due)) run.1.0
     (row_return row event.read event.came d (returning before) may (arrives_return d.row d event.read event.ready (returning before) (return_kept turns before run.0)))
 
-finishes_kept : (turns : Option ℕ) (past : List Own) → IsRunBy (Next turns) past → EachKnown (λ n moment. moment ≡ finish_in n past) (desk_after turns past).book.messages.known
+finishes_kept : (turns : Option ℕ) (past : List Own) → IsRunBy (Next turns) past → EachKnown (λ n moment. moment ≡ finish_in n past) (place_after turns past).book.messages.known
 finishes_kept turns [] run = tt
 finishes_kept turns (event ∷ before) run =
-    let d : Desk = desk_after turns before in
+    let d : Desk = place_after turns before in
     let row : Row = row_now d event.read event.ready in
     let may : MayCome (due_at row d) event.came = subst (λ (x : NeedData). MayCome x event.came) (sym run.1.0) run.1.1 in
     let says : KnowsAt (IsSaid before) (facts before) row d = arrive_says (IsSaid before) (facts before) d event.read event.ready d.row (all_kept turns before run.0).1 in
@@ -562,4 +562,4 @@ finishes_kept turns (event ∷ before) run =
     (searched_here turns before event.read event.ready run.0))
 
 pub finishes_are_of_past : FinishesAreOfPast
-finishes_are_of_past turns past run = all_of (λ (k : Known). k.finish_at ≡ finish_in k.n past) (desk_after turns past).book.messages.known (finishes_kept turns past run)
+finishes_are_of_past turns past run = all_of (λ (k : Known). k.finish_at ≡ finish_in k.n past) (place_after turns past).book.messages.known (finishes_kept turns past run)

@@ -1,5 +1,5 @@
 -- Which record the mark at work is of: the first that is to be marked.
-use Rattle.bounce_record.specs.Writing.{Writing, written_on}
+use Rattle.bounce_record.specs.Writing.{Writing, moved as note_moved}
 use Rattle.call_fs.specs.Past.{IsRunBy}
 use Rattle.call_fs.specs.Program.{MayCome}
 use Rattle.call_fs.specs.declared.calls.Fd.{Fd}
@@ -14,7 +14,7 @@ use Rattle.send_core.specs.Agrees.{is_opened}
 use Rattle.send_core.specs.Desk.{closed_by, has_begun, is_free_for, link, request_sent, stands_at, with_requests}
 use Rattle.send_core.specs.Past.{Account, Work, account, work}
 use Rattle.send_core.specs.Start.{start_at, started}
-use Rattle.send_core.specs.Table.{Next, act, arrive, desk_after, due_at, from_point, row_now}
+use Rattle.send_core.specs.Table.{Next, act, arrive, place_after, due_at, from_point, row_now}
 use Rattle.send_core.specs.Turn.{act_mark, begin_note, begun_at, file_read, lost, mark_opened, mark_over, noted, pass_opened, put_later, requested, took, unlinked}
 use Rattle.send_core.specs.declared.desk.Desk.{Desk}
 use Rattle.send_core.specs.declared.row.MarkRow.TheVariants as mark
@@ -130,8 +130,8 @@ first_in P f al ar (mark.Write fd) m d fit h = h
 first_in P f al ar (mark.Close fd done) m d fit h = h
 
 mark_first : (row : MarkRow) (m : Marked) (got : GotData) (d : Desk) → (it : Mark) × (slice_get (lane m.channel d.slots).marks 0 ≡ Some it) × (m.n ≡ it.attempt.n) → let e : Desk = act_mark row m got d in FirstAt e.row e.slots
-mark_first mark.Note m got d is = let x : Desk = begin_note m d in let e : Desk = noted m got x in shut_first e.row e.slots (shut_noted (written_on x.note got).row m (record x { note = written_on x.note got }))
-mark_first mark.Noting m got d is = let e : Desk = noted m got d in shut_first e.row e.slots (shut_noted (written_on d.note got).row m (record d { note = written_on d.note got }))
+mark_first mark.Note m got d is = let x : Desk = begin_note m d in let e : Desk = noted m got x in shut_first e.row e.slots (shut_noted (note_moved x.note got).row m (record x { note = note_moved x.note got }))
+mark_first mark.Noting m got d is = let e : Desk = noted m got d in shut_first e.row e.slots (shut_noted (note_moved d.note got).row m (record d { note = note_moved d.note got }))
 mark_first mark.Open m got d is = opened_first (said got).way m (said got).fd d is
 mark_first (mark.Write fd) m got d is = is
 mark_first (mark.Close fd done) m got d is = let e : Desk = mark_over done m d in shut_first e.row e.slots (shut_marked done m d)
@@ -159,10 +159,10 @@ pub arrives_first : (row : Row) (d : Desk) (now : ℕ) (ready : Ready) → First
 arrives_first (at.Turn p) d now ready h = fresh_first (from_point p d now ready) d.slots (point_fresh d now ready p)
 arrives_first row d now ready h = h
 
-pub first_kept : (turns : Option ℕ) (past : List Own) → IsRunBy (Next turns) past → let d : Desk = desk_after turns past in FirstAt d.row d.slots
+pub first_kept : (turns : Option ℕ) (past : List Own) → IsRunBy (Next turns) past → let d : Desk = place_after turns past in FirstAt d.row d.slots
 first_kept turns [] run = tt
 first_kept turns (event ∷ before) run =
-    let d : Desk = desk_after turns before in
+    let d : Desk = place_after turns before in
     let row : Row = row_now d event.read event.ready in
     let may : MayCome (due_at row d) event.came = subst (λ (x : NeedData). MayCome x event.came) (sym run.1.0) run.1.1 in
     let fit = arrives (Was before) (work before) (account Local before) (account Remote before) (frees before) d.row d event.read event.ready (keeps turns before run.0).0 in

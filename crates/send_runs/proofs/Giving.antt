@@ -33,8 +33,8 @@ use Rattle.bounce_record.specs.declared.note_row.NoteRow.{NoteRow}
 use Rattle.bounce_record.specs.declared.note_row.NoteRow.TheVariants as written
 use Rattle.bounce_record.specs.declared.return_row.ReturnRow.{ReturnRow}
 use Rattle.bounce_record.specs.declared.return_row.ReturnRow.TheVariants as back
-use Rattle.bounce_record.specs.Returning.{Returning, return_due_at}
-use Rattle.bounce_record.specs.Writing.{Writing, writing_due_at}
+use Rattle.bounce_record.specs.Returning.{Returning, due_at as return_due_at}
+use Rattle.bounce_record.specs.Writing.{Writing, due_at as note_due_at}
 use Rattle.queue_paths.specs.declared.names.Name.TheVariants as name
 use Rattle.send_core.specs.Table.{due_at}
 use Rattle.send_core.specs.declared.desk.Desk.{Desk}
@@ -265,7 +265,7 @@ own_reading (Going fd) opening read e = tt
 own_reading (Closing fd) opening read e = tt
 own_reading (Shutting fd) opening read e = tt
 
-own_note : (row : NoteRow) (w : Writing) → IsOwn (writing_due_at row w)
+own_note : (row : NoteRow) (w : Writing) → IsOwn (note_due_at row w)
 own_note written.Written w = tt
 own_note row w = tt
 

@@ -10,8 +10,8 @@ use Rattle.bounce_record.specs.declared.note_row.NoteRow.{NoteRow}
 use Rattle.bounce_record.specs.declared.note_row.NoteRow.TheVariants as written
 use Rattle.bounce_record.specs.declared.return_row.ReturnRow.{ReturnRow}
 use Rattle.bounce_record.specs.declared.return_row.ReturnRow.TheVariants as back
-use Rattle.bounce_record.specs.Returning.{Returning, return_begun, return_due_at}
-use Rattle.bounce_record.specs.Writing.{Writing, writing_due_at}
+use Rattle.bounce_record.specs.Returning.{Returning, return_begun, due_at as return_due_at}
+use Rattle.bounce_record.specs.Writing.{Writing, due_at as note_due_at}
 use Rattle.call_fs.specs.Columns.{IsAnswerTo}
 use Rattle.call_fs.specs.Past.{IsRunBy}
 use Rattle.call_fs.specs.Program.{MayCome}
@@ -44,7 +44,7 @@ use Rattle.send_core.specs.Births.{births}
 use Rattle.send_core.specs.Desk.{closed_by, due_then, file_gone, has_begun, is_free_for, later, never, retry_of}
 use Rattle.send_core.specs.Finish.{bounce_on, forgot, looked_up, put_off_to, returned_to, sweep_at, sweep_begun}
 use Rattle.send_core.specs.Senders.{IsSaid}
-use Rattle.send_core.specs.Table.{Next, act, arrive, desk_after, due_at, from_point, row_now}
+use Rattle.send_core.specs.Table.{Next, act, arrive, place_after as sender_after, due_at, from_point, row_now}
 use Rattle.send_core.specs.Turn.{begun_at, file_read, known_of, pass_opened, put_later, todo_on, todo_over, todo_went, unlinked}
 use Rattle.send_core.specs.declared.desk.Desk.{Desk}
 use Rattle.send_core.specs.declared.row.MarkRow.{MarkRow}
@@ -211,7 +211,7 @@ reading_still (Going fd) opening read e = λ got command n was. refl
 reading_still (Closing fd) opening read e = λ got command n was. refl
 reading_still (Shutting fd) opening read e = λ got command n was. refl
 
-pub note_still : (row : NoteRow) (w : Writing) → Still (writing_due_at row w)
+pub note_still : (row : NoteRow) (w : Writing) → Still (note_due_at row w)
 note_still (written.Stat fd) w = stat_still (NameOf BounceFile w.n) (λ told n was. refl)
 note_still written.Written w = λ got command n was. refl
 note_still row w = λ got command n was. refl
@@ -612,10 +612,10 @@ module _ (S : ℕ → List ℕ → Type 0) (t : Facts) (d : Desk) (now : ℕ) (o
   row_to (at.Ended status) got may says none = absurd may
 
 known_kept : (turns : Option ℕ) (past : List Own) → IsRunBy (Next turns) past
-    → let d : Desk = desk_after turns past in ((n : ℕ) → is_known n d.book.messages.known ≡ known_in past n) × Unswept d.row d.book.messages.known
+    → let d : Desk = sender_after turns past in ((n : ℕ) → is_known n d.book.messages.known ≡ known_in past n) × Unswept d.row d.book.messages.known
 known_kept turns [] run = ((λ n. refl), tt)
 known_kept turns (event ∷ before) run =
-    let d : Desk = desk_after turns before in
+    let d : Desk = sender_after turns before in
     let row : Row = row_now d event.read event.ready in
     let was = known_kept turns before run.0 in
     let may : MayCome (due_at row d) event.came = subst (λ (x : NeedData). MayCome x event.came) (sym run.1.0) run.1.1 in

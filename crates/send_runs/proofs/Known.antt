@@ -10,7 +10,7 @@ use Rattle.send_core.proofs.Runs.{all_kept, facts}
 use Rattle.send_core.specs.Agrees.{has_ended}
 use Rattle.send_core.specs.Births.{births}
 use Rattle.send_core.specs.Senders.{IsSaid}
-use Rattle.send_core.specs.Table.{desk_after}
+use Rattle.send_core.specs.Table.{place_after}
 use Rattle.send_core.specs.declared.desk.Desk.{Desk}
 use Rattle.send_core.specs.declared.row.Row.{Row}
 use Rattle.send_core.specs.declared.row.Row.TheVariants as at
@@ -49,7 +49,7 @@ first_of low (k ∷ ks) (suc i) d lt h =
 
 pub known_are_of_past : KnownAreOfPast
 known_are_of_past turns past run alive =
-    let d : Desk = desk_after turns past in
+    let d : Desk = place_after turns past in
     let m : Messages = d.book.messages in
     let w : Sound (IsSaid past) (births past).of m = sound_of (IsSaid past) (facts past) d.row d alive (all_kept turns past run).1 in
     record {

@@ -31,7 +31,7 @@ use Rattle.send_core.specs.Past.{Account, Happening, Task, Work, account, accoun
 use Rattle.send_core.specs.Past.Happening.{Gives, GivesUp, Marks, Nothing, Reads as ReadsFile, Takes}
 use Rattle.send_core.specs.Senders.{IsSaid}
 use Rattle.send_core.specs.Start.{start_at}
-use Rattle.send_core.specs.Table.{Next, act, arrive, desk_after, due_at, from_point, row_now}
+use Rattle.send_core.specs.Table.{Next, act, arrive, place_after, due_at, from_point, row_now}
 use Rattle.send_core.specs.Turn.{requested, took}
 use Rattle.send_core.specs.declared.desk.Desk.{Desk}
 use Rattle.send_core.specs.declared.row.MarkRow.{MarkRow}
@@ -390,27 +390,27 @@ arrived_limits : (P : MarkRow → Option Mark → Marked → Writing → Type 0)
 arrived_limits P f a k (at.Turn p) d now ready was fit h = arrives_limits P f a k (at.Turn p) (from_point p d now ready) d d was.0.3 fit h
 arrived_limits P f a k row d now ready was fit h = h
 
-pub limits_kept : (turns : Option ℕ) (past : List Own) → IsRunBy (Next turns) past → LimitsBy (λ c. account c past) (controls_told past) (desk_after turns past).row (desk_after turns past).slots
+pub limits_kept : (turns : Option ℕ) (past : List Own) → IsRunBy (Next turns) past → LimitsBy (λ c. account c past) (controls_told past) (place_after turns past).row (place_after turns past).slots
 limits_kept turns [] run = tt
 limits_kept turns (event ∷ before) run =
     let past : List Own = event ∷ before in
     let a : Channel → Account = (λ c. account c before) in
-    let d : Desk = desk_after turns before in
+    let d : Desk = place_after turns before in
     let row : Row = row_now d event.read event.ready in
     let may : MayCome (due_at row d) event.came = subst (λ (x : NeedData). MayCome x event.came) (sym run.1.0) run.1.1 in
     let was = (keeps turns before run.0).0 in
     let fit = arrives (Was before) (work before) (account Local before) (account Remote before) (frees before) d.row d event.read event.ready was in
     let says : KnowsAt (IsSaid before) (facts before) row d = arrive_says (IsSaid before) (facts before) d event.read event.ready d.row (all_kept turns before run.0).1 in
     let h : LimitsBy a (controls_told before) row d.slots = arrived_limits (Was before) (work before) a (controls_told before) d.row d event.read event.ready was fit (limits_kept turns before run.0) in
-    let e : Desk = desk_after turns past in
+    let e : Desk = place_after turns past in
     subst (λ (due : NeedData). Lands (IsSaid before) (facts before) event.read (Was before) (work before) a d due event.came (act row event.read event.came d)) run.1.0
     (row_limits (IsSaid before) (facts before) event.read (Was before) (work before) a d row event.came may fit says h)
     (fit_greets (Was past) (work past) (λ c. account c past) e.row e (keeps turns past run).0)
 
 -- so it is where the next event begins
-pub limits_here : (turns : Option ℕ) (past : List Own) (now : ℕ) (ready : Ready) → IsRunBy (Next turns) past → LimitsBy (λ c. account c past) (controls_told past) (row_now (desk_after turns past) now ready) (desk_after turns past).slots
+pub limits_here : (turns : Option ℕ) (past : List Own) (now : ℕ) (ready : Ready) → IsRunBy (Next turns) past → LimitsBy (λ c. account c past) (controls_told past) (row_now (place_after turns past) now ready) (place_after turns past).slots
 limits_here turns past now ready run =
-    let d : Desk = desk_after turns past in
+    let d : Desk = place_after turns past in
     let was = (keeps turns past run).0 in
     let fit = arrives (Was past) (work past) (account Local past) (account Remote past) (frees past) d.row d now ready was in
     arrived_limits (Was past) (work past) (λ c. account c past) (controls_told past) d.row d now ready was fit (limits_kept turns past run)

@@ -11,7 +11,7 @@ use Rattle.send_core.specs.declared.row.Row.{Row}
 use Rattle.send_core.specs.declared.row.Row.TheVariants as at
 use Rattle.send_core.specs.Desk.{closed_by, has_begun, is_free_for, later, never, retry_of}
 use Rattle.send_core.specs.Finish.{act_finish, bounce_on, looked_up, returned_to, sweep_begun}
-use Rattle.send_core.specs.Table.{act, desk_after, row_now}
+use Rattle.send_core.specs.Table.{act, place_after, row_now}
 use Rattle.send_core.specs.Turn.{begun_at, file_read, known_of, pass_opened, put_later, todo_went, unlinked}
 use Rattle.send_jobs.specs.declared.channels.Channel.{Channel}
 use Rattle.send_jobs.specs.declared.channels.Channel.TheVariants.{Local, Remote}
@@ -137,7 +137,7 @@ module _ (P : Messages → Type 0) (keep : Keeps P) where
   of_row (at.Sweep row) now got d h = of_swept Any (sweep_to row now (said got) d.book) (looked_up row (said got) (sweep_begun row now d)) (of_looked Any row (said got) now d h)
   of_row (at.Ended status) now got d h = h
 
-  pub of_past : (turns : Option ℕ) (past : List Own) → P (desk_after turns past).book.messages
+  pub of_past : (turns : Option ℕ) (past : List Own) → P (place_after turns past).book.messages
   of_past turns [] = keep.none
   of_past turns (event ∷ before) =
-      let d : Desk = desk_after turns before in of_row (row_now d event.read event.ready) event.read event.came d (of_past turns before)
+      let d : Desk = place_after turns before in of_row (row_now d event.read event.ready) event.read event.came d (of_past turns before)

@@ -6,8 +6,8 @@ use Rattle.bounce_record.specs.declared.note_row.NoteRow.{NoteRow}
 use Rattle.bounce_record.specs.declared.note_row.NoteRow.TheVariants as written
 use Rattle.bounce_record.specs.declared.return_row.ReturnRow.{ReturnRow}
 use Rattle.bounce_record.specs.declared.return_row.ReturnRow.TheVariants as back
-use Rattle.bounce_record.specs.Returning.{Returning, return_due_at}
-use Rattle.bounce_record.specs.Writing.{Writing, writing_due_at}
+use Rattle.bounce_record.specs.Returning.{Returning, due_at as return_due_at}
+use Rattle.bounce_record.specs.Writing.{Writing, due_at as note_due_at}
 use Rattle.call_fs.specs.declared.calls.Answer.{Answer}
 use Rattle.call_fs.specs.declared.calls.CallData.TheVariants as call
 use Rattle.call_fs.specs.declared.calls.Fd.{Fd}
@@ -143,7 +143,7 @@ module _ (c : Channel) (n now : ℕ) (command : List ℕ) (clears : Bool) (f : O
   quiet_reading (Closing fd) opening read e = quiet_close fd
   quiet_reading (Shutting fd) opening read e = quiet_close fd
 
-  quiet_note : (row : NoteRow) (w : Writing) → Quiet (writing_due_at row w)
+  quiet_note : (row : NoteRow) (w : Writing) → Quiet (note_due_at row w)
   quiet_note (written.Stat fd) w = quiet_stat (NameOf BounceFile w.n) (λ told. tt)
   quiet_note (written.Close fd) w = quiet_close fd
   quiet_note (written.Shut fd) w = quiet_close fd

@@ -6,8 +6,8 @@ use Rattle.bounce_record.specs.declared.note_row.NoteRow.{NoteRow}
 use Rattle.bounce_record.specs.declared.note_row.NoteRow.TheVariants as written
 use Rattle.bounce_record.specs.declared.return_row.ReturnRow.{ReturnRow}
 use Rattle.bounce_record.specs.declared.return_row.ReturnRow.TheVariants as back
-use Rattle.bounce_record.specs.Returning.{Returning, return_due_at}
-use Rattle.bounce_record.specs.Writing.{Writing, writing_due_at}
+use Rattle.bounce_record.specs.Returning.{Returning, due_at as return_due_at}
+use Rattle.bounce_record.specs.Writing.{Writing, due_at as note_due_at}
 use Rattle.call_fs.specs.declared.calls.How.TheVariants as how
 use Rattle.call_fs.specs.declared.past.GotData.{GotData}
 use Rattle.call_fs.specs.declared.past.GotData.TheVariants as came
@@ -26,7 +26,7 @@ use Rattle.send_core.specs.Log.{lines_at, report_lines, taken_lines, told_lines}
 use Rattle.send_core.specs.Papers.{controls_told}
 use Rattle.send_core.specs.Past.{Account, Task, Work, account, settle, settle_by, work}
 use Rattle.send_core.specs.Past.Happening.{Nothing, Takes}
-use Rattle.send_core.specs.Table.{desk_after, due_at, row_now}
+use Rattle.send_core.specs.Table.{place_after as sender_after, due_at, row_now}
 use Rattle.send_core.specs.declared.desk.Desk.{Desk}
 use Rattle.send_core.specs.declared.row.MarkRow.{MarkRow}
 use Rattle.send_core.specs.declared.row.MarkRow.TheVariants as mark
@@ -134,7 +134,7 @@ module _ (c : Channel) (got : GotData) where
   none_reading Opening opening read e = e
   none_reading reading opening read e = refl
 
-  none_note : (row : NoteRow) (w : Writing) → taken_by (writing_due_at row w) got c ≡ Nothing
+  none_note : (row : NoteRow) (w : Writing) → taken_by (note_due_at row w) got c ≡ Nothing
   none_note written.Written w = refl
   none_note row w = refl
 
@@ -239,7 +239,7 @@ module _ (a : Channel → Account) (k : Controls) (now count : ℕ) (of : Channe
 
 pub reports_are_logged : ReportsAreLogged
 reports_are_logged turns past event run c bytes is =
-    let d : Desk = desk_after turns past in
+    let d : Desk = sender_after turns past in
     let row : Row = row_now d event.read event.ready in
     let a : Channel → Account = (λ e. account e past) in
     let fit = arrives (Was past) (work past) (account Local past) (account Remote past) (frees past) d.row d event.read event.ready (keeps turns past run.0).0 in

@@ -6,8 +6,8 @@ use Rattle.bounce_record.specs.declared.note_row.NoteRow.{NoteRow}
 use Rattle.bounce_record.specs.declared.note_row.NoteRow.TheVariants as written
 use Rattle.bounce_record.specs.declared.return_row.ReturnRow.{ReturnRow}
 use Rattle.bounce_record.specs.declared.return_row.ReturnRow.TheVariants as back
-use Rattle.bounce_record.specs.Returning.{Returning, return_due_at}
-use Rattle.bounce_record.specs.Writing.{Writing, writing_due_at}
+use Rattle.bounce_record.specs.Returning.{Returning, due_at as return_due_at}
+use Rattle.bounce_record.specs.Writing.{Writing, due_at as note_due_at}
 use Rattle.call_fs.specs.Disk.{Among}
 use Rattle.call_fs.specs.Past.{IsRunBy}
 use Rattle.call_fs.specs.Program.{MayCome}
@@ -30,7 +30,7 @@ use Rattle.send_core.specs.Agrees.{task_of}
 use Rattle.send_core.specs.Booked.{booked_at, finished_at, if_done, if_ok, if_zero, marked_at, noted_at, reported_all, reported_by, reported_if, reported_in, returned_at}
 use Rattle.send_core.specs.Desk.{deferred, failure_in, is_final, retried_if, settle as settle_desk, told, told_by, waits, with_reader}
 use Rattle.send_core.specs.Past.{Account, Work, account, news, settle, settle_all, settle_by, work, Task}
-use Rattle.send_core.specs.Table.{Next, desk_after, due_at, row_now}
+use Rattle.send_core.specs.Table.{Next, place_after as sender_after, due_at, row_now}
 use Rattle.send_core.specs.declared.desk.Desk.{Desk}
 use Rattle.send_core.specs.declared.row.MarkRow.{MarkRow}
 use Rattle.send_core.specs.declared.row.MarkRow.TheVariants as mark
@@ -160,7 +160,7 @@ module _ (al ar : Account) where
     by false = refl
   zero_silent got n = refl
 
-  note_says : (row : NoteRow) (w : Writing) (m : Marked) (got : GotData) → filter is_report (noted_at row m got) ≡ Said (writing_due_at row w) got
+  note_says : (row : NoteRow) (w : Writing) (m : Marked) (got : GotData) → filter is_report (noted_at row m got) ≡ Said (note_due_at row w) got
   note_says (written.Sync fd) w m got = done_silent got (Noted m.channel m.n m.place) refl
   note_says row w m got = refl
 
@@ -235,7 +235,7 @@ module _ (al ar : Account) where
 
 pub entries_are_reports : EntriesAreReports
 entries_are_reports turns past event run =
-    let d : Desk = desk_after turns past in
+    let d : Desk = sender_after turns past in
     let row : Row = row_now d event.read event.ready in
     let may : MayCome (due_at row d) event.came = subst (λ (x : NeedData). MayCome x event.came) (sym run.1.0) run.1.1 in
     row_says (account Local past) (account Remote past) (Was past) (work past) row d event.came
@@ -378,7 +378,7 @@ among_all x (e ∷ es) h = all_by (is_report e) x e es (filter is_report es) (am
 
 module _ (turns : Option ℕ) (past : List Own) (event : Own) (run : IsRunBy (Next turns) (event ∷ past)) (delivered : Bool) (n place : ℕ) where
   abbrev Entry : List Booking
-  Entry = let d = desk_after turns past in booked_at (row_now d event.read event.ready) event.came d
+  Entry = let d = sender_after turns past in booked_at (row_now d event.read event.ready) event.came d
 
   of_said : (c e : Channel) → Among (Reported delivered c n place) (said_at e past event) → WasReported past event delivered c n place
   of_said c e h =

@@ -2,7 +2,7 @@
 use Rattle.std.proofs.Common.{◌≡◌, ℕ, List, length, nat_lt, Bool, true, false, not, if◌then◌else◌, Option, Some, None, refl, sym, ap, ◌∙◌}
 use Rattle.std.specs.Prelude.{◌&&◌, ◌==◌}
 use Rattle.address_rules.specs.declared.controls.Controls.{Controls}
-use Rattle.bounce_record.specs.Returning.{Returning, goes, made, message_read, notes_read, return_due_at, returned_at, answered, awaited_row, bounce_at, given_row, message_opened, notes_opened, started_row, unlinked_row}
+use Rattle.bounce_record.specs.Returning.{Returning, goes, made, message_read, notes_read, due_at as return_due_at, moved_at as return_moved_at, answered, awaited_row, bounce_at, given_row, message_opened, notes_opened, started_row, unlinked_row}
 use Rattle.bounce_record.specs.declared.bounces.Bounce.{Bounce}
 use Rattle.bounce_record.specs.declared.return_row.ReturnRow.TheVariants as back
 use Rattle.bounce_record.specs.declared.return_row.ReturnRow.{ReturnRow}
@@ -63,7 +63,7 @@ module _ (c : Controls) (sender : List ℕ) (r : Returning) (now : ℕ) where
   answered_n back.Discard told bytes = returning_goes r (unlinked_row told)
   answered_n row told bytes = refl
 
-  pub returned_n : (row : ReturnRow) (got : GotData) → (returned_at c sender row r now got).n ≡ r.n
+  pub returned_n : (row : ReturnRow) (got : GotData) → (return_moved_at c sender row r now got).n ≡ r.n
   returned_n back.Start got = returning_goes r (started_row got)
   returned_n (back.Give pid) got = returning_goes r (given_row pid got)
   returned_n (back.Await pid) got = returning_goes r (awaited_row got)
@@ -136,7 +136,7 @@ module _ (c : Controls) (sender : List ℕ) (r : Returning) (now : ℕ) where
   shut_answered back.Discard told may = shut_goes r (unlinked_row told.answer) false (shut_unlinked told.answer false)
   shut_answered row told may = absurd may
 
-  pub shut_returned : (row : ReturnRow) (got : GotData) → MayCome (return_due_at row r) got → ShutAt (returned_at c sender row r now got).row (is_misread (return_due_at row r) got)
+  pub shut_returned : (row : ReturnRow) (got : GotData) → MayCome (return_due_at row r) got → ShutAt (return_moved_at c sender row r now got).row (is_misread (return_due_at row r) got)
   shut_returned back.Start got may = shut_goes r (started_row got) false (shut_started got false)
   shut_returned (back.Give pid) got may = shut_goes r (given_row pid got) false (shut_given pid got false)
   shut_returned (back.Await pid) got may = shut_goes r (awaited_row got) false (shut_awaited got false)
@@ -240,7 +240,7 @@ module _ (k : ℕ) (f : Option ℕ) (searched misread : Bool) where
     at_work : (fails : Bool) (row : ReturnRow) → fails ≡ is_failed row → Just (fails && is_message k f) (goes r row).row
     at_work fails row e = goes_just (fails && is_message k f) row (ap (λ (b : Bool). b && is_message k f) e ∙ ap (λ (b : Bool). is_failed row && b) of_it)
 
-    pub return_just : (row : ReturnRow) (got : GotData) → MayCome (return_due_at row r) got → ShutAt row misread → Just (Fails (return_due_at row r) got) (returned_at c sender row r now got).row
+    pub return_just : (row : ReturnRow) (got : GotData) → MayCome (return_due_at row r) got → ShutAt row misread → Just (Fails (return_due_at row r) got) (return_moved_at c sender row r now got).row
     return_just back.Start got may shut = at_work (isnt_started got) (started_row got) (started_fails got)
     return_just (back.Give pid) got may shut = at_work (isnt_given got) (given_row pid got) (given_fails pid got)
     return_just (back.Await pid) got may shut = at_work (isnt_queued got) (awaited_row got) (awaited_fails got)

@@ -11,7 +11,7 @@ use Rattle.call_fs.specs.declared.past.Own.{Own}
 use Rattle.retry_schedule.specs.Due.{IsFirst, IsSchedule, first_due, is_due, moved, put, removed}
 use Rattle.retry_schedule.proofs.Entries.{free_removed, head_first, none_first, schedule_added, schedule_removed}
 use Rattle.send_core.proofs.Lists.{none_passes}
-use Rattle.send_core.specs.Table.{desk_after}
+use Rattle.send_core.specs.Table.{place_after}
 use Rattle.send_jobs.specs.declared.channels.Channel.{Channel}
 use Rattle.send_jobs.specs.declared.channels.Channel.TheVariants.{Local, Remote}
 use Rattle.send_jobs.specs.Tries.{due_on, due_then, file_gone}
@@ -179,8 +179,8 @@ in_order m h = record { known = rising 0 m.known h.0; least = λ now. least now 
   due Local = h.1
   due Remote = h.2
 
-pub rise_past : (turns : Option ℕ) (past : List Own) → RiseFrom 0 (desk_after turns past).book.messages.known
+pub rise_past : (turns : Option ℕ) (past : List Own) → RiseFrom 0 (place_after turns past).book.messages.known
 rise_past turns past = (of_past Rises keep turns past).0
 
 pub known_numbers_rise : KnownNumbersRise
-known_numbers_rise turns past = in_order (desk_after turns past).book.messages (of_past Rises keep turns past)
+known_numbers_rise turns past = in_order (place_after turns past).book.messages (of_past Rises keep turns past)

@@ -15,7 +15,7 @@ use Rattle.send_core.proofs.Coming.{by_file}
 use Rattle.send_core.specs.Desk.{past_todo}
 use Rattle.send_core.specs.Finish.{looked_up, sweep_begun}
 use Rattle.send_core.specs.Start.{start_at, started}
-use Rattle.send_core.specs.Table.{Next, act, arrive, desk_after, due_at, from_point, row_now}
+use Rattle.send_core.specs.Table.{Next, act, arrive, place_after, due_at, from_point, row_now}
 use Rattle.send_core.specs.Turn.{begun_at, is_done, known_of, todo_found, todo_named, todo_none, todo_on, todo_over, todo_went}
 use Rattle.send_core.specs.declared.desk.Desk.{Desk}
 use Rattle.send_core.specs.declared.row.Row.{Row}
@@ -176,13 +176,13 @@ row_searched (at.Sweep row) now got d may =
     near_searched (is_search (due_at (at.Sweep row) d)) e.row e.pass (near_swept (sweep_to row now (said got) d.book) (looked_up row (said got) (sweep_begun row now d)))
 row_searched (at.Ended status) now got d may = absurd may
 
-searched_kept : (turns : Option ℕ) (past : List Own) → IsRunBy (Next turns) past → SearchedAt (desk_after turns past).row (desk_after turns past).pass (has_searched past)
+searched_kept : (turns : Option ℕ) (past : List Own) → IsRunBy (Next turns) past → SearchedAt (place_after turns past).row (place_after turns past).pass (has_searched past)
 searched_kept turns [] run = tt
 searched_kept turns (event ∷ before) run =
-    let d : Desk = desk_after turns before in
+    let d : Desk = place_after turns before in
     let row : Row = row_now d event.read event.ready in
     let may : MayCome (due_at row d) event.came = subst (λ (x : NeedData). MayCome x event.came) (sym run.1.0) run.1.1 in
-    let e : Desk = desk_after turns (event ∷ before) in
+    let e : Desk = place_after turns (event ∷ before) in
     subst (λ (due : NeedData). SearchedAt e.row e.pass (is_search due)) run.1.0 (row_searched row event.read event.came d may)
 
 arrives_searched : (row : Row) (d : Desk) (b : Bool) (now : ℕ) (ready : Ready) → SearchedAt row d.pass b → SearchedAt (arrive row d now ready) d.pass b
@@ -190,5 +190,5 @@ arrives_searched (at.Turn p) d b now ready h = near_searched b (from_point p d n
 arrives_searched row d b now ready h = h
 
 -- so it is where the next event begins
-pub searched_here : (turns : Option ℕ) (past : List Own) (now : ℕ) (ready : Ready) → IsRunBy (Next turns) past → SearchedAt (row_now (desk_after turns past) now ready) (desk_after turns past).pass (has_searched past)
-searched_here turns past now ready run = let d : Desk = desk_after turns past in arrives_searched d.row d (has_searched past) now ready (searched_kept turns past run)
+pub searched_here : (turns : Option ℕ) (past : List Own) (now : ℕ) (ready : Ready) → IsRunBy (Next turns) past → SearchedAt (row_now (place_after turns past) now ready) (place_after turns past).pass (has_searched past)
+searched_here turns past now ready run = let d : Desk = place_after turns past in arrives_searched d.row d (has_searched past) now ready (searched_kept turns past run)

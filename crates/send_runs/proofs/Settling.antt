@@ -3,7 +3,7 @@ use Rattle.std.proofs.Common.{◌≡◌, ℕ, List, [], ◌∷◌, length, nat_l
 use Rattle.std.specs.Prelude.{◌&&◌}
 use Rattle.bounce_record.specs.declared.note_row.NoteRow.{NoteRow}
 use Rattle.bounce_record.specs.declared.note_row.NoteRow.TheVariants as written
-use Rattle.bounce_record.specs.Writing.{written_on}
+use Rattle.bounce_record.specs.Writing.{moved as note_moved}
 use Rattle.call_fs.specs.declared.calls.Fd.{Fd}
 use Rattle.call_fs.specs.declared.past.GotData.{GotData}
 use Rattle.send_core.specs.declared.desk.Desk.{Desk}
@@ -102,7 +102,7 @@ module _ (P : Messages → Lane → Lane → Type 0) (it : Settles P) where
   of_noted row m d h = h
 
   of_note : (m : Marked) (got : GotData) (d : Desk) → Of d → Of (noted m got d)
-  of_note m got d h = of_noted (written_on d.note got).row m (record d { note = written_on d.note got }) h
+  of_note m got d h = of_noted (note_moved d.note got).row m (record d { note = note_moved d.note got }) h
 
   pub settled_mark : (row : MarkRow) (m : Marked) (got : GotData) (d : Desk) → Of d → Of (act_mark row m got d)
   settled_mark mark.Note m got d h = of_note m got (begin_note m d) h
@@ -143,7 +143,7 @@ goes_noted written.Failed m d = goes_marked false m d
 goes_noted row m d = refl
 
 goes_note : (m : Marked) (got : GotData) (d : Desk) → Goes (noted m got d)
-goes_note m got d = goes_noted (written_on d.note got).row m (record d { note = written_on d.note got })
+goes_note m got d = goes_noted (note_moved d.note got).row m (record d { note = note_moved d.note got })
 
 pub mark_goes : (row : MarkRow) (m : Marked) (got : GotData) (d : Desk) → has_ended (act_mark row m got d).row ≡ false
 mark_goes mark.Note m got d = goes_note m got (begin_note m d)

@@ -6,7 +6,7 @@ use Rattle.address_rules.specs.Files.{place}
 use Rattle.bounce_record.specs.declared.note_row.NoteRow.{NoteRow}
 use Rattle.bounce_record.specs.declared.note_row.NoteRow.TheVariants as written
 use Rattle.bounce_record.specs.Returning.{return_begun}
-use Rattle.bounce_record.specs.Writing.{written_on}
+use Rattle.bounce_record.specs.Writing.{moved as note_moved}
 use Rattle.call_fs.specs.declared.calls.Fd.{Fd}
 use Rattle.call_fs.specs.declared.past.GotData.{GotData}
 use Rattle.envelope_records.specs.declared.channel.Record.{Record}
@@ -123,7 +123,7 @@ module _ (s : Slots) where
   of_noted row m d h = h
 
   of_note : (m : Marked) (got : GotData) (d : Desk) → Of d → Of (noted m got d)
-  of_note m got d h = of_noted (written_on d.note got).row m (record d { note = written_on d.note got }) h
+  of_note m got d h = of_noted (note_moved d.note got).row m (record d { note = note_moved d.note got }) h
 
   of_mark : (row : MarkRow) (m : Marked) (got : GotData) (d : Desk) → Of d → Of (act_mark row m got d)
   of_mark mark.Note m got d h = of_note m got (begin_note m d) h

@@ -8,7 +8,7 @@ use Rattle.address_rules.specs.declared.control_file.ControlFile.TheVariants as 
 use Rattle.address_rules.specs.Files.{Fault, first_fault, place}
 use Rattle.bounce_record.specs.declared.note_row.NoteRow.{NoteRow}
 use Rattle.bounce_record.specs.declared.note_row.NoteRow.TheVariants as written
-use Rattle.bounce_record.specs.Writing.{written_on}
+use Rattle.bounce_record.specs.Writing.{moved as note_moved}
 use Rattle.call_fs.specs.declared.calls.Fd.{Fd}
 use Rattle.call_fs.specs.declared.past.GotData.{GotData}
 use Rattle.mail_bytes.specs.Decimal.{digits}
@@ -258,7 +258,7 @@ module _ (P : Messages → List Job → List Job → Type 0) where
     of_noted row m d h = h
 
     of_note : (m : Marked) (got : GotData) (d : Desk) → Of P d → Of P (noted m got d)
-    of_note m got d h = of_noted (written_on d.note got).row m (record d { note = written_on d.note got }) h
+    of_note m got d h = of_noted (note_moved d.note got).row m (record d { note = note_moved d.note got }) h
 
     pub of_mark : (row : MarkRow) (m : Marked) (got : GotData) (d : Desk) → Of P d → Of P (act_mark row m got d)
     of_mark mark.Note m got d h = of_note m got (begin_note m d) h

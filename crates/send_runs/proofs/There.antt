@@ -24,7 +24,7 @@ use Rattle.send_core.proofs.Coming.{by_file}
 use Rattle.send_core.specs.Desk.{past_todo}
 use Rattle.send_core.specs.Finish.{looked_up, sweep_begun}
 use Rattle.send_core.specs.Start.{start_at}
-use Rattle.send_core.specs.Table.{Next, act, arrive, desk_after, due_at, from_point, row_now}
+use Rattle.send_core.specs.Table.{Next, act, arrive, place_after, due_at, from_point, row_now}
 use Rattle.send_core.specs.Turn.{begun_at, is_done, known_of, todo_found, todo_named, todo_none, todo_on, todo_over, todo_went}
 use Rattle.send_core.specs.declared.desk.Desk.{Desk}
 use Rattle.send_core.specs.declared.row.Row.{Row}
@@ -434,17 +434,17 @@ module _ (th : Channel → ℕ → Bool) (now : ℕ) (d : Desk) where
   row_there (at.Sweep row) got may h = near_to (at.Sweep row) got (near_swept (sweep_to row now (said got) d.book) (looked_up row (said got) (sweep_begun row now d)))
   row_there (at.Ended status) got may h = absurd may
 
-there_kept : (turns : Option ℕ) (past : List Own) → IsRunBy (Next turns) past → ThereAt (λ c n. there_in c n past) (desk_after turns past).row (desk_after turns past).pass
+there_kept : (turns : Option ℕ) (past : List Own) → IsRunBy (Next turns) past → ThereAt (λ c n. there_in c n past) (place_after turns past).row (place_after turns past).pass
 there_kept turns [] run = tt
 there_kept turns (event ∷ before) run =
-    let d : Desk = desk_after turns before in
+    let d : Desk = place_after turns before in
     let row : Row = row_now d event.read event.ready in
     let th : Channel → ℕ → Bool = (λ c n. there_in c n before) in
     let may : MayCome (due_at row d) event.came = subst (λ (x : NeedData). MayCome x event.came) (sym run.1.0) run.1.1 in
     let h : ThereAt th row d.pass = arrives_there th d.row d event.read event.ready (there_kept turns before run.0) in
-    let e : Desk = desk_after turns (event ∷ before) in
+    let e : Desk = place_after turns (event ∷ before) in
     subst (λ (due : NeedData). ThereAt (λ c n. there_by c n due event.came (there_in c n before)) e.row e.pass) run.1.0 (row_there th event.read d row event.came may h)
 
 -- so it is where the next event begins
-pub there_here : (turns : Option ℕ) (past : List Own) (now : ℕ) (ready : Ready) → IsRunBy (Next turns) past → ThereAt (λ c n. there_in c n past) (row_now (desk_after turns past) now ready) (desk_after turns past).pass
-there_here turns past now ready run = let d : Desk = desk_after turns past in arrives_there (λ c n. there_in c n past) d.row d now ready (there_kept turns past run)
+pub there_here : (turns : Option ℕ) (past : List Own) (now : ℕ) (ready : Ready) → IsRunBy (Next turns) past → ThereAt (λ c n. there_in c n past) (row_now (place_after turns past) now ready) (place_after turns past).pass
+there_here turns past now ready run = let d : Desk = place_after turns past in arrives_there (λ c n. there_in c n past) d.row d now ready (there_kept turns past run)

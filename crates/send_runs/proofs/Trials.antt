@@ -19,7 +19,7 @@ use Rattle.send_core.proofs.Standing.{FitAt, Half, InStart, NoteStands}
 use Rattle.send_core.specs.Past.{Account, Work, account, work}
 use Rattle.send_core.specs.Past.Work.{Missing, Noting, Reading as ReadingFile}
 use Rattle.send_core.specs.Finish.{looked_up, sweep_at, sweep_begun}
-use Rattle.send_core.specs.Table.{Next, act, arrive, desk_after, due_at, from_point, row_now}
+use Rattle.send_core.specs.Table.{Next, act, arrive, place_after, due_at, from_point, row_now}
 use Rattle.send_core.specs.Turn.{file_read, pass_opened}
 use Rattle.send_core.specs.declared.desk.Desk.{Desk}
 use Rattle.send_core.specs.declared.row.MarkRow.{MarkRow}
@@ -231,13 +231,13 @@ module _ (P : MarkRow → Option Mark → Marked → Writing → Type 0) (f : Op
         let none : IsIdle f → after ≡ None = (λ is. none_on now t (due_at (at.Finish row n) d) is was) in
         finish_leads (λ (r : Row). FitAt P f al ar r e → TrialAt r after) (λ r is x. calm_after r e after is none x) n (λ r x. unread_trial (at.Finish r n) e after tt none x) row now got d h
 
-pub trial_kept : (turns : Option ℕ) (past : List Own) → IsRunBy (Next turns) past → TrialAt (desk_after turns past).row (trial past)
+pub trial_kept : (turns : Option ℕ) (past : List Own) → IsRunBy (Next turns) past → TrialAt (place_after turns past).row (trial past)
 trial_kept turns [] run = refl
 trial_kept turns (event ∷ before) run =
-    let d : Desk = desk_after turns before in
+    let d : Desk = place_after turns before in
     let row : Row = row_now d event.read event.ready in
     let may : MayCome (due_at row d) event.came = subst (λ (x : NeedData). MayCome x event.came) (sym run.1.0) run.1.1 in
     let was : TrialAt row (trial before) = arrives_trial d.row (trial before) d event.read event.ready (trial_kept turns before run.0) in
     let past : List Own = event ∷ before in
-    subst (λ (due : NeedData). TrialAt (desk_after turns (event ∷ before)).row (trial_by event.read (work (event ∷ before)) (trial before) due)) run.1.0
-    (row_after (Was past) (work past) (account Local past) (account Remote past) event.read (trial before) row event.came d (desk_after turns past) may was (keeps turns past run).0)
+    subst (λ (due : NeedData). TrialAt (place_after turns (event ∷ before)).row (trial_by event.read (work (event ∷ before)) (trial before) due)) run.1.0
+    (row_after (Was past) (work past) (account Local past) (account Remote past) event.read (trial before) row event.came d (place_after turns past) may was (keeps turns past run).0)

@@ -5,7 +5,7 @@ use Rattle.address_rules.specs.declared.control_file.ControlFile.{ControlFile}
 use Rattle.bounce_record.specs.declared.note_row.NoteRow.{NoteRow}
 use Rattle.bounce_record.specs.declared.note_row.NoteRow.TheVariants as written
 use Rattle.bounce_record.specs.Returning.{return_begun}
-use Rattle.bounce_record.specs.Writing.{Writing, writing_due_at}
+use Rattle.bounce_record.specs.Writing.{Writing, due_at as note_due_at}
 use Rattle.call_fs.specs.Past.{IsRunBy}
 use Rattle.call_fs.specs.Program.{MayCome}
 use Rattle.call_fs.specs.declared.calls.Answer.{Answer}
@@ -26,7 +26,7 @@ use Rattle.queue_paths.specs.Names.Part.{Info as InfoFile, Local as LocalFile, R
 use Rattle.queue_paths.proofs.Paths.{parse-path}
 use Rattle.send_core.specs.Desk.{later, past_finish, stands_at, sweep_due, turn_counted, turn_over}
 use Rattle.send_core.specs.Finish.{act_finish, bounce_on, finish_at, forgot, put_off_to, returned_to}
-use Rattle.send_core.specs.Table.{Next, act, arrive, desk_after, due_at, from_point, row_now}
+use Rattle.send_core.specs.Table.{Next, act, arrive, place_after, due_at, from_point, row_now}
 use Rattle.send_core.specs.declared.desk.Desk.{Desk}
 use Rattle.send_core.specs.declared.row.MarkRow.{MarkRow}
 use Rattle.send_core.specs.declared.row.MarkRow.TheVariants as mark
@@ -130,7 +130,7 @@ module _ (f : Option ℕ) where
   start_ends start.GreetLocal d e = refl
   start_ends row d e = refl
 
-  note_ends : (row : NoteRow) (w : Writing) → f ≡ None → Ends (writing_due_at row w)
+  note_ends : (row : NoteRow) (w : Writing) → f ≡ None → Ends (note_due_at row w)
   note_ends (written.Read fd place len) w e = e
   note_ends (written.Close fd) w e = e
   note_ends (written.Shut fd) w e = e
@@ -216,10 +216,10 @@ row_idle row now got d f may h = by row may h where
   by (at.Finish row n) may h = finish_idle row n now got d (returning_by f (due_at (at.Finish row n) d))
   by (at.Sweep row) may h = ended (at.Sweep row) (sweep_ends f row d)
 
-pub idle_kept : (turns : Option ℕ) (past : List Own) → IsRunBy (Next turns) past → IdleAt (desk_after turns past).row (returning past)
+pub idle_kept : (turns : Option ℕ) (past : List Own) → IsRunBy (Next turns) past → IdleAt (place_after turns past).row (returning past)
 idle_kept turns [] run = refl
 idle_kept turns (event ∷ before) run =
-    let d : Desk = desk_after turns before in
+    let d : Desk = place_after turns before in
     let row : Row = row_now d event.read event.ready in
     let may : MayCome (due_at row d) event.came = subst (λ (x : NeedData). MayCome x event.came) (sym run.1.0) run.1.1 in
     subst (λ (due : NeedData). IdleAt (act row event.read event.came d).row (returning_by (returning before) due)) run.1.0
@@ -292,7 +292,7 @@ module _ (f : Option ℕ) (searched misread : Bool) where
   start_fine start.GreetLocal d e = λ got n. refl
   start_fine row d e = λ got n. refl
 
-  note_fine : (row : NoteRow) (w : Writing) → f ≡ None → Fine (writing_due_at row w)
+  note_fine : (row : NoteRow) (w : Writing) → f ≡ None → Fine (note_due_at row w)
   note_fine (written.Close fd) w e = fine_close fd e
   note_fine (written.Shut fd) w e = fine_close fd e
   note_fine written.Written w e = λ got n. refl

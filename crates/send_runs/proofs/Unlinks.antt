@@ -7,8 +7,8 @@ use Rattle.bounce_record.specs.declared.note_row.NoteRow.{NoteRow}
 use Rattle.bounce_record.specs.declared.note_row.NoteRow.TheVariants as written
 use Rattle.bounce_record.specs.declared.return_row.ReturnRow.{ReturnRow}
 use Rattle.bounce_record.specs.declared.return_row.ReturnRow.TheVariants as back
-use Rattle.bounce_record.specs.Returning.{Returning, return_due_at}
-use Rattle.bounce_record.specs.Writing.{Writing, writing_due_at}
+use Rattle.bounce_record.specs.Returning.{Returning, due_at as return_due_at}
+use Rattle.bounce_record.specs.Writing.{Writing, due_at as note_due_at}
 use Rattle.call_fs.specs.declared.calls.CallData.TheVariants as call
 use Rattle.call_fs.specs.declared.calls.How.TheVariants as how
 use Rattle.call_fs.specs.declared.past.NeedData.{NeedData}
@@ -79,7 +79,7 @@ module _ (c : Channel) (n : ℕ) (clears : Bool) where
   no_reading (Closing fd) opening read e = refl
   no_reading (Shutting fd) opening read e = refl
 
-  no_note : (row : NoteRow) (w : Writing) → Unlinks (writing_due_at row w) ≡ false
+  no_note : (row : NoteRow) (w : Writing) → Unlinks (note_due_at row w) ≡ false
   no_note written.Written w = refl
   no_note row w = refl
 

@@ -10,7 +10,7 @@ use Rattle.mail_bytes.specs.Told.{raised}
 use Rattle.send_core.specs.Log.{lines_of}
 use Rattle.send_core.specs.Past.{Happening, Task, account}
 use Rattle.send_core.specs.Past.Happening.{Gives}
-use Rattle.send_core.specs.Table.{Next, desk_after}
+use Rattle.send_core.specs.Table.{Next, place_after}
 use Rattle.send_jobs.specs.declared.attempts.Attempt.{Attempt}
 use Rattle.send_jobs.specs.declared.channels.Channel.{Channel}
 use Rattle.send_jobs.specs.declared.channels.Channel.TheVariants.{Local, Remote}
@@ -46,9 +46,9 @@ number_in c (event ∷ before) = numbered_by (given_by event.due event.came c) (
 -- that is given tells that number, and the message, the channel and the recipient of the record that comes next of those to be given, and the status
 -- line follows it.
 pub record DeliveriesAreNumbered : Type 0 where
-  pub counted : (turns : Option ℕ) (past : List Own) → IsRunBy (Next turns) past → (desk_after turns past).slots.given ≡ requests_given past
+  pub counted : (turns : Option ℕ) (past : List Own) → IsRunBy (Next turns) past → (place_after turns past).slots.given ≡ requests_given past
   pub numbered : (turns : Option ℕ) (past : List Own) → IsRunBy (Next turns) past → (c : Channel) (slot : ℕ) (a : Attempt)
-      → attempt_in (lane c (desk_after turns past).slots).slots slot ≡ Some a → a.delivery ≡ number_in c past slot
+      → attempt_in (lane c (place_after turns past).slots).slots slot ≡ Some a → a.delivery ≡ number_in c past slot
   pub starts : (turns : Option ℕ) (past : List Own) (event : Own) → IsRunBy (Next turns) (event ∷ past) → (c : Channel) (slot : ℕ) → given_by event.due event.came c ≡ Gives slot
       → (t : Task) (rest : List Task) → (account c past).to_give ≡ t ∷ rest
-      → lines_of (desk_after turns past) event ≡ starting (requests_given (event ∷ past)) t.n (channel_word c) t.address ++ status_after (event ∷ past)
+      → lines_of (place_after turns past) event ≡ starting (requests_given (event ∷ past)) t.n (channel_word c) t.address ++ status_after (event ∷ past)

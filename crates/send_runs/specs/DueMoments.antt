@@ -24,7 +24,7 @@ use Rattle.send_core.specs.Births.{births}
 use Rattle.send_core.specs.Desk.{later, never}
 use Rattle.send_core.specs.Past.{Account, Owed, Task, Work, account, ends, work}
 use Rattle.send_core.specs.Past.Work.{Reading}
-use Rattle.send_core.specs.Table.{Next, desk_after}
+use Rattle.send_core.specs.Table.{Next, place_after}
 use Rattle.send_jobs.specs.declared.channels.Channel.{Channel}
 use Rattle.send_jobs.specs.declared.channels.Channel.TheVariants.{Local, Remote}
 use Rattle.send_jobs.specs.Channels.{skip_of}
@@ -174,4 +174,4 @@ IsDue c n (event ∷ before) due =
 
 -- so is what a sender has as due on a channel
 abbrev pub DuesAreOfPast : Type 0
-DuesAreOfPast = (turns : Option ℕ) (past : List Own) → IsRunBy (Next turns) past → (c : Channel) (n due : ℕ) → Among (due, n) (due_on c (desk_after turns past).book.messages) → IsDue c n past due
+DuesAreOfPast = (turns : Option ℕ) (past : List Own) → IsRunBy (Next turns) past → (c : Channel) (n due : ℕ) → Among (due, n) (due_on c (place_after turns past).book.messages) → IsDue c n past due

@@ -12,12 +12,13 @@ use Rattle.call_fs.specs.declared.past.GotData.TheVariants as came
 use Rattle.call_fs.specs.declared.past.NeedData.{NeedData}
 use Rattle.call_fs.specs.declared.past.NeedData.TheVariants as needs
 use Rattle.call_fs.specs.declared.past.Own.{Own}
+use Rattle.queue_limits.specs.declared.counts.TheConstants.{MAX_SLOTS}
 use Rattle.queue_paths.specs.Names.{parse}
 use Rattle.retry_schedule.specs.Retry.{next_retry}
 use Rattle.send_core.specs.Births.{births}
 use Rattle.send_core.specs.Desk.{later, never}
 use Rattle.send_core.specs.Past.{Account, Task, account}
-use Rattle.send_core.specs.Table.{Next, desk_after}
+use Rattle.send_core.specs.Table.{Next, place_after}
 use Rattle.send_jobs.specs.declared.channels.Channel.{Channel}
 use Rattle.send_jobs.specs.Channels.{skip_of}
 use Rattle.send_jobs.specs.Tries.{due_on, moment_of}
@@ -35,9 +36,9 @@ abbrev pub flies_in : ℕ → ℕ → (ℕ → Option Task) → Bool
 flies_in zero n of = false
 flies_in (suc k) n of = is_at n (of 0) || flies_in k n (λ slot. of (suc slot))
 
--- a channel has 120 at most
+-- a channel has at most `MAX_SLOTS`
 abbrev pub flies : ℕ → Account → Bool
-flies n a = flies_in 120 n a.in_flight
+flies n a = flies_in MAX_SLOTS n a.in_flight
 
 abbrev pub is_task : ℕ → Task → Bool
 is_task n t = t.n == n
@@ -114,4 +115,4 @@ due_in c n next (event ∷ before) =
 -- so it is of each message that is due on a channel, at each event of a run
 abbrev pub DueExactly : Type 0
 DueExactly = (turns : Option ℕ) (past : List Own) (event : Own) → IsRunBy (Next turns) (event ∷ past) → (c : Channel) (n due : ℕ)
-    → Among (due, n) (due_on c (desk_after turns past).book.messages) → due ≡ due_in c n event.due past
+    → Among (due, n) (due_on c (place_after turns past).book.messages) → due ≡ due_in c n event.due past

@@ -13,7 +13,7 @@ use Rattle.call_fs.specs.declared.past.Own.{Own}
 use Rattle.queue_paths.specs.Names.{parse}
 use Rattle.retry_schedule.specs.Due.{HasEntry}
 use Rattle.send_core.specs.Births.{births}
-use Rattle.send_core.specs.Table.{Next, desk_after}
+use Rattle.send_core.specs.Table.{Next, place_after}
 use Rattle.send_jobs.specs.declared.channels.Channel.{Channel}
 use Rattle.send_jobs.specs.declared.channels.Channel.TheVariants.{Local, Remote}
 use Rattle.send_jobs.specs.Tries.{due_on}
@@ -72,6 +72,6 @@ has_in c n (event ∷ before) =
 -- so it is of each message that a sender knows, and it is due on just the channels of which it has a file
 pub record FilesAreOfPast : Type 0 where
   pub files : (turns : Option ℕ) (past : List Own) → IsRunBy (Next turns) past
-      → All (λ (k : Known). (k.local ≡ has_in Local k.n past) × (k.remote ≡ has_in Remote k.n past)) (desk_after turns past).book.messages.known
-  pub due : (turns : Option ℕ) (past : List Own) → IsRunBy (Next turns) past → let m : Messages = (desk_after turns past).book.messages in
+      → All (λ (k : Known). (k.local ≡ has_in Local k.n past) × (k.remote ≡ has_in Remote k.n past)) (place_after turns past).book.messages.known
+  pub due : (turns : Option ℕ) (past : List Own) → IsRunBy (Next turns) past → let m : Messages = (place_after turns past).book.messages in
       All (λ (k : Known). (c : Channel) → (has_in c k.n past ≡ true) ↔ HasEntry k.n (due_on c m)) m.known

@@ -18,7 +18,7 @@ use Rattle.queue_paths.specs.Names.Name.{Of}
 use Rattle.queue_paths.specs.Names.Part.{Bounce as BounceFile, Info as InfoFile, Mess as MessFile}
 use Rattle.send_core.specs.Births.{births}
 use Rattle.send_core.specs.Desk.{later}
-use Rattle.send_core.specs.Table.{Next, desk_after}
+use Rattle.send_core.specs.Table.{Next, place_after}
 use Rattle.send_known.specs.declared.known.Known.{Known}
 use Rattle.send_runs.specs.Knowing.{known_by}
 
@@ -125,4 +125,4 @@ finish_in n (event ∷ before) =
 
 -- so it is of each message that a sender knows
 abbrev pub FinishesAreOfPast : Type 0
-FinishesAreOfPast = (turns : Option ℕ) (past : List Own) → IsRunBy (Next turns) past → All (λ (k : Known). k.finish_at ≡ finish_in k.n past) (desk_after turns past).book.messages.known
+FinishesAreOfPast = (turns : Option ℕ) (past : List Own) → IsRunBy (Next turns) past → All (λ (k : Known). k.finish_at ≡ finish_in k.n past) (place_after turns past).book.messages.known

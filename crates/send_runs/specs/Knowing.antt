@@ -15,7 +15,7 @@ use Rattle.queue_paths.specs.Names.{Name, parse}
 use Rattle.queue_paths.specs.Names.Name.{Of}
 use Rattle.queue_paths.specs.Names.Part.{Remote as RemoteFile}
 use Rattle.send_core.specs.Births.{births}
-use Rattle.send_core.specs.Table.{Next, desk_after}
+use Rattle.send_core.specs.Table.{Next, place_after}
 use Rattle.send_known.specs.Known.{is_known}
 use Rattle.send_parts.specs.Steps.{remove_text}
 use Rattle.todo_pass.specs.Table.{command_text}
@@ -46,4 +46,4 @@ known_in (event ∷ before) n = known_by event.due event.came (births before).co
 
 -- so it is after each run
 abbrev pub KnownExactly : Type 0
-KnownExactly = (turns : Option ℕ) (past : List Own) → IsRunBy (Next turns) past → (n : ℕ) → is_known n (desk_after turns past).book.messages.known ≡ known_in past n
+KnownExactly = (turns : Option ℕ) (past : List Own) → IsRunBy (Next turns) past → (n : ℕ) → is_known n (place_after turns past).book.messages.known ≡ known_in past n

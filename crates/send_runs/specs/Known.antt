@@ -7,7 +7,7 @@ use Rattle.retry_schedule.specs.Due.{is_due}
 use Rattle.send_core.specs.Agrees.{has_ended}
 use Rattle.send_core.specs.Births.{births}
 use Rattle.send_core.specs.Senders.{IsSaid}
-use Rattle.send_core.specs.Table.{Next, desk_after}
+use Rattle.send_core.specs.Table.{Next, place_after}
 use Rattle.send_jobs.specs.declared.channels.Channel.{Channel}
 use Rattle.send_jobs.specs.Tries.{due_on}
 use Rattle.send_known.specs.declared.known.Known.{Known}
@@ -24,4 +24,4 @@ pub record AreOfPast (past : List Own) (m : Messages) : Type 0 where
 
 -- so it is after each run, until the sender has ended
 abbrev pub KnownAreOfPast : Type 0
-KnownAreOfPast = (turns : Option ℕ) (past : List Own) → IsRunBy (Next turns) past → has_ended (desk_after turns past).row ≡ false → AreOfPast past (desk_after turns past).book.messages
+KnownAreOfPast = (turns : Option ℕ) (past : List Own) → IsRunBy (Next turns) past → has_ended (place_after turns past).row ≡ false → AreOfPast past (place_after turns past).book.messages

@@ -5,7 +5,7 @@ use Rattle.call_fs.specs.declared.past.Own.{Own}
 use Rattle.send_core.specs.Log.{lines_of}
 use Rattle.send_core.specs.Past.{Account, Task, account, settle}
 use Rattle.send_core.specs.Past.Happening.{Takes}
-use Rattle.send_core.specs.Table.{Next, desk_after}
+use Rattle.send_core.specs.Table.{Next, place_after}
 use Rattle.send_jobs.specs.declared.channels.Channel.{Channel}
 use Rattle.send_jobs.specs.declared.channels.Channel.TheVariants.{Local, Remote}
 use Rattle.send_log.specs.Lines.{delivered, outcome_of, stray_report}
@@ -39,4 +39,4 @@ report_lines c past event = lines_by (number_in c past) (limit_in past) c (repor
 -- other line comes then.
 abbrev pub ReportsAreLogged : Type 0
 ReportsAreLogged = (turns : Option ℕ) (past : List Own) (event : Own) → IsRunBy (Next turns) (event ∷ past) → (c : Channel) (bytes : List ℕ) → taken_by event.due event.came c ≡ Takes bytes
-    → lines_of (desk_after turns past) event ≡ report_lines c past event
+    → lines_of (place_after turns past) event ≡ report_lines c past event

@@ -11,7 +11,7 @@ use Rattle.call_fs.specs.Past.{IsRunBy}
 use Rattle.send_core.specs.Booked.{booked_at}
 use Rattle.send_core.specs.Past.{Account, Happening, Task, account, news, given, settle, settle_all, taken}
 use Rattle.send_core.specs.Past.Happening.{Gives, Nothing, Takes}
-use Rattle.send_core.specs.Table.{Next, desk_after, port_of, row_now}
+use Rattle.send_core.specs.Table.{Next, place_after, port_of, row_now}
 use Rattle.send_jobs.specs.declared.channels.Channel.{Channel}
 use Rattle.send_jobs.specs.declared.channels.Channel.TheVariants.{Local, Remote}
 use Rattle.send_jobs.specs.Bookings.{Booking}
@@ -73,7 +73,7 @@ is_report (Dropped n) = false
 -- What is entered of reports at an event of a run, by what the sender keeps, is just what the reports say that the event takes.
 abbrev pub EntriesAreReports : Type 0
 EntriesAreReports = (turns : Option ℕ) (past : List Own) (event : Own) → IsRunBy (Next turns) (event ∷ past)
-    → let d = desk_after turns past in filter is_report (booked_at (row_now d event.read event.ready) event.came d) ≡ said_at Local past event ++ said_at Remote past event
+    → let d = place_after turns past in filter is_report (booked_at (row_now d event.read event.ready) event.came d) ≡ said_at Local past event ++ said_at Remote past event
 
 -- What a single entry says
 
@@ -94,9 +94,9 @@ pub record WasReported (past : List Own) (event : Own) (delivered : Bool) (c : C
 -- each entry of a run's event is of one such report, and each such report is entered
 pub record EntriesWereReported : Type 0 where
   pub entered : (turns : Option ℕ) (past : List Own) (event : Own) → IsRunBy (Next turns) (event ∷ past) → (delivered : Bool) (c : Channel) (n place : ℕ)
-      → let d = desk_after turns past in Among (Reported delivered c n place) (booked_at (row_now d event.read event.ready) event.came d) → WasReported past event delivered c n place
+      → let d = place_after turns past in Among (Reported delivered c n place) (booked_at (row_now d event.read event.ready) event.came d) → WasReported past event delivered c n place
   pub reported : (turns : Option ℕ) (past : List Own) (event : Own) → IsRunBy (Next turns) (event ∷ past) → (delivered : Bool) (c : Channel) (n place : ℕ)
-      → WasReported past event delivered c n place → let d = desk_after turns past in Among (Reported delivered c n place) (booked_at (row_now d event.read event.ready) event.came d)
+      → WasReported past event delivered c n place → let d = place_after turns past in Among (Reported delivered c n place) (booked_at (row_now d event.read event.ready) event.came d)
 
 -- What is in flight
 

@@ -4,7 +4,7 @@ use Rattle.std.specs.Prelude.{◌≡◌, ℕ, ◌<◌, ◌≤◌, List, true, fa
 use Rattle.std.specs.List.{AllPairs}
 use Rattle.call_fs.specs.declared.past.Own.{Own}
 use Rattle.retry_schedule.specs.Due.{IsFirst, IsSchedule, first_due}
-use Rattle.send_core.specs.Table.{desk_after}
+use Rattle.send_core.specs.Table.{place_after}
 use Rattle.send_jobs.specs.declared.channels.Channel.{Channel}
 use Rattle.send_jobs.specs.Tries.{due_on}
 use Rattle.send_known.specs.declared.known.Known.{Known}
@@ -31,4 +31,4 @@ pub record AreInOrder (m : Messages) : Type 0 where
 
 -- after any past, of any sender
 abbrev pub KnownNumbersRise : Type 0
-KnownNumbersRise = (turns : Option ℕ) (past : List Own) → AreInOrder (desk_after turns past).book.messages
+KnownNumbersRise = (turns : Option ℕ) (past : List Own) → AreInOrder (place_after turns past).book.messages

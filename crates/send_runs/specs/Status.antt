@@ -2,6 +2,7 @@
 use Rattle.std.specs.Prelude.{ℕ, zero, suc, ◌+◌, min, List, Option, cond, is_some}
 use Rattle.address_rules.specs.declared.controls.Controls.{Controls}
 use Rattle.call_fs.specs.declared.past.Own.{Own}
+use Rattle.queue_limits.specs.declared.counts.TheConstants.{MAX_SLOTS}
 use Rattle.send_core.specs.Papers.{controls_told}
 use Rattle.send_core.specs.Past.{Account, Task, account}
 use Rattle.send_jobs.specs.declared.channels.Channel.{Channel}
@@ -13,9 +14,9 @@ abbrev pub allowed : Channel → Controls → ℕ
 allowed Local controls = controls.concurrency_local
 allowed Remote controls = controls.concurrency_remote
 
--- how many may be in flight: so many, no more than the spawner runs at once, and 120 at most
+-- how many may be in flight: so many, no more than the spawner runs at once, and at most `MAX_SLOTS`
 abbrev pub limit_by : Channel → Account → Controls → ℕ
-limit_by c a controls = min (min a.limit (allowed c controls)) 120
+limit_by c a controls = min (min a.limit (allowed c controls)) MAX_SLOTS
 
 abbrev pub limit_in : List Own → Channel → ℕ
 limit_in past c = limit_by c (account c past) (controls_told past)

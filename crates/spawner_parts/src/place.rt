@@ -2,10 +2,11 @@
 
 use crate::Row;
 use mail_bytes::ByteText;
+use queue_limits::MAX_SLOTS;
 use spawn_protocol::{Inbox, Request};
 
 /// How many programs it runs at once, in the slots from 0 on.
-pub const SLOTS: usize = 120;
+pub const SLOTS: usize = MAX_SLOTS as usize;
 
 /// What a spawner keeps: where it stands, and what its steps need.
 #[derive(Drop)]

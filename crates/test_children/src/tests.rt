@@ -1,4 +1,6 @@
 mod channels;
+mod feedings;
+mod large;
 mod many;
 mod scripted;
 mod shells;

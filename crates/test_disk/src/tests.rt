@@ -2,6 +2,7 @@
 // can't be made shows in the answer.
 mod calls;
 mod clients;
+mod host_directories;
 mod host_edge;
 mod host_files;
 mod host_kept;

@@ -7,19 +7,13 @@
 
 ghost use Rattle.std.specs.Prelude.{◌≤◌, All, IfOk, length};
 
-use call_fs::{Got, Need, PIECE, Ready, perform};
+use call_fs::{Got, Need, PIECE, UNREADY, perform};
 use host_fs::HostFs;
 use mail_bytes::{Memory, undec};
 use maildir_drop::{End, MaildirDrop};
 use std::alloc::Global;
 use std::process::ExitCode;
 use std::{env, io, str};
-
-/// Nothing is ready.
-const UNREADY: Ready = Ready {
-    links: [false; 4],
-    child: None,
-};
 
 /// The most steps of a drop of one block: three creations, an append and five more.
 const STEPS: usize = 9;

@@ -23,7 +23,7 @@ use Rattle.todo_pass.specs.declared.machine.TodoPass.{TodoPass}
 use Rattle.todo_pass.specs.Stands.{Stands, due_now}
 use Rattle.todo_pass.specs.declared.row.Row.{Row}
 use Rattle.todo_pass.specs.declared.row.Row.TheVariants as at
-use Rattle.todo_pass.specs.Table.{Pass, due_at, due_of_pass}
+use Rattle.todo_pass.specs.Table.{Pass, due_at, due_by}
 use Rattle.todo_pass.proofs.Holds.{uses}
 use Rattle.test_todo.specs.Passes.{IsRunning}
 
@@ -38,7 +38,7 @@ pub looked : (m n : TodoPass) (o : Option Disk) → ((args : Arguments) (past : 
 looked m n o keeps r = record { args = r.args; past = r.past; stands = keeps r.args r.past r.stands; run = r.run; backs = r.backs }
 
 its_uses : (m : TodoPass) (o : Option Disk) (r : IsRunning m o) → UsesHeld (held r.past) (due_now m)
-its_uses m o r = subst (λ p. UsesHeld (held r.past) (due_of_pass p)) (sym r.stands.pass_is) (uses r.args.controls r.args.n r.past r.run)
+its_uses m o r = subst (λ p. UsesHeld (held r.past) (due_by p)) (sym r.stands.pass_is) (uses r.args.controls r.args.n r.past r.run)
 
 -- its call may be made
 pub may : (m : TodoPass) (o : Option Disk) (r : IsRunning m o) (c : CallData) → due_now m ≡ File c → OnTold o (λ d. MayCall d c)
@@ -61,7 +61,7 @@ went m n o e read ready got r may backs stands = record {
   args = r.args;
   past = record { read = read; ready = ready; due = due_now m; came = got } ∷ r.past;
   stands = stands;
-  run = (r.run, (ap due_of_pass (sym r.stands.pass_is), may));
+  run = (r.run, (ap due_by (sym r.stands.pass_is), may));
   backs = backs;
 }
 

@@ -8,7 +8,7 @@ use Rattle.call_fs.specs.Disk.{Disk}
 use Rattle.call_fs.specs.Past.{LeadsTo as LeadsAlone}
 use Rattle.todo_pass.specs.declared.row.Row.{Row}
 use Rattle.todo_pass.specs.Disks.{LeaveAlone, LeadsTo, fd_in}
-use Rattle.todo_pass.specs.Table.{passed}
+use Rattle.todo_pass.specs.Table.{place_after}
 use Rattle.todo_pass.proofs.Files.{same_all}
 
 same_open : (o : Option Fd) (d : Disk) → IfSome o (λ fd. d.opens fd.0 ≡ d.opens fd.0)
@@ -19,6 +19,6 @@ left_alone : (n : ℕ) (row : Row) (d : Disk) → LeaveAlone n row d d
 left_alone n row d = record { parts = λ q held. same_all n q d; descriptor = same_open (fd_in row) d }
 
 pub alone : (controls : Controls) (n : ℕ) (past : List Own) (first last : Disk) → LeadsAlone first past last → LeadsTo controls n first past last
-alone controls n [] first last is = subst (λ d. LeaveAlone n (passed controls n []).row first d) (sym is) (left_alone n (passed controls n []).row first)
+alone controls n [] first last is = subst (λ d. LeaveAlone n (place_after controls n []).row first d) (sym is) (left_alone n (place_after controls n []).row first)
 alone controls n (event ∷ before) first last leads =
-    (leads.0, last, alone controls n before first leads.0 leads.1, leads.2, left_alone n (passed controls n (event ∷ before)).row last)
+    (leads.0, last, alone controls n before first leads.0 leads.1, leads.2, left_alone n (place_after controls n (event ∷ before)).row last)

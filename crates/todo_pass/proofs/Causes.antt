@@ -27,7 +27,7 @@ use Rattle.todo_pass.specs.declared.row.Why.TheVariants as left
 use Rattle.todo_pass.specs.declared.sorted.Sorted.{Sorted}
 use Rattle.todo_pass.specs.Parts.{part_of, path_in}
 use Rattle.todo_pass.specs.Sorting.{sort_todo, text_of, has}
-use Rattle.todo_pass.specs.Table.{Pass, clear_row, stated, open_row, read, sorted_with, create_row, appended, sync_row, made_row, local_row, remote_row, give_row, answer_row, moved_at, due_at, passed, piece, why_of}
+use Rattle.todo_pass.specs.Table.{Pass, clear_row, stated, open_row, read, sorted_with, create_row, appended, sync_row, made_row, local_row, remote_row, give_row, answer_row, moved_at, due_at, place_after, piece, why_of}
 use Rattle.todo_pass.specs.Causes.{HasStep, part_at, IsNamed, IsCause, LosesLink}
 use Rattle.todo_pass.specs.Run.{IsRun}
 use Rattle.call_fs.proofs.Coming.{by_fit}
@@ -172,7 +172,7 @@ Caused controls n past (at.Left why) = HasStep controls n past (IsCause why)
 Caused controls n past at.Lost = HasStep controls n past LosesLink
 Caused controls n past row = Unit {0}
 
-here : (controls : Controls) (n : ℕ) (event : Own) (before : List Own) (row : Row) → CausedHere controls row (passed controls n before) event.came
+here : (controls : Controls) (n : ℕ) (event : Own) (before : List Own) (row : Row) → CausedHere controls row (place_after controls n before) event.came
     → Caused controls n (event ∷ before) row
 here controls n event before (at.Shut fd why) h = inl h
 here controls n event before (at.Left why) h = inl h
@@ -181,7 +181,7 @@ here controls n event before row h = tt
 
 module _ (controls : Controls) (n : ℕ) (event : Own) (before : List Own) where
   abbrev it : Pass
-  it = passed controls n before
+  it = place_after controls n before
 
   goes_on : (row : Row) → IsGoing controls it row → it.row ≡ row → MayCome (due_at row it) event.came
       → Caused controls n (event ∷ before) (moved_at controls row it event.read event.came).row
@@ -206,15 +206,15 @@ module _ (controls : Controls) (n : ℕ) (event : Own) (before : List Own) where
   step (at.Left why) is may old = absurd may
   step at.Lost is may old = absurd may
 
-caused : (controls : Controls) (n : ℕ) (past : List Own) → IsRun controls n past → Caused controls n past (passed controls n past).row
+caused : (controls : Controls) (n : ℕ) (past : List Own) → IsRun controls n past → Caused controls n past (place_after controls n past).row
 caused controls n [] run = tt
 caused controls n (event ∷ before) run =
-    let p : Pass = passed controls n before in
+    let p : Pass = place_after controls n before in
     step controls n event before p.row refl (subst (λ x. MayCome x event.came) (sym run.1.0) run.1.1) (caused controls n before run.0)
 
-pub left_by : (controls : Controls) (n : ℕ) (past : List Own) (why : Why) → IsRun controls n past → (passed controls n past).row ≡ at.Left why
+pub left_by : (controls : Controls) (n : ℕ) (past : List Own) (why : Why) → IsRun controls n past → (place_after controls n past).row ≡ at.Left why
     → HasStep controls n past (IsCause why)
 left_by controls n past why run e = subst (Caused controls n past) e (caused controls n past run)
 
-pub lost_by : (controls : Controls) (n : ℕ) (past : List Own) → IsRun controls n past → (passed controls n past).row ≡ at.Lost → HasStep controls n past LosesLink
+pub lost_by : (controls : Controls) (n : ℕ) (past : List Own) → IsRun controls n past → (place_after controls n past).row ≡ at.Lost → HasStep controls n past LosesLink
 lost_by controls n past run e = subst (Caused controls n past) e (caused controls n past run)

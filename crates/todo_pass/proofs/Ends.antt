@@ -20,7 +20,7 @@ use Rattle.todo_pass.specs.declared.row.Why.TheVariants as left
 use Rattle.todo_pass.specs.declared.sorted.Sorted.{Sorted}
 use Rattle.todo_pass.specs.Parts.{part_of, path_in}
 use Rattle.todo_pass.specs.Sorting.{sort_todo, text_of, has}
-use Rattle.todo_pass.specs.Table.{Pass, cleared, clear_row, stated, open_row, read, sorted_with, create_row, appended, sync_row, made_row, local_row, remote_row, give_row, answer_row, moved_at, due_at, passed}
+use Rattle.todo_pass.specs.Table.{Pass, cleared, clear_row, stated, open_row, read, sorted_with, create_row, appended, sync_row, made_row, local_row, remote_row, give_row, answer_row, moved_at, due_at, place_after}
 use Rattle.todo_pass.specs.Disks.{LeadsTo, IsMade, IsComplete, HoldsWhatWasRead}
 use Rattle.todo_pass.specs.Laws.{IsMadeRow, FilesAreMade}
 use Rattle.todo_pass.specs.Run.{IsRun}
@@ -55,9 +55,9 @@ made_at controls at.Done p d made r = record { complete = complete_by p d r.file
 made_at controls row p d made r = absurd made
 
 pub files_are_made : (controls : Controls) (n : ℕ) (past : List Own) (first last : Disk) → IsRun controls n past → LeadsTo controls n first past last
-    → IsMadeRow (passed controls n past).row → FilesAreMade controls n past last
+    → IsMadeRow (place_after controls n past).row → FilesAreMade controls n past last
 files_are_made controls n past first last run leads made =
-    let p : Pass = passed controls n past in
+    let p : Pass = place_after controls n past in
     let m = made_at controls p.row p last made (rests controls n past first last run leads) in
     let is = numbered controls n past in
     record {
@@ -156,8 +156,8 @@ plus controls (at.Close t fd) p now (came.Answered told) may e = absurd (made_ne
 plus controls (at.Shut fd why) p now (came.Answered told) may e = absurd (cc)
 plus controls row p now got may e = absurd may
 
-pub done_with : (controls : Controls) (n : ℕ) (event : Own) (before : List Own) → IsRun controls n (event ∷ before) → (passed controls n (event ∷ before)).row ≡ at.Done
-    → (passed controls n before).row ≡ at.Answer × (event.came ≡ came.Took (43 ∷ []))
+pub done_with : (controls : Controls) (n : ℕ) (event : Own) (before : List Own) → IsRun controls n (event ∷ before) → (place_after controls n (event ∷ before)).row ≡ at.Done
+    → (place_after controls n before).row ≡ at.Answer × (event.came ≡ came.Took (43 ∷ []))
 done_with controls n event before run e =
-    let p : Pass = passed controls n before in
+    let p : Pass = place_after controls n before in
     plus controls p.row p event.read event.came (subst (λ x. MayCome x event.came) (sym run.1.0) run.1.1) e

@@ -27,7 +27,7 @@ use Rattle.todo_pass.specs.declared.row.Why.TheVariants as left
 use Rattle.todo_pass.specs.declared.sorted.Sorted.{Sorted}
 use Rattle.todo_pass.specs.Parts.{part_of, path_in}
 use Rattle.todo_pass.specs.Sorting.{sort_todo, text_of, has}
-use Rattle.todo_pass.specs.Table.{Pass, cleared, clear_row, stated, open_row, read, sorted_with, create_row, appended, sync_row, made_row, local_row, remote_row, give_row, answer_row, moved_at, due_at, passed, piece}
+use Rattle.todo_pass.specs.Table.{Pass, cleared, clear_row, stated, open_row, read, sorted_with, create_row, appended, sync_row, made_row, local_row, remote_row, give_row, answer_row, moved_at, due_at, place_after, piece}
 use Rattle.todo_pass.specs.Run.{IsRun}
 use Rattle.call_fs.proofs.Coming.{by_fit}
 
@@ -143,10 +143,10 @@ module _ (controls : Controls) (p : Pass) (now : ℕ) (h : ℕ → Option Mode) 
   step (at.Left why) got own may = absurd may
   step at.Lost got own may = absurd may
 
-holds : (controls : Controls) (n : ℕ) (past : List Own) → IsRun controls n past → HoldsRow (held past) (passed controls n past).row
+holds : (controls : Controls) (n : ℕ) (past : List Own) → IsRun controls n past → HoldsRow (held past) (place_after controls n past).row
 holds controls n [] run = tt
 holds controls n (event ∷ before) run =
-    let p : Pass = passed controls n before in
+    let p : Pass = place_after controls n before in
     let old = holds controls n before run.0 in
     let may = subst (λ x. MayCome x event.came) (sym run.1.0) run.1.1 in
     subst (λ x. HoldsRow (held_by (held before) x event.came) (moved_at controls p.row p event.read event.came).row) run.1.0
@@ -169,5 +169,5 @@ uses_row h p at.Done own = tt
 uses_row h p (at.Left why) own = tt
 uses_row h p at.Lost own = tt
 
-pub uses : (controls : Controls) (n : ℕ) (past : List Own) → IsRun controls n past → UsesHeld (held past) (due_at (passed controls n past).row (passed controls n past))
-uses controls n past run = uses_row (held past) (passed controls n past) (passed controls n past).row (holds controls n past run)
+pub uses : (controls : Controls) (n : ℕ) (past : List Own) → IsRun controls n past → UsesHeld (held past) (due_at (place_after controls n past).row (place_after controls n past))
+uses controls n past run = uses_row (held past) (place_after controls n past) (place_after controls n past).row (holds controls n past run)

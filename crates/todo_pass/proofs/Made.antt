@@ -30,7 +30,7 @@ use Rattle.todo_pass.specs.declared.row.Why.TheVariants as left
 use Rattle.todo_pass.specs.declared.sorted.Sorted.{Sorted}
 use Rattle.todo_pass.specs.Parts.{part_of, path_in}
 use Rattle.todo_pass.specs.Sorting.{sort_todo, text_of, has}
-use Rattle.todo_pass.specs.Table.{Pass, goes, cleared, clear_row, stated, open_row, read, read_row, sorted_with, create_row, next_piece, appended, sync_row, made_row, local_row, remote_row, give_row, answer_row, moved_at, due_at, passed, piece}
+use Rattle.todo_pass.specs.Table.{Pass, goes, cleared, clear_row, stated, open_row, read, read_row, sorted_with, create_row, next_piece, appended, sync_row, made_row, local_row, remote_row, give_row, answer_row, moved_at, due_at, place_after, piece}
 use Rattle.todo_pass.specs.Disks.{SameAt, LeaveAlone, LeadsTo, HoldsWhatWasRead}
 use Rattle.todo_pass.specs.Run.{IsRun}
 use Rattle.call_fs.proofs.Coming.{by_answer}
@@ -414,18 +414,18 @@ goes_n controls (at.Left why) p now got = refl
 goes_n controls at.Lost p now (came.Answered told) = refl
 goes_n controls at.Lost p now got = refl
 
-pub numbered : (controls : Controls) (n : ℕ) (past : List Own) → (passed controls n past).n ≡ n
+pub numbered : (controls : Controls) (n : ℕ) (past : List Own) → (place_after controls n past).n ≡ n
 numbered controls n [] = refl
 numbered controls n (event ∷ before) =
-    let p : Pass = passed controls n before in
+    let p : Pass = place_after controls n before in
     goes_n controls p.row p event.read event.came ∙ numbered controls n before
 
 pub rests : (controls : Controls) (n : ℕ) (past : List Own) (first last : Disk) → IsRun controls n past → LeadsTo controls n first past last
-    → Rests controls (passed controls n past).row (passed controls n past) last
+    → Rests controls (place_after controls n past).row (place_after controls n past) last
 rests controls n [] first last run leads = record { files = λ u. tt; mess = tt; todo = refl; says = tt }
 rests controls n (event ∷ before) first last run leads =
-    let p : Pass = passed controls n before in
-    let q : Pass = passed controls n (event ∷ before) in
+    let p : Pass = place_after controls n before in
+    let q : Pass = place_after controls n (event ∷ before) in
     let old = rests controls n before first leads.0 run.0 leads.2 in
     let due = run.1.0 in
     let may = subst (λ x. MayCome x event.came) (sym due) run.1.1 in

@@ -16,13 +16,13 @@ use Rattle.todo_pass.specs.declared.row.Row.TheVariants as at
 use Rattle.todo_pass.specs.declared.row.Why.{Why}
 use Rattle.todo_pass.specs.declared.row.Why.TheVariants as left
 use Rattle.todo_pass.specs.Parts.{part_of}
-use Rattle.todo_pass.specs.Table.{Pass, passed}
+use Rattle.todo_pass.specs.Table.{Pass, place_after}
 use Rattle.todo_pass.specs.Todo.{IsFirstBad}
 
 -- at some event of the past this held of the pass before it and of what came
 abbrev pub HasStep : Controls → ℕ → List Own → (Pass → GotData → Type 0) → Type 0
 HasStep controls n [] P = ⊥
-HasStep controls n (event ∷ before) P = P (passed controls n before) event.came ⊎ HasStep controls n before P
+HasStep controls n (event ∷ before) P = P (place_after controls n before) event.came ⊎ HasStep controls n before P
 
 -- a call was refused so
 abbrev pub IsRefused : FsError → GotData → Type 0

@@ -10,7 +10,7 @@ use Rattle.todo_pass.specs.declared.part.Part.TheVariants as part
 use Rattle.todo_pass.specs.declared.row.Row.{Row}
 use Rattle.todo_pass.specs.declared.row.Row.TheVariants as at
 use Rattle.todo_pass.specs.Parts.{path_in}
-use Rattle.todo_pass.specs.Table.{Pass, passed}
+use Rattle.todo_pass.specs.Table.{Pass, place_after}
 
 -- What other programs leave alone
 
@@ -49,10 +49,10 @@ pub record LeaveAlone (n : ℕ) (row : Row) (before after : Disk) : Type 0 where
 
 -- The events of a past, newest first, led from this disk to that one, with steps of other programs before and after each.
 abbrev pub LeadsTo : Controls → ℕ → Disk → List Own → Disk → Type 0
-LeadsTo controls n first [] last = LeaveAlone n (passed controls n []).row first last
+LeadsTo controls n first [] last = LeaveAlone n (place_after controls n []).row first last
 LeadsTo controls n first (event ∷ before) last =
     (mid : Disk) × (next : Disk) × LeadsTo controls n first before mid × Makes mid event.read event.due event.came next
-    × LeaveAlone n (passed controls n (event ∷ before)).row next last
+    × LeaveAlone n (place_after controls n (event ∷ before)).row next last
 
 -- What stands at the end
 

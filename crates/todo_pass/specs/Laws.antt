@@ -12,7 +12,7 @@ use Rattle.todo_pass.specs.Causes.{HasStep, IsCause, LosesLink}
 use Rattle.todo_pass.specs.Disks.{LeadsTo, IsComplete, HoldsWhatWasRead}
 use Rattle.todo_pass.specs.Run.{IsRun}
 use Rattle.todo_pass.specs.Sorting.{sorted_of}
-use Rattle.todo_pass.specs.Table.{passed}
+use Rattle.todo_pass.specs.Table.{place_after}
 use Rattle.todo_pass.specs.Todo.{Todo, IsTodo}
 
 -- the rows from the command to the cleaner to a good end
@@ -26,13 +26,13 @@ IsMadeRow row = ⊥
 -- and the files are those of its sender and of the routes of its recipients; until the command is given todo holds just
 -- that.
 pub record FilesAreMade (controls : Controls) (n : ℕ) (past : List Own) (d : Disk) : Type 0 where
-  pub complete : IsComplete n (passed controls n past) d
-  pub sorted : (it : Todo) × IsTodo (passed controls n past).todo it × ((passed controls n past).sorted ≡ sorted_of controls it)
-  pub todo : (passed controls n past).row ≡ at.Give → HoldsWhatWasRead n (passed controls n past) d
+  pub complete : IsComplete n (place_after controls n past) d
+  pub sorted : (it : Todo) × IsTodo (place_after controls n past).todo it × ((place_after controls n past).sorted ≡ sorted_of controls it)
+  pub todo : (place_after controls n past).row ≡ at.Give → HoldsWhatWasRead n (place_after controls n past) d
 
 abbrev pub MadeBeforeTheCommand : Type 0
 MadeBeforeTheCommand = (controls : Controls) (n : ℕ) (past : List Own) (first last : Disk) → IsRun controls n past → LeadsTo controls n first past last
-    → IsMadeRow (passed controls n past).row → FilesAreMade controls n past last
+    → IsMadeRow (place_after controls n past).row → FilesAreMade controls n past last
 
 -- If the pass's events alone led from one disk to another, nobody disturbed it.
 abbrev pub AloneIsLeftAlone : Type 0
@@ -41,12 +41,12 @@ AloneIsLeftAlone = (controls : Controls) (n : ℕ) (past : List Own) (first last
 -- A pass ends done with the cleaner's `+` and nothing else.
 abbrev pub DoneWithPlus : Type 0
 DoneWithPlus = (controls : Controls) (n : ℕ) (event : Own) (before : List Own) → IsRun controls n (event ∷ before)
-    → (passed controls n (event ∷ before)).row ≡ at.Done → (passed controls n before).row ≡ at.Answer × (event.came ≡ Took (43 ∷ []))
+    → (place_after controls n (event ∷ before)).row ≡ at.Done → (place_after controls n before).row ≡ at.Answer × (event.came ≡ Took (43 ∷ []))
 
 -- A pass that left its number has the cause of its reason in its past, and one that lost the cleaner too.
 pub record EndsHaveCauses : Type 0 where
-  pub left : (controls : Controls) (n : ℕ) (past : List Own) (why : Why) → IsRun controls n past → (passed controls n past).row ≡ at.Left why
+  pub left : (controls : Controls) (n : ℕ) (past : List Own) (why : Why) → IsRun controls n past → (place_after controls n past).row ≡ at.Left why
       → HasStep controls n past (IsCause why)
-  pub lost : (controls : Controls) (n : ℕ) (past : List Own) → IsRun controls n past → (passed controls n past).row ≡ at.Lost
+  pub lost : (controls : Controls) (n : ℕ) (past : List Own) → IsRun controls n past → (place_after controls n past).row ≡ at.Lost
       → HasStep controls n past LosesLink
   pub done : DoneWithPlus

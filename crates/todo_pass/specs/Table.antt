@@ -41,7 +41,11 @@ pub record Pass : Type 0 where
   pub sorted : Sorted
   pub birth : ℕ
 
-abbrev pub begun : ℕ → Pass
+-- where a pass stands is all that it keeps
+abbrev pub Place : Type 0
+Place = Pass
+
+abbrev pub begun : ℕ → Place
 begun n = record { n = n; row = at.Clear target.Info; size = 0; todo = []; sorted = none_sorted 0 0; birth = 0 }
 
 -- the bytes of one read or one append
@@ -163,7 +167,7 @@ moved_at controls at.Answer p now got = goes p (answer_row got)
 moved_at controls row p now (came.Answered told) = answered controls row p now told.answer told.bytes
 moved_at controls row p now got = p
 
-abbrev pub moved : Controls → Pass → ℕ → GotData → Pass
+abbrev pub moved : Controls → Place → ℕ → GotData → Place
 moved controls p now got = moved_at controls p.row p now got
 
 -- What is due
@@ -193,19 +197,19 @@ due_at at.Done p = needs.Ended 0
 due_at (at.Left why) p = needs.Ended 0
 due_at at.Lost p = needs.Ended 0
 
-abbrev pub due_of_pass : Pass → NeedData
-due_of_pass p = due_at p.row p
+abbrev pub due_by : Place → NeedData
+due_by p = due_at p.row p
 
 -- The past
 
--- the pass of this number after a past, newest event first
-abbrev pub passed : Controls → ℕ → List Own → Pass
-passed controls n [] = begun n
-passed controls n (event ∷ before) = moved controls (passed controls n before) event.read event.came
+-- where the pass of this number stands after a past, newest event first
+abbrev pub place_after : Controls → ℕ → List Own → Place
+place_after controls n [] = begun n
+place_after controls n (event ∷ before) = moved controls (place_after controls n before) event.read event.came
 
 -- what a pass does next: neither the moment nor what is ready makes a difference
 abbrev pub Next : Arguments → List Own → ℕ → Ready → NeedData
-Next args past now ready = due_of_pass (passed args.controls args.n past)
+Next args past now ready = due_by (place_after args.controls args.n past)
 
 -- how it ended
 abbrev pub end_at : Row → Pass → Option End

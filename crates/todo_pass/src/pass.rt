@@ -6,7 +6,7 @@ ghost use Rattle.call_fs.specs.declared.past.Own.{Own};
 ghost use Rattle.call_fs.specs.declared.program.Ready.{Ready as Found};
 ghost use Rattle.todo_pass.specs.Rows.{CountsOn, takes_memory};
 ghost use Rattle.todo_pass.specs.Sorting.{sort_todo, text_of};
-ghost use Rattle.todo_pass.specs.Table.{answered, appended, begun, due_of_pass, end_of, goes, moved, passed, piece, read, sorted_with, stated};
+ghost use Rattle.todo_pass.specs.Table.{answered, appended, begun, due_by, end_of, goes, moved, place_after, piece, read, sorted_with, stated};
 
 use crate::names::put_lent;
 use crate::sorted::Sorted;
@@ -142,7 +142,7 @@ impl Pass {
 
     /// What it does next. Takes no memory.
     pub fn need(&self) -> Need<'_>
-        ensures { due_of result ≡ due_of_pass self.now }
+        ensures { due_of result ≡ due_by self.now }
     {
         let name = self.lent.as_slice();
         match self.row {
@@ -176,8 +176,8 @@ impl Pass {
     ) -> Result<(), Memory>
         ensures moved { OnOk result (self.new ≡ moved controls.now self.old now (came_of got.now)) }
         // The pass after this past is the one after it and this event.
-        ensures stands { (n : ℕ) (past : List Own) (ready : Found) (due : NeedData) → self.old ≡ passed controls.now n past
-            → OnOk result (self.new ≡ passed controls.now n (record { read = now; ready = ready; due = due; came = came_of got.now } ∷ past)) }
+        ensures stands { (n : ℕ) (past : List Own) (ready : Found) (due : NeedData) → self.old ≡ place_after controls.now n past
+            → OnOk result (self.new ≡ place_after controls.now n (record { read = now; ready = ready; due = due; came = came_of got.now } ∷ past)) }
         ensures memory { takes_memory self.old.row ≡ false → IsOk result }
         ensures err { OnErr result (self.new ≡ self.old) }
     {

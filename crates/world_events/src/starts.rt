@@ -2,11 +2,9 @@
 ghost use Rattle.std.specs.Prelude.{◌≡◌, ◌∷◌, ◌++◌, ◌+◌, ◌-◌, ◌≤◌, ◌^◌, [], OnOk, length};
 ghost use Rattle.world_events.specs.Starts.{IsSameOrder, HasRoomFor, place_at};
 
+use actor_names::Member;
 use mail_bytes::Memory;
 use std::alloc::Global;
-
-/// How many members a generation has.
-const MEMBERS: usize = 4;
 
 /// The actors that started, in order, each as often as it started: a member by its seat, and any other one by four more than its place
 /// among those that are no members.
@@ -45,7 +43,7 @@ impl Starts {
         ensures order { self.new.order.items ≡ self.old.order.items ++ (place + 4) ∷ [] }
         ensures newest { self.new.newest ≡ self.old.newest }
     {
-        self.order.push(place + MEMBERS).unwrap();
+        self.order.push(place + Member::COUNT).unwrap();
     }
 
     /// A generation starts. Takes no memory. The condition: there is room.
@@ -55,7 +53,13 @@ impl Starts {
         ensures newest { self.new.newest ≡ length self.old.order.items }
     {
         self.newest = self.order.len();
-        self.order.extend_from_slice(&[0, 1, 2, 3]).unwrap();
+        let seats = [
+            Member::Sender.seat(),
+            Member::Cleaner.seat(),
+            Member::LocalSpawner.seat(),
+            Member::RemoteSpawner.seat(),
+        ];
+        self.order.extend_from_slice(&seats).unwrap();
     }
 
     /// How many starts there were.
@@ -72,8 +76,8 @@ impl Starts {
         ensures { result ≡ place_at self.now crew at }
     {
         let seat = *self.order.get(at)?;
-        if seat >= MEMBERS {
-            Some(crew + (seat - MEMBERS))
+        if seat >= Member::COUNT {
+            Some(crew + (seat - Member::COUNT))
         } else if at >= self.newest {
             Some(seat)
         } else {

@@ -7,8 +7,8 @@ use Rattle.bounce_record.specs.declared.note_row.NoteRow.{NoteRow}
 use Rattle.bounce_record.specs.declared.note_row.NoteRow.TheVariants as written
 use Rattle.bounce_record.specs.declared.return_row.ReturnRow.{ReturnRow}
 use Rattle.bounce_record.specs.declared.return_row.ReturnRow.TheVariants as back
-use Rattle.bounce_record.specs.Returning.{Returning, return_due_at}
-use Rattle.bounce_record.specs.Writing.{Writing, writing_due_at}
+use Rattle.bounce_record.specs.Returning.{Returning, due_at as return_due_at}
+use Rattle.bounce_record.specs.Writing.{Writing, due_at as note_due_at}
 use Rattle.call_fs.specs.declared.calls.CallData.TheVariants as call
 use Rattle.call_fs.specs.declared.calls.How.TheVariants as how
 use Rattle.call_fs.specs.declared.past.NeedData.{NeedData}
@@ -152,7 +152,7 @@ pass_none todo.Done p n e = absurd (cc)
 pass_none (todo.Left why) p n e = absurd (cc)
 pass_none todo.Lost p n e = absurd (cc)
 
-note_none : (row : NoteRow) (w : Writing) (n : ℕ) → writing_due_at row w ≡ opening n → ⊥
+note_none : (row : NoteRow) (w : Writing) (n : ℕ) → note_due_at row w ≡ opening n → ⊥
 note_none written.Open w n e = absurd (cc)
 note_none written.Create w n e = absurd (cc)
 note_none (written.Stat fd) w n e = absurd (cc)

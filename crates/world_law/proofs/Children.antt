@@ -30,7 +30,7 @@ use Rattle.queue_law.proofs.Injectors.{injector_start}
 use Rattle.queue_law.proofs.Tests.{text_cases}
 use Rattle.remote_spawn.specs.Table.{due_from, place_after as remote_after}
 use Rattle.send_core.specs.declared.desk.Desk.{Desk}
-use Rattle.send_core.specs.Table.{desk_after, row_now}
+use Rattle.send_core.specs.Table.{place_after as sender_after, row_now}
 use Rattle.program_law.proofs.Sender.Programs.{starts_of}
 use Rattle.spawner_parts.specs.declared.place.Place.{Place as SpawnPlace}
 use Rattle.spawner_parts.specs.declared.row.Row.{Row as SpawnRow}
@@ -279,7 +279,7 @@ module _ (controls : Controls) (s : State) (I : Inv controls s) (parent : List �
   sender_bears : (began : ℕ) (past : List Own) → parent ≡ codes "sender" → s.actors parent ≡ Some (record { program = Sender began; past = past; life = Alive })
       → next_of (Sender began) past own.read own.ready ≡ own.due → Then (Sender began) past Alive
   sender_bears began past named is due =
-      let d : Desk = desk_after None past in
+      let d : Desk = sender_after None past in
       let next : next_of (Sender began) past own.read own.ready ≡ needs.Start asked = due ∙ starts in
       let w = starts_of d (row_now d own.read own.ready) asked next in
       let room : ℕ = d.bounce.room in

@@ -37,7 +37,7 @@ use Rattle.queue_law.proofs.Changes.{unlinks_one}
 use Rattle.queue_law.proofs.Cleaners.{cleaners_keep as calls_keep}
 use Rattle.send_core.specs.declared.row.Row.{Row as SenderRow}
 use Rattle.send_core.specs.declared.row.Row.TheVariants as sends
-use Rattle.send_core.specs.Table.{desk_after}
+use Rattle.send_core.specs.Table.{place_after as sender_after}
 use Rattle.send_core.specs.Turn.{known_of}
 use Rattle.send_parts.specs.declared.rows.FinishRow.TheVariants as finish
 use Rattle.send_parts.specs.declared.rows.SweepRow.{SweepRow}
@@ -349,10 +349,10 @@ module _ (controls : Controls) (s : State) (I : Inv controls s) (wrote : ℕ) (b
 
     -- what a living sender waits for is what the link says
     sender_left : (o : List ℕ) (since : ℕ) (events : List Own) → s.actors o ≡ Some (record { program = Sender since; past = events; life = Alive })
-        → LeavesRow (desk_after None events).row (desk_after None events).pass (number_at place.row) q r
+        → LeavesRow (sender_after None events).row (sender_after None events).pass (number_at place.row) q r
     sender_left o since events there =
         let named : o ≡ codes "sender" = I.crew o (record { program = Sender since; past = events; life = Alive }) there in
-        row_left q r x errands.waits errands.errand leads.abouts learned (desk_after None events).row (desk_after None events).pass
+        row_left q r x errands.waits errands.errand leads.abouts learned (sender_after None events).row (sender_after None events).pass
         (sym (ap awaits_in (ap s.actors (sym named) ∙ there)))
 
     called : Inv controls (then_state (needs.File c) (got.Answered told))

@@ -29,7 +29,7 @@ use Rattle.send_core.specs.declared.row.Row.{Row}
 use Rattle.send_core.specs.declared.row.Row.TheVariants as at
 use Rattle.send_core.specs.Booked.{booked_at, reported_when}
 use Rattle.send_core.specs.Desk.{link, with_reader}
-use Rattle.send_core.specs.Table.{desk_after, due_at, row_now}
+use Rattle.send_core.specs.Table.{place_after as sender_after, due_at, row_now}
 use Rattle.send_jobs.specs.Bookings.Booking.{Reported}
 use Rattle.send_jobs.specs.declared.channels.Channel.{Channel}
 use Rattle.send_jobs.specs.declared.channels.Channel.TheVariants.{Local}
@@ -52,7 +52,7 @@ use Rattle.world_law.specs.Crew.{IsNamed}
 use Rattle.world_law.specs.Inv.{Inv}
 use Rattle.world_law.specs.Deliveries.{IsCarriedOut}
 use Rattle.world_law.specs.Headline.{EndsWell}
-use Rattle.world_law.specs.Posts.{IsDeliveryFor, PostsStand, WasDone, desk_in, sends_in}
+use Rattle.world_law.specs.inside.Posts.{IsDeliveryFor, PostsStand, WasDone, desk_in, sends_in}
 use Rattle.world_law.proofs.Columns.{IsLiving}
 use Rattle.world_law.proofs.Delivered.{routed_there}
 use Rattle.world_law.proofs.DeliveredBooks.{HasDelivered, IsAmongThem, IsSaid, all_channel, all_delivered, call_delivered, said_at, said_heard}
@@ -144,12 +144,12 @@ done_keeps e controls s I may of address h = record {
 
 -- a sender tells of it with this event
 abbrev pub IsSaidBy : Program → List Own → ℕ → Ready → GotData → Books → Arguments → Spot → Type 0
-IsSaidBy (Sender since) past read ready came b of x = let d = desk_after None past in IsAmongThem (booked_at (row_now d read ready) came d) b of x
+IsSaidBy (Sender since) past read ready came b of x = let d = sender_after None past in IsAmongThem (booked_at (row_now d read ready) came d) b of x
 IsSaidBy program past read ready came b of x = ⊥
 
 taken_back : (child : Option Bouncer) (b : Books) (program : Program) (past : List Own) (read : ℕ) (ready : Ready) (came : GotData) (of : Arguments) (x : Spot)
     → HasDelivered (told_by child b program past read ready came) of x → HasDelivered b of x ⊎ IsSaidBy program past read ready came b of x
-taken_back child b (Sender since) past read ready came of x h = let d = desk_after None past in all_delivered child (booked_at (row_now d read ready) came d) b of x h
+taken_back child b (Sender since) past read ready came of x h = let d = sender_after None past in all_delivered child (booked_at (row_now d read ready) came d) b of x h
 taken_back child b (Injector args) past read ready came of x h = inl h
 taken_back child b (Cleaner since) past read ready came of x h = inl h
 taken_back child b (LocalSpawner since) past read ready came of x h = inl h
@@ -196,12 +196,12 @@ took_message controls s I x was =
     (carried.carried.message, carried.carried.input)
 
 module _ (controls : Controls) (s : State) (I : Inv controls s) (M : MessagesStand s) (own : Own) (wrote began : ℕ) (past : List Own) (is : s.actors (codes "sender") ≡ Some (sender began past))
-    (due : due_at (row_now (desk_after None past) own.read own.ready) (desk_after None past) ≡ own.due) (comes : ComesOf s (codes "sender") own.due own.came wrote) where
+    (due : due_at (row_now (sender_after None past) own.read own.ready) (sender_after None past) ≡ own.due) (comes : ComesOf s (codes "sender") own.due own.came wrote) where
   abbrev P : PostsStand s
   P = M.posts
 
   abbrev d : Desk
-  d = desk_after None past
+  d = sender_after None past
 
   abbrev row : Row
   row = row_now d own.read own.ready

@@ -30,7 +30,7 @@ use Rattle.mail_world.specs.History.Life.{Alive}
 use Rattle.world_law.specs.Crew.{IsNamed}
 use Rattle.world_law.specs.Entered.{IsEntered}
 use Rattle.world_law.specs.Inv.{Inv}
-use Rattle.world_law.specs.Posts.{PostsStand, View, WasDone, desk_in, place_in, post_of}
+use Rattle.world_law.specs.inside.Posts.{PostsStand, View, WasDone, desk_in, place_in, post_of}
 use Rattle.world_law.proofs.EnteredStands.{Begins, FeedsLast, IsGivenFor, MessagesStand, NothingComes, has_message, received, sends_on}
 use Rattle.world_law.proofs.Histories.{always}
 use Rattle.world_law.proofs.EnteredFlights.{one_number}

@@ -54,7 +54,7 @@ use Rattle.mail_world.proofs.Members.{member_contained}
 use Rattle.world_law.specs.Crew.{IsNamed}
 use Rattle.world_law.specs.Entered.{IsEntered}
 use Rattle.world_law.specs.Inv.{Inv}
-use Rattle.world_law.specs.Posts.{IsDeliveryFor, PostsStand, View, desk_in, place_in, sends_in, serves_in, view_of}
+use Rattle.world_law.specs.inside.Posts.{IsDeliveryFor, PostsStand, View, desk_in, place_in, sends_in, serves_in, view_of}
 use Rattle.world_law.proofs.EnteredKept.{KeepsHeld, ReceivedSame, given_for_kept}
 use Rattle.world_law.proofs.EnteredLeft.{messages_left}
 use Rattle.world_law.proofs.EnteredOthers.{entered_books, neither_moves}

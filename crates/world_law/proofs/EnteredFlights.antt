@@ -11,7 +11,7 @@ use Rattle.queue_paths.specs.Names.Part.{Mess}
 use Rattle.queue_paths.proofs.Paths.{path_injective}
 use Rattle.queue_states.specs.declared.state.State.TheVariants.{S5}
 use Rattle.queue_states.specs.States.{state_of}
-use Rattle.send_core.specs.Table.{desk_after}
+use Rattle.send_core.specs.Table.{place_after as sender_after}
 use Rattle.send_jobs.specs.declared.attempts.Attempt.{Attempt}
 use Rattle.send_jobs.specs.declared.channels.Channel.TheVariants.{Local}
 use Rattle.send_jobs.specs.Sending.{lane}
@@ -25,7 +25,7 @@ use Rattle.world_events.specs.declared.event.Program.TheVariants.{Sender}
 use Rattle.mail_world.specs.History.{Actor, Life, State}
 use Rattle.mail_world.specs.History.Life.{Alive, Over, Stopped}
 use Rattle.world_law.specs.Inv.{Inv}
-use Rattle.world_law.specs.Posts.{PostsStand, desk_in, place_in, post_of, sends_by, sends_in, view_of}
+use Rattle.world_law.specs.inside.Posts.{PostsStand, desk_in, place_in, post_of, sends_by, sends_in, view_of}
 use Rattle.world_law.specs.Standing.{HandsStand, is_at_work}
 use Rattle.world_law.proofs.AtWork.{IsOfAttempt, held, runs_held, works_by}
 use Rattle.world_law.proofs.EnteredStands.{FeedsLast, has_message, sends_on, serves_on}
@@ -62,8 +62,8 @@ pub flying_stays : (controls : Controls) (s : State) → Inv controls s → send
 flying_stays controls s I on n w =
     let sends = and_parts (sends_in (s.actors (codes "sender"))) (is_on (desk_in (s.actors (codes "sender"))).row) on in
     let it = sender_in (s.actors (codes "sender")) sends.0 in
-    let H : HandsStand s (desk_after None it.1) = hands_by controls s I (codes "sender") (Sender it.0) it.1 Alive refl it.0 refl (I.fares (codes "sender") (sender it.0 it.1) it.2) in
-    let flies : attempt_in (lane Local (desk_after None it.1).slots).slots w.slot ≡ Some w.attempt =
+    let H : HandsStand s (sender_after None it.1) = hands_by controls s I (codes "sender") (Sender it.0) it.1 Alive refl it.0 refl (I.fares (codes "sender") (sender it.0 it.1) it.2) in
+    let flies : attempt_in (lane Local (sender_after None it.1).slots).slots w.slot ≡ Some w.attempt =
     ap (λ (o : Option Actor). attempt_in (lane Local (desk_in o).slots).slots w.slot) (sym it.2) ∙ w.flies in
     subst (λ (m : ℕ). state_of s.disk m ≡ S5) w.number (H.flies Local w.slot w.attempt flies).stays
 

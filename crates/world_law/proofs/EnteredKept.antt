@@ -12,7 +12,7 @@ use Rattle.spawner_parts.specs.declared.row.Row.{Row}
 use Rattle.spawner_parts.specs.declared.row.Row.TheVariants as at
 use Rattle.mail_world.specs.History.{Actor, State}
 use Rattle.world_law.specs.Entered.{IsEntered}
-use Rattle.world_law.specs.Posts.{IsDeliveryFor}
+use Rattle.world_law.specs.inside.Posts.{IsDeliveryFor}
 use Rattle.world_law.proofs.EnteredStands.{Begins, HoldsMessage, HoldsText, IsGiven, IsGivenFor, IsUnfed, received}
 
 -- the local spawner keeps its descriptors

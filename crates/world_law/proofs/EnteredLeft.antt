@@ -12,7 +12,7 @@ use Rattle.spawn_protocol.specs.declared.request.Request.{Request}
 use Rattle.spawner_parts.specs.Asked.{runs_in}
 use Rattle.mail_world.specs.History.{State}
 use Rattle.world_law.specs.Entered.{IsEntered}
-use Rattle.world_law.specs.Posts.{IsDeliveryFor, PostsStand, View, desk_in, place_in, post_of}
+use Rattle.world_law.specs.inside.Posts.{IsDeliveryFor, PostsStand, View, desk_in, place_in, post_of}
 use Rattle.world_law.proofs.EnteredFlights.{IsFlying, given_flies, work_flies}
 use Rattle.world_law.proofs.EnteredKept.{KeepsHeld, ReceivedSame, given_left, message_left}
 use Rattle.world_law.proofs.EnteredStands.{DoneHold, FeedsLast, HoldsMessage, IsGivenFor, MessagesHold, MessagesStand, NothingComes, has_message, sends_on, serves_on}

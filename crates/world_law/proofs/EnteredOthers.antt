@@ -31,7 +31,7 @@ use Rattle.world_law.specs.Crew.{IsNamed, is_alive}
 use Rattle.world_law.specs.Entered.{IsEntered}
 use Rattle.world_law.specs.Inv.{Inv}
 use Rattle.world_law.specs.Leaves.{IsSparing, LeavesMost}
-use Rattle.world_law.specs.Posts.{desk_in, place_in, sends_by, sends_in, serves_by, serves_in}
+use Rattle.world_law.specs.inside.Posts.{desk_in, place_in, sends_by, sends_in, serves_by, serves_in}
 use Rattle.world_law.proofs.EnteredFlights.{IsFlying, flying_stays}
 use Rattle.world_law.proofs.EnteredKept.{KeepsHeld, given_for_left}
 use Rattle.world_law.proofs.EnteredLeft.{messages_left}

@@ -17,7 +17,7 @@ use Rattle.program_law.specs.Post.Senders.{IsSome, Sends, is_on}
 use Rattle.queue_law.specs.Books.{Books, Child as Bouncer}
 use Rattle.send_core.specs.Booked.{booked_at}
 use Rattle.send_core.specs.declared.desk.Desk.{Desk}
-use Rattle.send_core.specs.Table.{desk_after, due_at, moved, row_now}
+use Rattle.send_core.specs.Table.{place_after as sender_after, due_at, moved, row_now}
 use Rattle.send_jobs.specs.declared.attempts.Attempt.{Attempt}
 use Rattle.send_jobs.specs.declared.channels.Channel.TheVariants.{Local}
 use Rattle.send_jobs.specs.Sending.{lane}
@@ -35,7 +35,7 @@ use Rattle.mail_world.proofs.Coming.{may_come}
 use Rattle.world_law.specs.Crew.{IsNamed}
 use Rattle.world_law.specs.Entered.{IsEntered}
 use Rattle.world_law.specs.Inv.{Inv}
-use Rattle.world_law.specs.Posts.{IsDeliveryFor, PostsStand, View, desk_in, place_in, post_of, sends_in, serves_in}
+use Rattle.world_law.specs.inside.Posts.{IsDeliveryFor, PostsStand, View, desk_in, place_in, post_of, sends_in, serves_in}
 use Rattle.world_law.proofs.AtWork.{runs_not_free}
 use Rattle.world_law.proofs.EnteredBooks.{EnteredIn, entered_stays}
 use Rattle.world_law.proofs.EnteredKept.{KeepsHeld, ReceivedSame, given_for_kept, message_kept}
@@ -51,7 +51,7 @@ use Rattle.world_law.proofs.SpawnedSlots.{on_before as goes_on}
 
 module _ (child : Option Bouncer) (b : Books) (n : ℕ) (message : List ℕ) (h : EnteredIn b n message) (began : ℕ) (past : List Own) (read : ℕ) (ready : Ready) where
   abbrev keeps : Desk
-  keeps = desk_after None past
+  keeps = sender_after None past
 
   entered_after : (due : NeedData) (came : GotData) → EnteredIn (books_after child b (codes "sender") (Sender began) past read ready due came) n message
   entered_after (needs.File call) (got.Answered told) = entered_stays n message child (booked_at (row_now keeps read ready) (got.Answered told) keeps) b h
@@ -61,13 +61,13 @@ module _ (child : Option Bouncer) (b : Books) (n : ℕ) (message : List ℕ) (h 
 -- An event
 
 module _ (controls : Controls) (s : State) (I : Inv controls s) (M : MessagesStand s) (own : Own) (wrote began : ℕ) (past : List Own) (is : s.actors (codes "sender") ≡ Some (sender began past))
-    (soon : own.read ≤ s.now) (due : due_at (row_now (desk_after None past) own.read own.ready) (desk_after None past) ≡ own.due)
+    (soon : own.read ≤ s.now) (due : due_at (row_now (sender_after None past) own.read own.ready) (sender_after None past) ≡ own.due)
     (may : MayCome own.due own.came) (takes : own.due ≡ needs.Take port.Lspawn → IsSome own.came (s.pipework.pipes (codes "sender") port.Lspawn).bytes) where
   abbrev P : PostsStand s
   P = M.posts
 
   abbrev d : Desk
-  d = desk_after None past
+  d = sender_after None past
 
   abbrev e : Desk
   e = moved d own

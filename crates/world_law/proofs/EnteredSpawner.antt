@@ -37,7 +37,7 @@ use Rattle.mail_world.specs.History.{Actor, ComesOf, IsLocalSpawner, Life, State
 use Rattle.mail_world.specs.History.Life.{Alive}
 use Rattle.world_law.specs.Crew.{IsNamed}
 use Rattle.world_law.specs.Inv.{Inv}
-use Rattle.world_law.specs.Posts.{IsDeliveryFor, PostsStand, desk_in, place_in, sends_in, serves_in}
+use Rattle.world_law.specs.inside.Posts.{IsDeliveryFor, PostsStand, desk_in, place_in, sends_in, serves_in}
 use Rattle.world_law.proofs.EnteredFlights.{flying_stays, work_asked}
 use Rattle.world_law.proofs.EnteredStands.{Begins, DoneHold, FeedsLast, HoldsMessage, IsGivenFor, MessagesHold, MessagesStand, NothingComes, has_message, received, sends_on, serves_on}
 use Rattle.world_law.proofs.MessageSteps.{IsNoFeed, fed_begins, fed_in_part, input_left}

@@ -24,7 +24,7 @@ use Rattle.spawner_parts.specs.Asked.{name_of_mess, runs_in}
 use Rattle.world_pipes.specs.Pipework.Tenant.{Runs}
 use Rattle.mail_world.specs.History.{Actor, State}
 use Rattle.world_law.specs.Entered.{IsEntered}
-use Rattle.world_law.specs.Posts.{PostsStand, desk_in, place_in, sends_in, serves_in}
+use Rattle.world_law.specs.inside.Posts.{PostsStand, desk_in, place_in, sends_in, serves_in}
 
 -- these are first bytes of those
 pub record Begins (part whole : List ℕ) : Type 0 where

@@ -28,7 +28,7 @@ use Rattle.queue_law.proofs.Looks.{find_none, find_some, found, mapped_some, not
 use Rattle.queue_paths.specs.Names.Name.{Of}
 use Rattle.queue_paths.specs.Names.Part.{Info, Todo}
 use Rattle.send_core.specs.declared.row.Row.{Row as SenderRow}
-use Rattle.send_core.specs.Table.{desk_after}
+use Rattle.send_core.specs.Table.{place_after as sender_after}
 use Rattle.send_jobs.specs.declared.attempts.Attempt.{Attempt}
 use Rattle.send_jobs.specs.declared.channels.Channel.{Channel}
 use Rattle.send_jobs.specs.declared.slots.Slots.{Slots}
@@ -227,7 +227,7 @@ gone_before (Halt how contents) controls s I L may = λ x is dead.
 -- What it has or had in flight
 
 abbrev FlightOf : State → List Own → Type 0
-FlightOf s past = (ch : Channel) (t : Attempt) → IsOut (desk_after None past) ch t → IsSettledIn (about_in s t.n)
+FlightOf s past = (ch : Channel) (t : Attempt) → IsOut (sender_after None past) ch t → IsSettledIn (about_in s t.n)
 
 left_serves : (q : Queue) (row : SenderRow) (ch : Channel) (s : Slots) → LaneStands q row ch s → (t : Attempt) → Contains (lane ch s).left t → Serves (about q t.n) ch
 left_serves q row ch s l t w =
@@ -242,7 +242,7 @@ AllFlights s = (x : Actor) → s.actors (codes "sender") ≡ Some x → (start :
 alive_flight : (controls : Controls) (s : State) (I : Inv controls s) (a : List ℕ) (program : Program) (past : List Own) (life : Life) → life ≡ Alive → (start : ℕ) → program ≡ Sender start
     → FaresBy controls s.now (queue s I.role) a program past life → FlightOf s past
 alive_flight controls s I a (Sender since) past Alive alive start is F = λ ch t out.
-    let d = desk_after None past in
+    let d = sender_after None past in
     let q = queue s I.role in
     ⊎_elim
     (λ (flying : (slot : ℕ) × (attempt_in (lane ch d.slots).slots slot ≡ Some t)).

@@ -13,14 +13,14 @@ use Rattle.program_law.specs.Errand.Errands.{Awaits, Link, loses}
 use Rattle.program_law.specs.Errand.Errands.Awaits.{Over as Lost}
 use Rattle.program_law.proofs.Errand.Links.{losses_keep}
 use Rattle.queue_inject.specs.declared.row.Row.TheVariants as inject
-use Rattle.queue_inject.specs.Table.{row_after}
+use Rattle.queue_inject.specs.Table.{place_after as inject_after}
 use Rattle.queue_clean.specs.Commands.{message_of}
 use Rattle.queue_clean.specs.Table.{Place, place_after}
 use Rattle.local_spawn.specs.Table.{place_after as local_after}
 use Rattle.remote_spawn.specs.Table.{place_after as spawn_after}
 use Rattle.send_core.specs.declared.row.Row.{Row}
 use Rattle.send_core.specs.declared.row.Row.TheVariants as at
-use Rattle.send_core.specs.Table.{desk_after}
+use Rattle.send_core.specs.Table.{place_after as send_after}
 use Rattle.send_core.specs.Turn.{known_of}
 use Rattle.send_parts.specs.declared.rows.FinishRow.TheVariants as finish
 use Rattle.todo_pass.specs.declared.row.Row.{Row as PassRow}
@@ -138,7 +138,7 @@ bytes_shut false p = refl
 
 -- an injector that is at its end with 0, and a delivery
 abbrev IsDone : Program → List Own → Type 0
-IsDone (Injector args) past = row_after args past ≡ inject.Queued
+IsDone (Injector args) past = inject_after args past ≡ inject.Queued
 IsDone (Delivery start args) past = IsCarried args past
 IsDone other past = Unit {0}
 
@@ -245,7 +245,7 @@ module _ (controls : Controls) (s : State) (I : Inv controls s) (a : List ℕ) (
   fares_other o other (Cleaner start) past (Over status) F = tt
   fares_other o other (Cleaner start) past Stopped F = tt
   fares_other o other (Sender start) past Alive F =
-      let d = desk_after None past in
+      let d = send_after None past in
       record {
         stands = senders_are_left_alone.others controls s.now o a None None before over d elsewhere other spares_sorted spares.0
             (leaves_row before over (λ _. refl) d.row d.pass) F.stands;

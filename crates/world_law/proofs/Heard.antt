@@ -17,7 +17,7 @@ use Rattle.send_core.proofs.Standing.{FitAt, Half, InMark, InStart}
 use Rattle.send_core.specs.Agrees.{has_ended}
 use Rattle.send_core.specs.Desk.{link}
 use Rattle.send_core.specs.Past.{Account, Work, account, work}
-use Rattle.send_core.specs.Table.{Next, arrive, desk_after, due_at, row_now}
+use Rattle.send_core.specs.Table.{Next, arrive, place_after as sender_after, due_at, row_now}
 use Rattle.send_core.specs.declared.desk.Desk.{Desk}
 use Rattle.send_core.specs.declared.row.MarkRow.{MarkRow}
 use Rattle.send_core.specs.declared.row.MarkRow.TheVariants as mark
@@ -83,12 +83,12 @@ still_runs : (row : Row) (d : Desk) (now : ℕ) (ready : Ready) → due_at (arri
 still_runs (at.Ended status) d now ready e = absurd (cc)
 still_runs row d now ready e = refl
 
-module _ (past : List Own) (run : IsRunBy (Next None) past) (own : Own) (due : due_at (row_now (desk_after None past) own.read own.ready) (desk_after None past) ≡ own.due)
+module _ (past : List Own) (run : IsRunBy (Next None) past) (own : Own) (due : due_at (row_now (sender_after None past) own.read own.ready) (sender_after None past) ≡ own.due)
     (taking : own.due ≡ needs.Take port.Lspawn) where
-  alive : has_ended (desk_after None past).row ≡ false
-  alive = still_runs (desk_after None past).row (desk_after None past) own.read own.ready (due ∙ taking)
+  alive : has_ended (sender_after None past).row ≡ false
+  alive = still_runs (sender_after None past).row (sender_after None past) own.read own.ready (due ∙ taking)
 
-  pub flies_now : Flies Local (account Local past) (desk_after None past)
+  pub flies_now : Flies Local (account Local past) (sender_after None past)
   flies_now = (lanes_agree None past run Local alive).in_flight
 
   by_heard : (bytes : List ℕ) (o : Option (List ℕ)) → (P : List Report → Type 0) → P [] → P (read_on (read_on AtBegin (so_far o)).1 bytes).0 → P (ending_in o bytes)
@@ -101,9 +101,9 @@ module _ (past : List Own) (run : IsRunBy (Next None) past) (own : Own) (due : d
       ∙ ap (λ (z : GotData). taken_when (taken_by (needs.Take port.Lspawn) z Local) (account Local past).heard) came
 
   -- what holds of the reports that it reads holds of those that end in what it takes
-  pub reports_now : (bytes : List ℕ) → own.came ≡ got.Took bytes → (P : List Report → Type 0) → P [] → P (read_on (link Local (desk_after None past)).reader bytes).0 → P (reports_at Local past own)
+  pub reports_now : (bytes : List ℕ) → own.came ≡ got.Took bytes → (P : List Report → Type 0) → P [] → P (read_on (link Local (sender_after None past)).reader bytes).0 → P (reports_at Local past own)
   reports_now bytes came P none all =
-      let reader : (desk_after None past).local.reader ≡ (read_on AtBegin (so_far (account Local past).heard)).1 =
-      by_row (Was past) (work past) (account Local past) (account Remote past) (desk_after None past).row (desk_after None past) alive (keeps None past run).0 in
+      let reader : (sender_after None past).local.reader ≡ (read_on AtBegin (so_far (account Local past).heard)).1 =
+      by_row (Was past) (work past) (account Local past) (account Remote past) (sender_after None past).row (sender_after None past) alive (keeps None past run).0 in
       subst P (sym (taken_then bytes came))
       (by_heard bytes (account Local past).heard P none (subst (λ (z : Reader). P (read_on z bytes).0) reader all))

@@ -27,7 +27,7 @@ use Rattle.queue_paths.specs.Names.{path}
 use Rattle.queue_paths.specs.Names.Name.{Of}
 use Rattle.send_core.specs.Agrees.{has_ended, task_of}
 use Rattle.send_core.specs.Past.{Task, account, first_of}
-use Rattle.send_core.specs.Table.{Next, arrive, desk_after, due_at, port_of, row_now}
+use Rattle.send_core.specs.Table.{Next, arrive, place_after as sender_after, due_at, port_of, row_now}
 use Rattle.send_core.specs.declared.desk.Desk.{Desk}
 use Rattle.send_core.specs.declared.row.Row.{Row}
 use Rattle.send_core.specs.declared.row.Row.TheVariants as at
@@ -107,14 +107,14 @@ accounts_always controls d before has legal = (inv_is_safe controls (after d bef
 -- Attempts
 
 pub sender_fares : (controls : Controls) (now : ℕ) (q : Queue) (a : List ℕ) (program : Program) (past : List Own) (life : Life) (start : ℕ) → program ≡ Sender start → life ≡ Alive
-    → FaresBy controls now q a program past life → SenderFares controls now q a (desk_after None past)
+    → FaresBy controls now q a program past life → SenderFares controls now q a (sender_after None past)
 sender_fares controls now q a (Sender began) past Alive start is alive F = F
 sender_fares controls now q a (Sender began) past life start is alive F = absurd (cc)
 sender_fares controls now q a other past life start is alive F = absurd (cc)
 
 -- what is due to a sender
 due_of : (program : Program) (past : List Own) (read : ℕ) (ready : Ready) (start : ℕ) (due : NeedData) → program ≡ Sender start → next_of program past read ready ≡ due
-    → due_at (row_now (desk_after None past) read ready) (desk_after None past) ≡ due
+    → due_at (row_now (sender_after None past) read ready) (sender_after None past) ≡ due
 due_of program past read ready start due is next = subst (λ (p : Program). next_of p past read ready ≡ due) is next
 
 -- a sender that gives hasn't ended
@@ -147,7 +147,7 @@ module _ (controls : Controls) (s : State) (I : Inv controls s) (a : List ℕ) (
   attempted : (ch : Channel) (text : List ℕ) → own.due ≡ needs.Give (port_of ch) text → IsAttempt s may.actor.past ch text
   attempted ch text given =
       let x = may.actor in
-      let d = desk_after None x.past in
+      let d = sender_after None x.past in
       let F = sender_fares controls s.now (queue s I.role) a x.program x.past x.life start is may.reads.alive (I.fares a x may.reads.is) in
       let soon = may.reads.no_later in
       let moment : IsMoment own.read = (let m = I.moment in omega (arith, m, soon)) in
@@ -218,7 +218,7 @@ module _ (controls : Controls) (s : State) (I : Inv controls s) (a : List ℕ) (
       let x = may.actor in
       let q = queue s I.role in
       let F = sender_fares controls s.now q a x.program x.past x.life start is may.reads.alive (I.fares a x may.reads.is) in
-      let d = desk_after None x.past in
+      let d = sender_after None x.past in
       let soon = may.reads.no_later in
       let moment : IsMoment own.read = (let m = I.moment in omega (arith, m, soon)) in
       let at_row = arrived controls s.now own.read q a soon moment d own.ready F.stands in

@@ -7,7 +7,7 @@ use Rattle.local_spawn.specs.Table.{place_after as local_after}
 use Rattle.program_law.specs.Post.Posts.{Fares, IsTaskFor, Post, Posted, Task, goes_at, in_hand}
 use Rattle.program_law.specs.Post.Senders.{is_on}
 use Rattle.send_core.specs.declared.desk.Desk.{Desk}
-use Rattle.send_core.specs.Table.{desk_after}
+use Rattle.send_core.specs.Table.{place_after as sender_after}
 use Rattle.send_jobs.specs.declared.attempts.Attempt.{Attempt}
 use Rattle.send_jobs.specs.declared.channels.Channel.TheVariants as channel
 use Rattle.send_jobs.specs.Sending.{lane}
@@ -20,7 +20,7 @@ use Rattle.spawner_parts.specs.Asked.{runs_in}
 use Rattle.world_events.specs.declared.event.Program.TheVariants.{LocalSpawner, Sender}
 use Rattle.mail_world.specs.History.{Actor, State, after}
 use Rattle.mail_world.specs.History.Life.{Alive}
-use Rattle.world_law.specs.Posts.{IsTaskIn, PostsStand, View, desk_in, place_in, post_of, sends_in, serves_in, view_of}
+use Rattle.world_law.specs.inside.Posts.{IsTaskIn, PostsStand, View, desk_in, place_in, post_of, sends_in, serves_in, view_of}
 use Rattle.world_law.specs.Standing.{HandsStand, HoldsFlights, IsOfFlight, RequestsAreOfFlights, RunsForFlight, goes_on}
 use Rattle.world_law.proofs.AtWork.{IsOfAttempt, held, runs_held, waiting, waiting_plain, waiting_text, works_by}
 use Rattle.world_law.proofs.Histories.{always}
@@ -78,7 +78,7 @@ module _ (s : State) (d : Desk) (H : HandsStand s d) (p : Place) (x : Post) (liv
 module _ (s : State) (P : PostsStand s) (first third : ℕ) (past own : List Own) (is : s.actors (codes "sender") ≡ Some (sender first past))
     (there : s.actors (codes "lspawn") ≡ Some (spawner third own)) where
   abbrev d : Desk
-  d = desk_after None past
+  d = sender_after None past
 
   abbrev both : View
   both = record {

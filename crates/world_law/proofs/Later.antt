@@ -5,7 +5,7 @@ use Rattle.call_fs.specs.declared.past.Own.{Own}
 use Rattle.program_law.specs.Errand.Errands.{Link}
 use Rattle.queue_clean.specs.Commands.{message_of}
 use Rattle.queue_clean.specs.Table.{place_after}
-use Rattle.send_core.specs.Table.{desk_after}
+use Rattle.send_core.specs.Table.{place_after as sender_after}
 use Rattle.queue_law.specs.Numbers.{Queue}
 use Rattle.queue_law.proofs.Injectors.{injector_later}
 use Rattle.queue_law.proofs.Rests.{closed_later}
@@ -32,7 +32,7 @@ fares_later controls now m later q a (Cleaner start) past Alive F = rest_is_kept
 fares_later controls now m later q a (Cleaner start) past (Over status) F = tt
 fares_later controls now m later q a (Cleaner start) past Stopped F = tt
 fares_later controls now m later q a (Sender start) past Alive F =
-    record { stands = senders_are_left_alone.later controls now m later q a (desk_after None past) F.stands; control = F.control; texts = F.texts }
+    record { stands = senders_are_left_alone.later controls now m later q a (sender_after None past) F.stands; control = F.control; texts = F.texts }
 fares_later controls now m later q a (Sender start) past (Over status) F = tt
 fares_later controls now m later q a (Sender start) past Stopped F = tt
 fares_later controls now m later q a (LocalSpawner start) past life F = F

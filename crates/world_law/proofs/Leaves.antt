@@ -29,7 +29,7 @@ use Rattle.queue_law.proofs.Sends.{reads_keep}
 use Rattle.queue_law.proofs.Tests.{unless_same}
 use Rattle.remote_spawn.specs.Table.{place_after as remote_after, program_of as remote_asks}
 use Rattle.send_core.specs.Booked.{booked_at}
-use Rattle.send_core.specs.Table.{desk_after, due_at, row_now}
+use Rattle.send_core.specs.Table.{place_after as sender_after, due_at, row_now}
 use Rattle.send_core.specs.declared.desk.Desk.{Desk}
 use Rattle.send_core.specs.declared.row.Row.{Row}
 use Rattle.program_law.specs.Sender.Takings.{booked_queue}
@@ -153,7 +153,7 @@ module _ (controls : Controls) (s : State) (I : Inv controls s) (a : List ℕ) (
 
   module _ (since : ℕ) (past : List Own) (may : Runs (Sender since) past) where
     abbrev d : Desk
-    d = desk_after None past
+    d = sender_after None past
 
     abbrev row : Row
     row = row_now d own.read own.ready

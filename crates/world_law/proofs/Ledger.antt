@@ -8,7 +8,7 @@ use Rattle.bounce_record.specs.declared.note_row.NoteRow.{NoteRow}
 use Rattle.bounce_record.specs.declared.note_row.NoteRow.TheVariants as written
 use Rattle.bounce_record.specs.declared.return_row.ReturnRow.{ReturnRow}
 use Rattle.bounce_record.specs.declared.return_row.ReturnRow.TheVariants as back
-use Rattle.bounce_record.specs.Returning.{return_due_at}
+use Rattle.bounce_record.specs.Returning.{due_at as return_due_at}
 use Rattle.bounce_record.specs.Writing.{bounce_path}
 use Rattle.call_fs.specs.Apply.{effect}
 use Rattle.call_fs.specs.Disk.{Among, Disk, File}
@@ -45,7 +45,7 @@ use Rattle.send_core.specs.declared.row.Marked.{Marked}
 use Rattle.send_core.specs.declared.row.Row.{Row}
 use Rattle.send_core.specs.declared.row.Row.TheVariants as at
 use Rattle.send_core.specs.Desk.{link, told, with_reader}
-use Rattle.send_core.specs.Table.{desk_after, due_at, row_now}
+use Rattle.send_core.specs.Table.{place_after as sender_after, due_at, row_now}
 use Rattle.send_jobs.specs.Bookings.{Booking}
 use Rattle.send_jobs.specs.Bookings.Booking.{Dropped, Noted, ReadNotes, Returned}
 use Rattle.send_jobs.specs.declared.attempts.Attempt.{Attempt}
@@ -224,7 +224,7 @@ module _ (controls : Controls) (d : Disk) (h : List Event) (has : AreControls co
   may = legal.1
 
   abbrev desk : Desk
-  desk = desk_after None past
+  desk = sender_after None past
 
   abbrev row : Row
   row = row_now desk own.read own.ready

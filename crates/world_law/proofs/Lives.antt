@@ -25,7 +25,7 @@ use Rattle.queue_paths.specs.Names.{Name, parse, path}
 use Rattle.queue_paths.specs.Names.Name.{Of}
 use Rattle.queue_paths.specs.Names.Part.{Intd, Mess, Todo}
 use Rattle.send_core.specs.Booked.{booked_at}
-use Rattle.send_core.specs.Table.{desk_after, row_now}
+use Rattle.send_core.specs.Table.{place_after as sender_after, row_now}
 use Rattle.send_jobs.specs.Bookings.{Booking}
 use Rattle.send_jobs.specs.Bookings.Booking.{Dropped, Noted, ReadNotes, Reported, Returned}
 use Rattle.world_events.specs.Books.{mess_number}
@@ -313,7 +313,7 @@ module _ (b : Books) (a : List ℕ) (args : Arguments) where
 
 -- what a sender enters with it
 abbrev pub entries_by : Program → List Own → ℕ → Ready → GotData → List Booking
-entries_by (Sender start) past read ready came = let d = desk_after None past in booked_at (row_now d read ready) came d
+entries_by (Sender start) past read ready came = let d = sender_after None past in booked_at (row_now d read ready) came d
 entries_by program past read ready came = []
 
 acted_goes : (child : Option Child) (b : Books) (a : List ℕ) (program : Program) (past : List Own) (read : ℕ) (ready : Ready) (due : NeedData) (came : GotData)
@@ -321,11 +321,11 @@ acted_goes : (child : Option Child) (b : Books) (a : List ℕ) (program : Progra
 acted_goes child b a (Injector args) past read ready (needs.File call) (got.Answered told) = called_goes b a args call told
 acted_goes child b a (Injector args) past read ready due came = goes_same b []
 acted_goes child b a (Sender start) past read ready (needs.File call) (got.Answered told) =
-    let d = desk_after None past in
+    let d = sender_after None past in
     let es = booked_at (row_now d read ready) (got.Answered told) d in
     entered_goes b (booked_all child es b) es (all_enter child es b)
 acted_goes child b a (Sender start) past read ready (needs.Take port) came =
-    let d = desk_after None past in
+    let d = sender_after None past in
     let es = booked_at (row_now d read ready) came d in
     entered_goes b (booked_all child es b) es (all_enter child es b)
 acted_goes child b a (Sender start) past read ready due came = goes_same b (entries_by (Sender start) past read ready came)

@@ -26,7 +26,7 @@ use Rattle.queue_clean.specs.Table.{Next as CleansNext, Place, due_at, is_old, m
 use Rattle.queue_inject.specs.declared.injection.Arguments.{Arguments}
 use Rattle.queue_inject.specs.declared.row.Row.{Row as InjectRow}
 use Rattle.queue_inject.specs.declared.row.Row.TheVariants as inject
-use Rattle.queue_inject.specs.Table.{row_after}
+use Rattle.queue_inject.specs.Table.{place_after as inject_after}
 use Rattle.queue_law.specs.Cleaners.{StandsAt}
 use Rattle.queue_law.specs.Injectors.{Relies}
 use Rattle.queue_law.specs.Numbers.{Entry, Queue, look}
@@ -175,7 +175,7 @@ module _ (controls : Controls) (s : State) (I : Inv controls s) (pid start seq :
   stale_apart : IsStale q x s.now → (a : List ℕ) → HasPid s a pid start seq → ⊥
   stale_apart h a it =
       let y = it.actor in
-      let his = pid_mine q a it.args (row_after it.args y.past) seq it.seq_is (relies_by controls s.now q a y.program y.past y.life it.args it.program it.alive (I.fares a y it.is) it.soon) in
+      let his = pid_mine q a it.args (inject_after it.args y.past) seq it.seq_is (relies_by controls s.now q a y.program y.past y.life it.args it.program it.alive (I.fares a y it.is) it.soon) in
       let name : Pid it.args.pid it.args.start seq ≡ x = ap (λ (p : ℕ). Pid p it.args.start seq) it.pid_is ∙ ap (λ (t : ℕ). Pid pid t seq) it.start_is in
       let there : look q x ≡ Some his.file = subst (λ (z : Name). look q z ≡ Some his.file) name his.there in
       let old = h.name.there in

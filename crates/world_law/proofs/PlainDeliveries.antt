@@ -32,7 +32,7 @@ use Rattle.queue_clean.specs.Table.{due_at as clean_due, is_old, pid_path, place
 use Rattle.queue_inject.proofs.Acts.{IsAlone, next_alone}
 use Rattle.queue_law.proofs.Looks.{mapped_some}
 use Rattle.remote_spawn.specs.Table.{place_after as remote_after, program_of as remote_asks}
-use Rattle.send_core.specs.Table.{desk_after, row_now as sender_row}
+use Rattle.send_core.specs.Table.{place_after as sender_after, row_now as sender_row}
 use Rattle.program_law.proofs.Sender.Programs.{starts_of}
 use Rattle.spawner_parts.specs.Table.{row_now as spawn_now}
 use Rattle.world_events.specs.declared.event.Program.{Program}
@@ -106,7 +106,7 @@ module _ (slot : ℕ) (words : DeliveryWordsData) (uid : ℕ) where
   asked_plain (Cleaner began) past read ready next =
       let p = clean_after past in none_asked (clean_due p.row p.name read) (clean_asks p.row p.name read) next
   asked_plain (Sender began) past read ready next =
-      let d = desk_after None past in
+      let d = sender_after None past in
       let w = starts_of d (sender_row d read ready) asking next in
       let it : asking ≡ child.Bounce d.bounce.room = w.asked_is in
       absurd (cc)

@@ -43,7 +43,7 @@ use Rattle.mail_world.specs.History.Life.{Alive, Over}
 use Rattle.mail_world.proofs.Members.{member_contained}
 use Rattle.world_law.specs.Crew.{IsNamed, is_alive}
 use Rattle.world_law.specs.Inv.{Inv}
-use Rattle.world_law.specs.Posts.{PostsStand, View, desk_in, place_in, post_of, sends_by, sends_in, serves_by, serves_in, view_of}
+use Rattle.world_law.specs.inside.Posts.{PostsStand, View, desk_in, place_in, post_of, sends_by, sends_in, serves_by, serves_in, view_of}
 use Rattle.world_law.specs.Spawned.{spawner_name}
 use Rattle.world_law.proofs.Deliveries.{IsDelivering, row_delivers}
 use Rattle.world_law.proofs.Gone.{bytes_shut}

@@ -18,7 +18,7 @@ use Rattle.send_core.specs.declared.desk.Desk.{Desk}
 use Rattle.send_core.specs.declared.row.Row.{Row}
 use Rattle.send_core.specs.declared.row.Row.TheVariants as at
 use Rattle.send_core.specs.Desk.{link, with_reader}
-use Rattle.send_core.specs.Table.{arrive, desk_after, due_at, row_now}
+use Rattle.send_core.specs.Table.{arrive, place_after as sender_after, due_at, row_now}
 use Rattle.send_jobs.specs.declared.channels.Channel.TheVariants.{Local, Remote}
 use Rattle.send_jobs.specs.Sending.{lane}
 use Rattle.send_parts.specs.declared.rows.StartRow.{StartRow}
@@ -33,7 +33,7 @@ use Rattle.mail_world.specs.History.{Actor, ComesOf, Life, MayDo, State, next_of
 use Rattle.mail_world.specs.History.Life.{Alive}
 use Rattle.world_law.specs.Crew.{IsNamed}
 use Rattle.world_law.specs.Inv.{Inv}
-use Rattle.world_law.specs.Posts.{PostsStand, desk_in, sends_in}
+use Rattle.world_law.specs.inside.Posts.{PostsStand, desk_in, sends_in}
 use Rattle.world_law.proofs.EnteredStands.{sends_on}
 use Rattle.world_law.proofs.PostSends.{sender_first, sender_post, sender_posted}
 use Rattle.world_law.proofs.SendersPut.{sender}
@@ -77,7 +77,7 @@ greet_row row d read ready is = absurd (cc)
 module _ (controls : Controls) (s : State) (I : Inv controls s) (P : PostsStand s) where
   module _ (own : Own) (began : ℕ) (past : List Own) (is : s.actors (codes "sender") ≡ Some (sender began past)) where
     abbrev d : Desk
-    d = desk_after None past
+    d = sender_after None past
 
     abbrev reader : Reader
     reader = (link Local d).reader
@@ -106,7 +106,7 @@ module _ (controls : Controls) (s : State) (I : Inv controls s) (P : PostsStand 
     → AreHeard Local P.done rs (lane Local z.slots).slots → Hears rs z) where
   module _ (own : Own) (began : ℕ) (past : List Own) (is : s.actors (codes "sender") ≡ Some (sender began past)) where
     abbrev desk : Desk
-    desk = desk_after None past
+    desk = sender_after None past
 
     abbrev Heard : List ℕ → Type 0
     Heard bytes = let it = read_on (link Local desk).reader bytes in Hears it.0 (with_reader Local it.1 desk)
@@ -137,7 +137,7 @@ module _ (controls : Controls) (s : State) (I : Inv controls s) (P : PostsStand 
   by_program : (a : List ℕ) (own : Own) (wrote : ℕ) (program : Program) (past : List Own) (life : Life) (began : ℕ) → program ≡ Sender began → life ≡ Alive → IsNamed a program
       → s.actors a ≡ Some (record { program = program; past = past; life = life }) → next_of program past own.read own.ready ≡ own.due → ComesOf s a own.due own.came wrote
       → own.due ≡ needs.Take port.Lspawn → (bytes : List ℕ) → own.came ≡ got.Took bytes
-      → let keeps = desk_after None past in let it = read_on (link Local keeps).reader bytes in Hears it.0 (with_reader Local it.1 keeps)
+      → let keeps = sender_after None past in let it = read_on (link Local keeps).reader bytes in Hears it.0 (with_reader Local it.1 keeps)
   by_program a own wrote (Sender since) past Alive began e alive named is due comes taking bytes came =
       taken_well own since past (subst (λ (b : List ℕ). s.actors b ≡ Some (sender since past)) named is) wrote due
       (subst (λ (b : List ℕ). ComesOf s b own.due own.came wrote) named comes) taking bytes came
@@ -146,7 +146,7 @@ module _ (controls : Controls) (s : State) (I : Inv controls s) (P : PostsStand 
 
   pub takes_reports : (a : List ℕ) (own : Own) (wrote : ℕ) → MayDo s a own wrote → (x : Actor) → s.actors a ≡ Some x → (began : ℕ) → x.program ≡ Sender began
       → own.due ≡ needs.Take port.Lspawn → (bytes : List ℕ) → own.came ≡ got.Took bytes
-      → let keeps = desk_after None x.past in let it = read_on (link Local keeps).reader bytes in Hears it.0 (with_reader Local it.1 keeps)
+      → let keeps = sender_after None x.past in let it = read_on (link Local keeps).reader bytes in Hears it.0 (with_reader Local it.1 keeps)
   takes_reports a own wrote may x is began program taking bytes came =
       let same : may.actor ≡ x = some_actor may.actor x (sym may.reads.is ∙ is) in
       by_program a own wrote x.program x.past x.life began program (ap (λ (y : Actor). y.life) (sym same) ∙ may.reads.alive) (I.crew a x is) is

@@ -33,7 +33,7 @@ use Rattle.mail_world.specs.History.Life.{Alive, Over, Stopped}
 use Rattle.mail_world.proofs.Members.{four_lspawn, four_other, four_sender, member_contained}
 use Rattle.world_law.specs.Crew.{IsNamed, is_alive}
 use Rattle.world_law.specs.Inv.{Inv}
-use Rattle.world_law.specs.Posts.{PostsStand, View, WasDone, desk_in, place_in, post_of, sends_by, sends_in, serves_by, serves_in, view_of}
+use Rattle.world_law.specs.inside.Posts.{PostsStand, View, WasDone, desk_in, place_in, post_of, sends_by, sends_in, serves_by, serves_in, view_of}
 use Rattle.world_law.proofs.Halted.{stopped_dead}
 use Rattle.world_law.proofs.Histories.{always}
 use Rattle.world_law.proofs.PostEvents.{IsNeither, ends_leave, neither_acts, neither_seen}

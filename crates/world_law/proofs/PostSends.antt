@@ -30,7 +30,7 @@ use Rattle.queue_law.specs.Routes.{lane_part, sender_of, sender_read}
 use Rattle.send_core.specs.declared.desk.Desk.{Desk}
 use Rattle.send_core.specs.declared.row.Row.{Row}
 use Rattle.send_core.specs.declared.row.Row.TheVariants as at
-use Rattle.send_core.specs.Table.{arrive, desk_after, due_at, from_point, moved, row_now}
+use Rattle.send_core.specs.Table.{arrive, place_after as sender_after, due_at, from_point, moved, row_now}
 use Rattle.send_jobs.specs.declared.attempts.Attempt.{Attempt}
 use Rattle.send_jobs.specs.declared.channels.Channel.{Channel}
 use Rattle.send_jobs.specs.declared.channels.Channel.TheVariants.{Local, Remote}
@@ -52,7 +52,7 @@ use Rattle.mail_world.proofs.Coming.{may_come}
 use Rattle.world_law.specs.Crew.{IsNamed}
 use Rattle.world_law.specs.Fares.{SenderFares}
 use Rattle.world_law.specs.Inv.{Inv}
-use Rattle.world_law.specs.Posts.{PostsStand, View, desk_in, place_in, post_of, sends_in, serves_in, view_of}
+use Rattle.world_law.specs.inside.Posts.{PostsStand, View, desk_in, place_in, post_of, sends_in, serves_in, view_of}
 use Rattle.world_law.proofs.PostEvents.{tenant_not}
 use Rattle.world_law.proofs.PostPipes.{asked_sent, names_apart, programs_left, told_sent}
 use Rattle.world_law.proofs.PostViews.{KeepsDone, put_keeps_done, task_kept, was_kept}
@@ -144,7 +144,7 @@ some_of pipe came y = tt
 module _ (s : State) (P : PostsStand s) (began : ℕ) (past : List Own) (is : s.actors (codes "sender") ≡ Some (sender began past)) where
   abbrev pub sender_view : View
   sender_view = record {
-    desk = desk_after None past;
+    desk = sender_after None past;
     sends = true;
     place = place_in (s.actors (codes "lspawn"));
     serves = serves_in (s.actors (codes "lspawn"));
@@ -168,19 +168,19 @@ module _ (s : State) (P : PostsStand s) (began : ℕ) (past : List Own) (is : s.
   pub sender_posted : Posted sender_post
   sender_posted = subst (λ (v : View). Posted (post_of v P.tasks P.last P.done)) seen_so P.posted
 
-  pub sender_first : IsFirst (desk_after None past).row (desk_after None past)
+  pub sender_first : IsFirst (sender_after None past).row (sender_after None past)
   sender_first = subst (λ (v : View). IsFirst v.desk.row v.desk) seen_so P.first
 
 -- An event
 
 module _ (controls : Controls) (s : State) (I : Inv controls s) (P : PostsStand s) (own : Own) (wrote began : ℕ) (past : List Own) (is : s.actors (codes "sender") ≡ Some (sender began past))
-    (soon : own.read ≤ s.now) (due : due_at (row_now (desk_after None past) own.read own.ready) (desk_after None past) ≡ own.due)
+    (soon : own.read ≤ s.now) (due : due_at (row_now (sender_after None past) own.read own.ready) (sender_after None past) ≡ own.due)
     (may : MayCome own.due own.came) (takes : own.due ≡ needs.Take port.Lspawn → IsSome own.came (s.pipework.pipes (codes "sender") port.Lspawn).bytes) where
   abbrev name : List ℕ
   name = codes "sender"
 
   abbrev d : Desk
-  d = desk_after None past
+  d = sender_after None past
 
   abbrev q : Queue
   q = queue s I.role

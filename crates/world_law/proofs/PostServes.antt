@@ -35,7 +35,7 @@ use Rattle.mail_world.specs.History.{Actor, ComesOf, IsLocalSpawner, IsProgramOf
 use Rattle.mail_world.specs.History.Life.{Alive, Over, Stopped}
 use Rattle.world_law.specs.Crew.{IsNamed}
 use Rattle.world_law.specs.Inv.{Inv}
-use Rattle.world_law.specs.Posts.{IsTaskIn, PostsStand, View, WasDone, desk_in, place_in, post_of, sends_in, serves_in, view_of}
+use Rattle.world_law.specs.inside.Posts.{IsTaskIn, PostsStand, View, WasDone, desk_in, place_in, post_of, sends_in, serves_in, view_of}
 use Rattle.world_law.proofs.PostEvents.{neither_seen, tenant_not}
 use Rattle.world_law.proofs.PostPipes.{IsCalm, asked_output, asked_spawned, names_apart, told_output, told_spawned}
 use Rattle.world_law.proofs.PostViews.{KeepsDone, KeepsSlots, halves, new_keeps_done, put_keeps_done, put_seen, task_kept, then_done, view_same, was_kept}

@@ -10,7 +10,7 @@ use Rattle.send_core.specs.declared.desk.Desk.{Desk}
 use Rattle.world_pipes.specs.Pipework.{Pipework}
 use Rattle.mail_world.specs.History.{Actor, State}
 use Rattle.mail_world.specs.History.Life.{Over}
-use Rattle.world_law.specs.Posts.{IsDeliveryFor, IsTaskIn, PostsStand, View, WasDone, desk_in, place_in, post_of, sends_in, serves_in, view_of}
+use Rattle.world_law.specs.inside.Posts.{IsDeliveryFor, IsTaskIn, PostsStand, View, WasDone, desk_in, place_in, post_of, sends_in, serves_in, view_of}
 use Rattle.world_law.proofs.Tenants.{some_actor}
 
 -- An actor as it is seen

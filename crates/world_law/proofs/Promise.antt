@@ -34,7 +34,7 @@ use Rattle.mail_world.proofs.Waiting.{legal_before}
 use Rattle.world_law.specs.Carried.{AreTrue, Carried, DeliveredAreCarried, IsTrue, KReportsAreCarried, WasCarried, WasCarriedFor}
 use Rattle.world_law.specs.Headline.{EachPromised, Headline, IsBySender, Promise, WorldsAreSafe}
 use Rattle.world_law.specs.Inv.{Inv}
-use Rattle.world_law.specs.Posts.{IsDeliveryFor, desk_in}
+use Rattle.world_law.specs.inside.Posts.{IsDeliveryFor, desk_in}
 use Rattle.world_law.proofs.Addressed.{deliveries_are_carried}
 use Rattle.world_law.proofs.DeliveredDone.{done_for, took_message}
 use Rattle.world_law.proofs.Entered.{given_in, messages_always, took_entered}

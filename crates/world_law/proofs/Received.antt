@@ -29,7 +29,7 @@ use Rattle.world_events.specs.declared.event.Program.TheVariants.{Delivery, Inje
 use Rattle.mail_world.specs.History.{Actor, ComesOf, IsDelivery, IsLocalSpawner, Life, State, acted, bears, booked_by, books_after, finished, newborn, slot_by, told_by}
 use Rattle.world_law.specs.Crew.{IsNamed}
 use Rattle.world_law.specs.Inv.{Bears, Inv}
-use Rattle.world_law.specs.Posts.{IsDeliveryFor}
+use Rattle.world_law.specs.inside.Posts.{IsDeliveryFor}
 use Rattle.world_law.proofs.EnteredKept.{ReceivedSame}
 use Rattle.world_law.proofs.MessageSteps.{IsNoFeed, away_left, gives_left, input_left, no_feed_part, taken_same}
 use Rattle.world_law.proofs.Pipes.{away_same, no_member}

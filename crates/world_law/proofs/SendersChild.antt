@@ -17,7 +17,7 @@ use Rattle.received_line.specs.declared.line.Invoked.TheVariants as invoking
 use Rattle.send_core.specs.declared.desk.Desk.{Desk}
 use Rattle.send_core.specs.declared.row.Row.{Row}
 use Rattle.send_core.specs.declared.row.Row.TheVariants as at
-use Rattle.send_core.specs.Table.{Next, desk_after, row_now}
+use Rattle.send_core.specs.Table.{Next, place_after as sender_after, row_now}
 use Rattle.send_parts.specs.declared.rows.FinishRow.TheVariants as finish
 use Rattle.send_known.specs.Known.{sender_of}
 use Rattle.queue_law.specs.Numbers.{about}
@@ -134,22 +134,22 @@ module _ (controls : Controls) (s : State) (I : Inv controls s) (a : List ℕ) (
 
 -- While a living sender awaits the status of its child, that has the input that the sender kept for it.
 module _ (controls : Controls) (s : State) (I : Inv controls s) where
-  awaiting_by : (past : List Own) → PastFed s (codes "sender") (Next None) past → AwaitsAt (desk_after None past).row (desk_after None past).bounce
-      → IsFed s (s.pipework.programs (codes "sender") 0) (desk_after None past).bounce.input
+  awaiting_by : (past : List Own) → PastFed s (codes "sender") (Next None) past → AwaitsAt (sender_after None past).row (sender_after None past).bounce
+      → IsFed s (s.pipework.programs (codes "sender") 0) (sender_after None past).bounce.input
   awaiting_by [] fed awaits = absurd awaits
   awaiting_by (own ∷ before) fed awaits =
-      let g = last_gave (desk_after None before) own.read own.ready own.came awaits in
-      subst (λ (z : GotData). FedBy s (codes "sender") (needs.Give (port.Program 0) (desk_after None (own ∷ before)).bounce.input) z) g.came_is
+      let g = last_gave (sender_after None before) own.read own.ready own.came awaits in
+      subst (λ (z : GotData). FedBy s (codes "sender") (needs.Give (port.Program 0) (sender_after None (own ∷ before)).bounce.input) z) g.came_is
       (subst (λ (z : NeedData). FedBy s (codes "sender") z own.came) g.due_is fed)
 
   pub awaiting_fed : (began : ℕ) (past : List Own) → s.actors (codes "sender") ≡ Some (record { program = Sender began; past = past; life = Alive })
-      → AwaitsAt (desk_after None past).row (desk_after None past).bounce → IsFed s (s.pipework.programs (codes "sender") 0) (desk_after None past).bounce.input
+      → AwaitsAt (sender_after None past).row (sender_after None past).bounce → IsFed s (s.pipework.programs (codes "sender") 0) (sender_after None past).bounce.input
   awaiting_fed began past is awaits = awaiting_by past (I.child (codes "sender") (record { program = Sender began; past = past; life = Alive }) is) awaits
 
   -- So the bounce that is entered when that ends with 0 is that of the message at work, with the notes that were read of its bounce file.
   module _ (began : ℕ) (past : List Own) (is : s.actors (codes "sender") ≡ Some (record { program = Sender began; past = past; life = Alive })) where
     abbrev d : Desk
-    d = desk_after None past
+    d = sender_after None past
 
     awaits_there : (read : ℕ) (ready : Ready) (came : GotData) → IsStatusTaken (row_now d read ready) came d → AwaitsAt d.row d.bounce
     awaits_there read ready came w =

@@ -4,7 +4,7 @@ use Rattle.std.proofs.lemmas.List.{drop_at}
 use Rattle.address_rules.specs.declared.controls.Controls.{Controls}
 use Rattle.bounce_record.specs.declared.return_row.ReturnRow.{ReturnRow}
 use Rattle.bounce_record.specs.declared.return_row.ReturnRow.TheVariants as back
-use Rattle.bounce_record.specs.Returning.{Returning, return_due_at}
+use Rattle.bounce_record.specs.Returning.{Returning, due_at as return_due_at}
 use Rattle.call_fs.specs.Apply.{Fits, IsReadBy}
 use Rattle.call_fs.specs.declared.calls.CallData.{CallData}
 use Rattle.call_fs.specs.declared.calls.Told.{Told}
@@ -30,7 +30,7 @@ use Rattle.send_core.specs.declared.desk.Desk.{Desk}
 use Rattle.send_core.specs.declared.row.MarkRow.TheVariants as mark
 use Rattle.send_core.specs.declared.row.Row.{Row}
 use Rattle.send_core.specs.declared.row.Row.TheVariants as at
-use Rattle.send_core.specs.Table.{desk_after, due_at, moved_by, row_now}
+use Rattle.send_core.specs.Table.{place_after as sender_after, due_at, moved_by, row_now}
 use Rattle.send_jobs.specs.Bookings.Booking.{Returned}
 use Rattle.send_jobs.specs.declared.channels.Channel.TheVariants.{Local, Remote}
 use Rattle.send_parts.specs.declared.rows.FinishRow.TheVariants as finish
@@ -124,7 +124,7 @@ module _ (controls : Controls) (s : State) (I : Inv controls s) (wrote began : â
   q = queue s I.role
 
   abbrev d : Desk
-  d = desk_after None past
+  d = sender_after None past
 
   abbrev row : Row
   row = row_now d own.read own.ready

@@ -11,7 +11,7 @@ use Rattle.queue_law.specs.Ledgers.Line.{Drops, Notes, Reads, Returns}
 use Rattle.queue_law.specs.Numbers.{Queue, Sound}
 use Rattle.send_core.specs.declared.desk.Desk.{Desk}
 use Rattle.send_core.specs.Desk.{link}
-use Rattle.send_core.specs.Table.{Next, desk_after}
+use Rattle.send_core.specs.Table.{Next, place_after as sender_after}
 use Rattle.send_jobs.specs.declared.attempts.Attempt.{Attempt}
 use Rattle.send_jobs.specs.Bookings.{Booking}
 use Rattle.send_jobs.specs.Bookings.Booking.{Dropped, Noted, ReadNotes, Reported, Returned}
@@ -93,7 +93,7 @@ module _ (controls : Controls) (s : State) (I : Inv controls s) where
 
   pub sent_keeps : (r : Queue) (began : ℕ) (was past : List Own) (w : Pipework) → s.actors (codes "sender") ≡ Some (sender began was) → Sound controls r → BouncesAreQueued controls r.books
       → LeavesControls (queue s I.role) r → OthersFare controls s r
-      → SenderFares controls s.now r (codes "sender") (desk_after None past) → NoTenantMore s.pipework w → w.slots ≡ s.pipework.slots → PastFed (sent s r began past w) (codes "sender") (Next None) past
+      → SenderFares controls s.now r (codes "sender") (sender_after None past) → NoTenantMore s.pipework w → w.slots ≡ s.pipework.slots → PastFed (sent s r began past w) (codes "sender") (Next None) past
       → ErrandRests controls s.now r (lives_in (s.actors (codes "clean"))) (link_by (Some (sender began past)) (s.actors (codes "clean")) w)
       → Inv controls (sent s r began past w)
   unfolding put_at

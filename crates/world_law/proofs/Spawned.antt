@@ -40,7 +40,7 @@ use Rattle.mail_world.proofs.Coming.{may_come}
 use Rattle.mail_world.proofs.Members.{four_lspawn, four_rspawn, four_sender}
 use Rattle.world_law.specs.Crew.{is_alive}
 use Rattle.world_law.specs.Inv.{Inv}
-use Rattle.world_law.specs.Posts.{desk_by, desk_in, sends_in}
+use Rattle.world_law.specs.inside.Posts.{desk_by, desk_in, sends_in}
 use Rattle.world_law.specs.Spawned.{HoldsStanding, IsSpawner, RequestsStand, spawner_name, stands_after, started_after}
 use Rattle.world_law.specs.Standing.{IsOut}
 use Rattle.world_law.proofs.Flights.{flights_stand}

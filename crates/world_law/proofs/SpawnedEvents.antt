@@ -11,7 +11,7 @@ use Rattle.mail_bytes.specs.Moments.{IsMoment}
 use Rattle.program_law.specs.Post.Posts.{IsOffered, due_of}
 use Rattle.program_law.specs.Post.Senders.{AsksFor, IsSome}
 use Rattle.send_core.specs.declared.desk.Desk.{Desk}
-use Rattle.send_core.specs.Table.{desk_after, due_at, port_of, row_now}
+use Rattle.send_core.specs.Table.{place_after as sender_after, due_at, port_of, row_now}
 use Rattle.send_jobs.specs.declared.channels.Channel.{Channel}
 use Rattle.send_jobs.specs.declared.channels.Channel.TheVariants as channel
 use Rattle.program_law.proofs.Sender.Asking.{requests_are_texts}
@@ -24,7 +24,7 @@ use Rattle.mail_world.specs.Untouched.{queue}
 use Rattle.world_law.specs.Crew.{IsNamed, is_alive}
 use Rattle.world_law.specs.Fares.{SenderFares}
 use Rattle.world_law.specs.Inv.{Inv}
-use Rattle.world_law.specs.Posts.{desk_in, sends_by, sends_in}
+use Rattle.world_law.specs.inside.Posts.{desk_in, sends_by, sends_in}
 use Rattle.world_law.specs.Spawned.{IsSpawner, spawner_name}
 use Rattle.world_law.proofs.Gone.{bytes_shut}
 use Rattle.world_law.proofs.PostEvents.{IsAside, IsMild, IsOther, acts_aside, calm, mild, tenant_not}
@@ -92,11 +92,11 @@ bears_stand c s S parent own a program it new =
 
 module _ (controls : Controls) (s : State) (I : Inv controls s) (c : Channel) (S : StandsIn c s) (own : Own) (wrote began : ℕ) (past : List Own)
     (is : s.actors (codes "sender") ≡ Some (sender began past))
-    (soon : own.read ≤ s.now) (due : due_at (row_now (desk_after None past) own.read own.ready) (desk_after None past) ≡ own.due)
+    (soon : own.read ≤ s.now) (due : due_at (row_now (sender_after None past) own.read own.ready) (sender_after None past) ≡ own.due)
     (may : MayCome own.due own.came) (takes : own.due ≡ needs.Take (port_of c) → IsSome own.came (s.pipework.pipes (codes "sender") (port_of c)).bytes) where
   abbrev before_sent : Sight
   before_sent = record {
-    desk = desk_after None past;
+    desk = sender_after None past;
     sends = true;
     side = side_in c (s.actors (spawner_name c));
     told = (s.pipework.pipes (codes "sender") (port_of c)).bytes;
@@ -115,12 +115,12 @@ module _ (controls : Controls) (s : State) (I : Inv controls s) (c : Channel) (S
   moment : IsMoment own.read
   moment = let m = I.moment in omega (arith, m, soon)
 
-  fares : SenderFares controls s.now (queue s I.role) (codes "sender") (desk_after None past)
+  fares : SenderFares controls s.now (queue s I.role) (codes "sender") (sender_after None past)
   fares = I.fares (codes "sender") (sender began past) is
 
-  gives : (text : List ℕ) → own.due ≡ needs.Give (port_of c) text → AsksFor c (desk_after None past) text
-  gives text e = asks_for controls (queue s I.role) (desk_after None past) c text I.sound.fine
-      (requests_are_texts controls s.now (queue s I.role) (codes "sender") (desk_after None past) own.read own.ready c text soon moment fares.stands fares.texts (due ∙ e))
+  gives : (text : List ℕ) → own.due ≡ needs.Give (port_of c) text → AsksFor c (sender_after None past) text
+  gives text e = asks_for controls (queue s I.role) (sender_after None past) c text I.sound.fine
+      (requests_are_texts controls s.now (queue s I.role) (codes "sender") (sender_after None past) own.read own.ready c text soon moment fares.stands fares.texts (due ∙ e))
 
   abbrev then_sent : State
   then_sent = acted s (codes "sender") own wrote (Some (sender began past))

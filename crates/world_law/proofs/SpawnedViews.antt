@@ -50,7 +50,7 @@ use Rattle.world_events.specs.declared.event.Program.{Program}
 use Rattle.world_events.specs.declared.event.Program.TheVariants.{LocalSpawner, RemoteSpawner}
 use Rattle.mail_world.specs.History.{Actor, Life}
 use Rattle.world_law.specs.Crew.{is_alive}
-use Rattle.world_law.specs.Posts.{desk_in, sends_in}
+use Rattle.world_law.specs.inside.Posts.{desk_in, sends_in}
 use Rattle.world_law.specs.Spawned.{spawner_name, started_after, started_by}
 use Rattle.world_law.specs.Standing.{IsOut}
 use Rattle.world_law.proofs.AtWork.{runs_not_free}

@@ -18,7 +18,7 @@ use Rattle.program_law.proofs.Channel.Ties.{at_itself, at_same}
 use Rattle.queue_inject.specs.declared.injection.Arguments.{Arguments}
 use Rattle.queue_inject.specs.declared.row.Row.{Row}
 use Rattle.queue_inject.specs.declared.row.Row.TheVariants as at
-use Rattle.queue_inject.specs.Table.{Next, call_of, has_input, in_time, is_late, row_after}
+use Rattle.queue_inject.specs.Table.{Next, due_by as inject_due, has_input, in_time, is_late, place_after as inject_after}
 use Rattle.queue_inject.specs.Texts.{intd_text, message_text}
 use Rattle.queue_law.specs.Injectors.{AtLinkTodo, InTime, Relies}
 use Rattle.queue_law.specs.Numbers.{About, Entry, IsPreprocessed, Phase, Queue, Role, about, look}
@@ -36,7 +36,7 @@ use Rattle.queue_states.specs.declared.state.State.TheVariants.{S5}
 use Rattle.queue_states.specs.States.{is_there, state_by, state_of}
 use Rattle.send_core.specs.declared.desk.Desk.{Desk}
 use Rattle.send_core.specs.Desk.{due_on}
-use Rattle.send_core.specs.Table.{desk_after}
+use Rattle.send_core.specs.Table.{place_after as sender_after}
 use Rattle.send_jobs.specs.declared.attempts.Attempt.{Attempt}
 use Rattle.send_jobs.specs.declared.channels.Channel.{Channel}
 use Rattle.send_jobs.specs.declared.channels.Channel.TheVariants as channel
@@ -159,8 +159,8 @@ module _ (controls : Controls) (s : State) (I : Inv controls s) (a : List ℕ) (
   }
 
 pub hands_by : (controls : Controls) (s : State) (I : Inv controls s) (a : List ℕ) (program : Program) (past : List Own) (life : Life) → life ≡ Alive → (start : ℕ) → program ≡ Sender start
-    → FaresBy controls s.now (queue s I.role) a program past life → HandsStand s (desk_after None past)
-hands_by controls s I a (Sender since) past Alive alive start is F = hands controls s I a (desk_after None past) F
+    → FaresBy controls s.now (queue s I.role) a program past life → HandsStand s (sender_after None past)
+hands_by controls s I a (Sender since) past Alive alive start is F = hands controls s I a (sender_after None past) F
 hands_by controls s I a (Sender since) past life alive start is F = absurd (cc)
 hands_by controls s I a program past life alive start is F = absurd (cc)
 
@@ -216,10 +216,10 @@ module _ (q : Queue) (a : List ℕ) (args : Arguments) where
 
 -- what a living injector relies on
 pub relies_by : (controls : Controls) (now : ℕ) (q : Queue) (a : List ℕ) (program : Program) (past : List Own) (life : Life) (args : Arguments) → program ≡ Injector args → life ≡ Alive
-    → FaresBy controls now q a program past life → InTime now args → Relies q a args (row_after args past)
+    → FaresBy controls now q a program past life → InTime now args → Relies q a args (inject_after args past)
 relies_by controls now q a (Injector other) past Alive args is alive F soon =
     let same : other ≡ args = cc in
-    subst (λ (z : Arguments). InTime now z → Relies q a z (row_after z past)) same (F.stands refl).relies soon
+    subst (λ (z : Arguments). InTime now z → Relies q a z (inject_after z past)) same (F.stands refl).relies soon
 relies_by controls now q a (Injector other) past life args is alive F soon = absurd (cc)
 relies_by controls now q a program past life args is alive F soon = absurd (cc)
 
@@ -230,8 +230,8 @@ injections_are_apart controls d before has legal n a b one two =
     let q = queue s I.role in
     let x = one.actor in
     let y = two.actor in
-    let first = mine_at q a one.args (row_after one.args x.past) n one.number (relies_by controls s.now q a x.program x.past x.life one.args one.program one.alive (I.fares a x one.is) one.soon) in
-    let second = mine_at q b two.args (row_after two.args y.past) n two.number (relies_by controls s.now q b y.program y.past y.life two.args two.program two.alive (I.fares b y two.is) two.soon) in
+    let first = mine_at q a one.args (inject_after one.args x.past) n one.number (relies_by controls s.now q a x.program x.past x.life one.args one.program one.alive (I.fares a x one.is) one.soon) in
+    let second = mine_at q b two.args (inject_after two.args y.past) n two.number (relies_by controls s.now q b y.program y.past y.life two.args two.program two.alive (I.fares b y two.is) two.soon) in
     by_role a b one.args two.args (sym first ∙ second)
   where
     by_role : (u v : List ℕ) (f g : Arguments) → AsMessage u f ≡ AsMessage v g → u ≡ v
@@ -257,10 +257,10 @@ injections_are_in_time d a own wrote before legal x is args program c due =
     let may = legal.1 in
     let same : may.actor ≡ x = some_actor may.actor x (sym may.reads.is ∙ is) in
     let next = injector_due x.program x.past own.read own.ready args own.due program (subst (λ (y : Actor). next_of y.program y.past own.read own.ready ≡ own.due) same may.due) in
-    let w = call_due (has_input own.ready) (is_late args own.read) (call_of args (row_after args x.past)) c (next ∙ due) in
+    let w = call_due (has_input own.ready) (is_late args own.read) (inject_due args (inject_after args x.past)) c (next ∙ due) in
     in_time_call (after d before).now args.start own.read w.1 may.reads.no_stall
 
-link_row : (args : Arguments) (row : Row) (n : ℕ) → call_of args row ≡ needs.File (call.Link (path (Of Intd n)) (path (Of Todo n))) → row ≡ at.LinkTodo n
+link_row : (args : Arguments) (row : Row) (n : ℕ) → inject_due args row ≡ needs.File (call.Link (path (Of Intd n)) (path (Of Todo n))) → row ≡ at.LinkTodo n
 link_row args (at.LinkTodo m) n e =
     let names : path (Of Todo m) ≡ path (Of Todo n) = cc in
     let one : Of Todo m ≡ Of Todo n = path_injective (Of Todo m) (Of Todo n) names in
@@ -293,8 +293,8 @@ links_are_of_whole_files controls d a own wrote before has legal x is args progr
     let may = legal.1 in
     let same : may.actor ≡ x = some_actor may.actor x (sym may.reads.is ∙ is) in
     let next = injector_due x.program x.past own.read own.ready args own.due program (subst (λ (y : Actor). next_of y.program y.past own.read own.ready ≡ own.due) same may.due) in
-    let w = call_due (has_input own.ready) (is_late args own.read) (call_of args (row_after args x.past)) (call.Link (path (Of Intd n)) (path (Of Todo n))) (next ∙ due) in
+    let w = call_due (has_input own.ready) (is_late args own.read) (inject_due args (inject_after args x.past)) (call.Link (path (Of Intd n)) (path (Of Todo n))) (next ∙ due) in
     let soon = in_time_call s.now args.start own.read w.1 may.reads.no_stall in
-    let row = link_row args (row_after args x.past) n w.0 in
+    let row = link_row args (inject_after args x.past) n w.0 in
     let relies = relies_by controls s.now (queue s I.role) a x.program x.past x.life args program (ap (λ (y : Actor). y.life) (sym same) ∙ may.reads.alive) (I.fares a x is) soon in
     whole_there s I.role a args n (subst (λ (z : Row). Relies (queue s I.role) a args z) row relies)

@@ -11,7 +11,7 @@ use Rattle.local_spawn.specs.Table.{place_after as local_after}
 use Rattle.remote_spawn.specs.Table.{place_after as spawn_after}
 use Rattle.send_core.specs.declared.row.Row.{Row}
 use Rattle.send_core.specs.declared.row.Row.TheVariants as at
-use Rattle.send_core.specs.Table.{desk_after}
+use Rattle.send_core.specs.Table.{place_after as sender_after}
 use Rattle.send_core.specs.Turn.{known_of}
 use Rattle.send_jobs.specs.declared.slots.Slots.{Slots}
 use Rattle.send_parts.specs.declared.book.Book.{Book}
@@ -108,7 +108,7 @@ module _ (controls : Controls) (s : State) (I : Inv controls s) (a : List ℕ) (
 
   abbrev pub LeavesSender : List ℕ → Type 0
   LeavesSender o = (began : ℕ) (past : List Own) → s.actors o ≡ Some (record { program = Sender began; past = past; life = Alive })
-      → SenderStands controls s.now before o (desk_after None past) → LeavesRow (desk_after None past).row (desk_after None past).pass k before r
+      → SenderStands controls s.now before o (sender_after None past) → LeavesRow (sender_after None past).row (sender_after None past).pass k before r
 
   fares_other : (o : List ℕ) → o ≢ a → LeavesCleaner o → LeavesSender o → (program : Program) (past : List Own) (life : Life)
       → s.actors o ≡ Some (record { program = program; past = past; life = life }) → FaresBy controls s.now before o program past life → FaresBy controls s.now r o program past life
@@ -117,7 +117,7 @@ module _ (controls : Controls) (s : State) (I : Inv controls s) (a : List ℕ) (
   fares_other o other cleaner sender (Cleaner began) past (Over status) is F = tt
   fares_other o other cleaner sender (Cleaner began) past Stopped is F = tt
   fares_other o other cleaner sender (Sender began) past Alive is F =
-      let d = desk_after None past in
+      let d = sender_after None past in
       record {
         stands = senders_are_left_alone.others controls s.now o a m k before r d E other SS S (sender began past is F.stands) F.stands;
         control = controls_are_read.others before r o d.row d.book C (λ fd how. E.opens o fd how other) F.control;
@@ -164,7 +164,7 @@ module _ (controls : Controls) (s : State) (I : Inv controls s) (a : List ℕ) (
 
   -- what a living sender waits for is what the link says
   asked_closed : (o : List ℕ) (began : ℕ) (past : List Own) → s.actors o ≡ Some (record { program = Sender began; past = past; life = Alive })
-      → (n : ℕ) → awaits_at (desk_after None past).row (desk_after None past).pass ≡ Answer (Todo n) → IsClosed s.now here n
+      → (n : ℕ) → awaits_at (sender_after None past).row (sender_after None past).pass ≡ Answer (Todo n) → IsClosed s.now here n
   asked_closed o began past is n waits =
       let named : o ≡ codes "sender" = I.crew o (record { program = Sender began; past = past; life = Alive }) is in
       I.errands.asked n (ap awaits_in (ap s.actors (sym named) ∙ is) ∙ waits)
@@ -180,5 +180,5 @@ module _ (controls : Controls) (s : State) (I : Inv controls s) (a : List ℕ) (
       led_keeps controls s I a r m None E S SS C D G B
       (λ o other began past is. rest_is_kept.spared controls s.now None here r S N (place_after past) (beside_none (place_after past)))
       (λ o other began past is h.
-      let d = desk_after None past in row_left controls s.now here r o S d.row d.book d.slots (works d) h.rests (asked_closed o began past is))
+      let d = sender_after None past in row_left controls s.now here r o S d.row d.book d.slots (works d) h.rests (asked_closed o began past is))
       y named goes child F (stepped_errands y seen)

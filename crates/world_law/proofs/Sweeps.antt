@@ -8,7 +8,7 @@ use Rattle.queue_law.specs.Numbers.Role.{AsOld}
 use Rattle.send_core.specs.declared.desk.Desk.{Desk}
 use Rattle.send_core.specs.declared.row.Row.{Row}
 use Rattle.send_core.specs.declared.row.Row.TheVariants.{Sweep}
-use Rattle.send_core.specs.Table.{desk_after, row_now}
+use Rattle.send_core.specs.Table.{place_after as sender_after, row_now}
 use Rattle.send_parts.specs.declared.rows.SweepRow.TheVariants.{Give}
 use Rattle.program_law.specs.Sender.Rows.{IsAged}
 use Rattle.program_law.specs.Sender.Stands.{StandsAt}
@@ -26,12 +26,12 @@ given_aged : (controls : Controls) (now : ℕ) (q : Queue) (a : List ℕ) (d : D
 given_aged controls now q a d row split n is h = (subst (λ (z : Row). StandsAt controls now q a z d) is h).rests.1.1.1
 
 module _ (controls : Controls) (s : State) (I : Inv controls s) (a : List ℕ) (own : Own) (wrote : ℕ) (may : MayDo s a own wrote) (start : ℕ) (is : may.actor.program ≡ Sender start) where
-  swept : (split n : ℕ) → row_now (desk_after None may.actor.past) own.read own.ready ≡ Sweep (Give split n) → IsAged s.now (queue s (λ i. AsOld)) n
+  swept : (split n : ℕ) → row_now (sender_after None may.actor.past) own.read own.ready ≡ Sweep (Give split n) → IsAged s.now (queue s (λ i. AsOld)) n
   swept split n row =
       let x = may.actor in
       let q = queue s I.role in
       let F = sender_fares controls s.now q a x.program x.past x.life start is may.reads.alive (I.fares a x may.reads.is) in
-      let d = desk_after None x.past in
+      let d = sender_after None x.past in
       let soon = may.reads.no_later in
       let moment : IsMoment own.read = (let m = I.moment in omega (arith, m, soon)) in
       let aged = given_aged controls s.now q a d (row_now d own.read own.ready) split n row (arrived controls s.now own.read q a soon moment d own.ready F.stands) in
@@ -42,4 +42,4 @@ sweeps_are_old controls d a own wrote before has legal x is start program split 
     let may = legal.1 in
     let same : may.actor ≡ x = some_actor may.actor x (sym may.reads.is ∙ is) in
     swept controls (after d before) (always controls d before has legal.0) a own wrote may start (ap (λ (y : Actor). y.program) same ∙ program) split n
-    (subst (λ (y : Actor). row_now (desk_after None y.past) own.read own.ready ≡ Sweep (Give split n)) (sym same) row)
+    (subst (λ (y : Actor). row_now (sender_after None y.past) own.read own.ready ≡ Sweep (Give split n)) (sym same) row)

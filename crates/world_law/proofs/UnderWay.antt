@@ -13,7 +13,7 @@ use Rattle.queue_clean.specs.Table.{Place, place_after}
 use Rattle.queue_inject.specs.declared.injection.Arguments.{Arguments}
 use Rattle.queue_inject.specs.declared.row.Row.{Row as InjectRow}
 use Rattle.queue_inject.specs.declared.row.Row.TheVariants as inject
-use Rattle.queue_inject.specs.Table.{row_after}
+use Rattle.queue_inject.specs.Table.{place_after as inject_after}
 use Rattle.queue_law.specs.Books.{Injection, begun}
 use Rattle.queue_law.specs.Cleaners.{StandsAt}
 use Rattle.queue_law.specs.Injectors.{InTime, IsBegun, Relies}
@@ -111,7 +111,7 @@ module _ (controls : Controls) (s : State) (I : Inv controls s) (n : ℕ) where
   closed_apart : IsClosed s.now q n → (a : List ℕ) → IsInjecting s a n → ⊥
   closed_apart h a it =
       let y = it.actor in
-      let row = row_after it.args y.past in
+      let row = inject_after it.args y.past in
       let relies = relies_by controls s.now q a y.program y.past y.life it.args it.program it.alive (I.fares a y it.is) it.soon in
       ⊎_elim
       (λ (over : IsOverdue s.now (q.role n)). overdue_apart (q.role n) refl over a it.args it.soon (mine_at q a it.args row n it.number relies))

@@ -4,7 +4,7 @@ use Rattle.actor_names.specs.MailNames.{members}
 use Rattle.call_fs.specs.declared.program.Port.TheVariants as port
 use Rattle.call_fs.specs.declared.past.Own.{Own}
 use Rattle.queue_clean.specs.Table.{Place, start, place_after}
-use Rattle.send_core.specs.Table.{desk_after}
+use Rattle.send_core.specs.Table.{place_after as sender_after}
 use Rattle.world_events.specs.declared.event.Program.{Program}
 use Rattle.world_events.specs.declared.event.Program.TheVariants.{Injector, Cleaner, Sender, LocalSpawner, RemoteSpawner, Delivery}
 use Rattle.program_law.specs.Errand.Errands.{Awaits, Link}
@@ -46,7 +46,7 @@ lives_in (Some x) = lives_by x.program x.life
 
 -- What the sender waits for: one that has ended or was stopped gives and takes nothing more.
 abbrev pub awaits_by : Life → Program → List Own → Awaits
-awaits_by Alive (Sender since) past = awaits (desk_after None past)
+awaits_by Alive (Sender since) past = awaits (sender_after None past)
 awaits_by life program past = Over
 
 abbrev pub awaits_in : Option Actor → Awaits

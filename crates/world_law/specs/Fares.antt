@@ -5,7 +5,7 @@ use Rattle.address_rules.specs.declared.controls.Controls.{Controls}
 use Rattle.call_fs.specs.declared.past.Own.{Own}
 use Rattle.queue_clean.specs.Table.{place_after}
 use Rattle.send_core.specs.declared.desk.Desk.{Desk}
-use Rattle.send_core.specs.Table.{desk_after}
+use Rattle.send_core.specs.Table.{place_after as sender_after}
 use Rattle.spawner_parts.specs.declared.row.Row.{Row as SpawnRow}
 use Rattle.spawner_parts.specs.declared.row.Row.TheVariants as spawn
 use Rattle.local_spawn.specs.declared.place.Place.{Place as LocalPlace}
@@ -68,7 +68,7 @@ pub record DeliveryFares (q : Queue) (a : List ℕ) (args : LocalArgs) (past : L
 abbrev pub FaresBy : Controls → ℕ → Queue → List ℕ → Program → List Own → Life → Type 0
 FaresBy controls now q a (Injector args) past life = InjectorFares now q a args past (is_alive life) (is_well life)
 FaresBy controls now q a (Cleaner start) past life = IfAlive life (CleanerStands controls now q (place_after past))
-FaresBy controls now q a (Sender start) past life = IfAlive life (SenderFares controls now q a (desk_after None past))
+FaresBy controls now q a (Sender start) past life = IfAlive life (SenderFares controls now q a (sender_after None past))
 FaresBy controls now q a (LocalSpawner start) past life = IfAlive life (LspawnHolds q a (local_after past))
 FaresBy controls now q a (RemoteSpawner start) past life = IfAlive life (SpawnerHolds q a (spawn_after past).row)
 FaresBy controls now q a (Delivery start args) past life = DeliveryFares q a args past life

@@ -18,8 +18,6 @@ pub mod Leaves
 pub mod PidNames
 -- the commands under way at a cleaner
 pub mod UnderWay
--- what lies between the sender and the local spawner
-pub mod Posts
 -- of which reports the ledgers have recipients as delivered, and as failed
 pub mod Reported
 -- the lives of message numbers
@@ -34,3 +32,5 @@ pub mod Spawned
 pub mod Entered
 -- what a local delivery carried out
 pub mod Carried
+-- definitions that only proofs and private code need
+pub mod inside

@@ -9,8 +9,9 @@ use Rattle.queue_clean.specs.Table.{pid_path}
 use Rattle.queue_inject.specs.declared.injection.Arguments.{Arguments}
 use Rattle.queue_inject.specs.declared.row.Row.{Row}
 use Rattle.queue_inject.specs.declared.row.Row.TheVariants as at
-use Rattle.queue_inject.specs.Table.{row_after}
+use Rattle.queue_inject.specs.Table.{place_after as inject_after}
 use Rattle.queue_law.specs.Injectors.{InTime}
+use Rattle.queue_limits.specs.declared.times.TheConstants.{PID_NAME_AGE}
 use Rattle.queue_paths.specs.Names.{path}
 use Rattle.queue_paths.specs.Names.Name.{Pid}
 use Rattle.program_law.specs.Sender.Control.{AreControls}
@@ -31,7 +32,7 @@ pub record WasOldFile (d : Disk) (before : List Event) (a part : List ℕ) (now 
   pub asked : own.due ≡ needs.File (Stat (pid_path part))
   pub file : ℕ
   pub there : (after d older).disk.names (pid_path part) ≡ Some file
-  pub old : ((after d older).disk.files file).moment + 129600 < now
+  pub old : ((after d older).disk.files file).moment + PID_NAME_AGE < now
 
 -- the last number in the pid name that an injector has, while it has one
 abbrev pub sequence_at : Row → Option ℕ
@@ -48,19 +49,19 @@ pub record HasPid (s : State) (a : List ℕ) (pid start seq : ℕ) : Type 0 wher
   pub program : actor.program ≡ Injector args
   pub pid_is : args.pid ≡ pid
   pub start_is : args.start ≡ start
-  pub seq_is : sequence_at (row_after args actor.past) ≡ Some seq
+  pub seq_is : sequence_at (inject_after args actor.past) ≡ Some seq
   pub soon : InTime s.now args
 
 -- the file of this name was written last more than 36 hours ago
 pub record IsOldFile (s : State) (name : List ℕ) : Type 0 where
   pub file : ℕ
   pub there : s.disk.names name ≡ Some file
-  pub old : (s.disk.files file).moment + 129600 < s.now
+  pub old : (s.disk.files file).moment + PID_NAME_AGE < s.now
 
 -- More than 36 hours have gone since the start that the name tells, or since its file was written last; and no injector has it that may
 -- call still.
 pub record IsLeftOver (s : State) (pid start seq : ℕ) : Type 0 where
-  pub out_of_time : (start + 129600 < s.now) ⊎ IsOldFile s (path (Pid pid start seq))
+  pub out_of_time : (start + PID_NAME_AGE < s.now) ⊎ IsOldFile s (path (Pid pid start seq))
   pub left : (a : List ℕ) → HasPid s a pid start seq → ⊥
 
 -- A cleaner takes a name in `pid` away only directly after a stat of it, at which its file was so old; and if it is an injector's name, it is

@@ -16,7 +16,7 @@ use Rattle.program_law.specs.Post.Senders.{is_on}
 use Rattle.queue_inject.specs.declared.injection.Arguments.{Arguments}
 use Rattle.queue_inject.specs.declared.row.Row.{Row}
 use Rattle.queue_inject.specs.declared.row.Row.TheVariants as at
-use Rattle.queue_inject.specs.Table.{row_after}
+use Rattle.queue_inject.specs.Table.{place_after as inject_after}
 use Rattle.queue_inject.specs.Texts.{intd_text, message_text}
 use Rattle.queue_law.specs.Accounts.{AreOfRecipients}
 use Rattle.queue_law.specs.Books.{Injection}
@@ -31,7 +31,7 @@ use Rattle.queue_states.specs.declared.state.State.TheVariants.{S5}
 use Rattle.queue_states.specs.States.{state_of}
 use Rattle.send_core.specs.declared.desk.Desk.{Desk}
 use Rattle.send_core.specs.Desk.{due_on}
-use Rattle.send_core.specs.Table.{desk_after, row_now}
+use Rattle.send_core.specs.Table.{place_after as sender_after, row_now}
 use Rattle.send_core.specs.declared.row.Row.TheVariants.{Sweep}
 use Rattle.send_jobs.specs.declared.attempts.Attempt.{Attempt}
 use Rattle.send_jobs.specs.declared.channels.Channel.{Channel}
@@ -75,7 +75,7 @@ pub record HandsStand (s : State) (d : Desk) : Type 0 where
 -- What a living sender has in hand stands.
 abbrev pub HandsAlwaysStand : Type 0
 HandsAlwaysStand = (controls : Controls) (d : Disk) (before : List Event) → AreControls controls d → Legal d before → (a : List ℕ) (x : Actor) → (after d before).actors a ≡ Some x
-    → x.life ≡ Alive → (start : ℕ) → x.program ≡ Sender start → HandsStand (after d before) (desk_after None x.past)
+    → x.life ≡ Alive → (start : ℕ) → x.program ≡ Sender start → HandsStand (after d before) (sender_after None x.past)
 
 -- Channel files
 
@@ -114,7 +114,7 @@ pub record IsInjecting (s : State) (a : List ℕ) (n : ℕ) : Type 0 where
   pub alive : actor.life ≡ Alive
   pub args : Arguments
   pub program : actor.program ≡ Injector args
-  pub number : number_at (row_after args actor.past) ≡ Some n
+  pub number : number_at (inject_after args actor.past) ≡ Some n
   pub soon : InTime s.now args
 
 -- No two injectors are at one number.
@@ -150,7 +150,7 @@ IsOut d ch t = ((slot : ℕ) × (attempt_in (lane ch d.slots).slots slot ≡ Som
 -- starts: so long a spawner may be at work on them.
 abbrev pub FlightsStand : Type 0
 FlightsStand = (controls : Controls) (d : Disk) (before : List Event) → AreControls controls d → Legal d before → (x : Actor) → (after d before).actors (codes "sender") ≡ Some x
-    → (start : ℕ) → x.program ≡ Sender start → (ch : Channel) (t : Attempt) → IsOut (desk_after None x.past) ch t → state_of (after d before).disk t.n ≡ S5
+    → (start : ℕ) → x.program ≡ Sender start → (ch : Channel) (t : Attempt) → IsOut (sender_after None x.past) ch t → state_of (after d before).disk t.n ≡ S5
 
 -- The local spawner
 
@@ -203,9 +203,9 @@ goes_on row = true
 -- So it is while both the sender and the local spawner live, and neither has ended or lost a link.
 abbrev pub RequestsAreOfFlights : Type 0
 RequestsAreOfFlights = (controls : Controls) (d : Disk) (before : List Event) → AreControls controls d → Legal d before
-    → (x : Actor) → (after d before).actors (codes "sender") ≡ Some x → x.life ≡ Alive → (start : ℕ) → x.program ≡ Sender start → is_on (desk_after None x.past).row ≡ true
+    → (x : Actor) → (after d before).actors (codes "sender") ≡ Some x → x.life ≡ Alive → (start : ℕ) → x.program ≡ Sender start → is_on (sender_after None x.past).row ≡ true
     → (y : Actor) → (after d before).actors (codes "lspawn") ≡ Some y → y.life ≡ Alive → (begun : ℕ) → y.program ≡ LocalSpawner begun → goes_on (local_after y.past).work.row ≡ true
-    → HoldsFlights (after d before) (desk_after None x.past) (local_after y.past).work ((after d before).pipework.pipes (codes "lspawn") port.Input).bytes
+    → HoldsFlights (after d before) (sender_after None x.past) (local_after y.past).work ((after d before).pipework.pipes (codes "lspawn") port.Input).bytes
 
 -- The sweep
 
@@ -213,4 +213,4 @@ RequestsAreOfFlights = (controls : Controls) (d : Disk) (before : List Event) �
 abbrev pub SweepsAreOld : Type 0
 SweepsAreOld = (controls : Controls) (d : Disk) (a : List ℕ) (own : Own) (wrote : ℕ) (before : List Event) → AreControls controls d → Legal d (Act a own wrote ∷ before)
     → (x : Actor) → (after d before).actors a ≡ Some x → (start : ℕ) → x.program ≡ Sender start
-    → (split n : ℕ) → row_now (desk_after None x.past) own.read own.ready ≡ Sweep (Give split n) → IsAged (after d before).now (queue (after d before) (λ i. AsOld)) n
+    → (split n : ℕ) → row_now (sender_after None x.past) own.read own.ready ≡ Sweep (Give split n) → IsAged (after d before).now (queue (after d before) (λ i. AsOld)) n

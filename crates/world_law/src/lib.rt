@@ -104,7 +104,7 @@
 //!   name tells, or since that file was written last. And no living injector that may still call has the name: the
 //!   law `pids_are_old`, by `WasOldFile` and `IsLeftOver` (`specs/PidNames.antt`).
 //! - A sweep gives the cleaner a message to remove only if its file was written last more than 36 hours ago: the
-//!   law `sweeps_are_old`, by `IsAged` (program_law `specs/Rows.antt`).
+//!   law `sweeps_are_old`, by `IsAged` (program_law `specs/Sender/Rows.antt`).
 //! - In such a history a command is under way at a living cleaner, given whole and not taken up or at one of its
 //!   unlinks, only if its number rests. Then its message file is there, and no living injector is at it that may
 //!   still call. Of a `foop`, nothing of it is wanted; of a `todo`, it is preprocessed except that todo is there,

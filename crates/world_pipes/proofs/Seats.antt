@@ -1,24 +1,28 @@
 -- Where the members of a generation stand.
 use Rattle.std.proofs.Common.{◌≡◌, ℕ, zero, suc, ◌<◌, List, Bool, true, false, Option, Some, None, refl, sym, ap, ◌∙◌, subst, ⊎_elim, codes, arith, bytes_eq}
-use Rattle.std.specs.Prelude.{if◌then◌else◌}
+use Rattle.std.specs.Prelude.{if◌then◌else◌, option_map}
+use Rattle.actor_names.specs.declared.member.Member.{Member}
+use Rattle.actor_names.specs.declared.member.Member.TheVariants as member
+use Rattle.actor_names.specs.Members.{seat_of}
 use Rattle.world_pipes.specs.Pipework.{is_member}
 use Rattle.world_pipes.specs.Wired.{seat}
 use Rattle.world_pipes.proofs.Members.{whether, other_than, member_cases}
 use Rattle.world_pipes.proofs.Members.{other_text}
 
-abbrev seat_if : Bool → Bool → Bool → Bool → Option ℕ
-seat_if s c l r = if s then Some 0 else (if c then Some 1 else (if l then Some 2 else (if r then Some 3 else None)))
+abbrev member_if : Bool → Bool → Bool → Bool → Option Member
+member_if s c l r = if s then Some member.Sender else (if c then Some member.Cleaner else (if l then Some member.LocalSpawner else (if r then Some member.RemoteSpawner else None)))
 
-seat_by : (s c l r : Bool) → s ≡ false → c ≡ false → l ≡ false → r ≡ false → seat_if s c l r ≡ None
-seat_by s c l r hs hc hl hr =
-    ap (λ (s : Bool). seat_if s c l r) hs ∙ ap (λ (c : Bool). seat_if false c l r) hc ∙ ap (λ (l : Bool). seat_if false false l r) hl
-    ∙ ap (λ (r : Bool). seat_if false false false r) hr
+member_by : (s c l r : Bool) → s ≡ false → c ≡ false → l ≡ false → r ≡ false → member_if s c l r ≡ None
+member_by s c l r hs hc hl hr =
+    ap (λ (s : Bool). member_if s c l r) hs ∙ ap (λ (c : Bool). member_if false c l r) hc ∙ ap (λ (l : Bool). member_if false false l r) hl
+    ∙ ap (λ (r : Bool). member_if false false false r) hr
 
 -- who is no member has no seat
 pub seat_none : (a : List ℕ) → is_member a ≡ false → seat a ≡ None
 seat_none a other =
     let no : (b : List ℕ) → is_member b ≡ true → bytes_eq a b ≡ false = λ b is. other_text a b (other_than a b other is) in
-    seat_by (bytes_eq a (codes "sender")) (bytes_eq a (codes "clean")) (bytes_eq a (codes "lspawn")) (bytes_eq a (codes "rspawn")) (no (codes "sender") refl) (no (codes "clean") refl) (no (codes "lspawn") refl) (no (codes "rspawn") refl)
+    ap (option_map seat_of)
+    (member_by (bytes_eq a (codes "sender")) (bytes_eq a (codes "clean")) (bytes_eq a (codes "lspawn")) (bytes_eq a (codes "rspawn")) (no (codes "sender") refl) (no (codes "clean") refl) (no (codes "lspawn") refl) (no (codes "rspawn") refl))
 
 -- each member has one of the four
 pub record HasSeat (a : List ℕ) : Type 0 where

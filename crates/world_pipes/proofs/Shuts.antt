@@ -339,21 +339,6 @@ shuts_after mouths later a (Some (suc (suc (suc (suc i))))) slot four shut = own
 
 -- as it is done
 
-pub is_shut : (mouths later : List Mouths) (a : List ℕ) (seat : ℕ) (slot : Option (ℕ × ℕ)) → seat < 4 → AreShut seat mouths later → HaveShut (Some seat) slot a mouths later
-is_shut mouths later a zero slot low shut = shut
-is_shut mouths later a (suc zero) slot low shut = shut
-is_shut mouths later a (suc (suc zero)) slot low shut = shut
-is_shut mouths later a (suc (suc (suc zero))) slot low shut = shut
-is_shut mouths later a (suc (suc (suc (suc seat)))) slot low shut = absurd (omega (arith, low))
-
-pub own_is_shut : (mouths later : List Mouths) (a : List ℕ) (wire : Option ℕ) (slot : Option (ℕ × ℕ)) → IsNoSeat wire → OwnIsShut slot a mouths later → HaveShut wire slot a mouths later
-own_is_shut mouths later a None slot none shut = shut
-own_is_shut mouths later a (Some zero) slot none shut = let high = none 0 refl in absurd (omega (arith, high))
-own_is_shut mouths later a (Some (suc zero)) slot none shut = let high = none 1 refl in absurd (omega (arith, high))
-own_is_shut mouths later a (Some (suc (suc zero))) slot none shut = let high = none 2 refl in absurd (omega (arith, high))
-own_is_shut mouths later a (Some (suc (suc (suc zero)))) slot none shut = let high = none 3 refl in absurd (omega (arith, high))
-own_is_shut mouths later a (Some (suc (suc (suc (suc i))))) slot none shut = shut
-
 -- who runs in that slot has it, at that place
 pub in_place : (mouths : List Mouths) (a : List ℕ) (s : ℕ × ℕ) → is_in mouths s a ≡ true → s.0 < length mouths
 in_place mouths a s by = let place = place_there a s.1 (slice_get mouths s.0) by in slice_get_within mouths s.0 place.0 place.1

@@ -1,6 +1,9 @@
 -- What an actor does with its pipes and slots, as they are kept and in the model.
-use Rattle.std.specs.Prelude.{◌≡◌, ◌≢◌, ◌<◌, ℕ, zero, suc, ◌==◌, List, length, set, Bool, true, false, if◌then◌else◌, nat_lt, Option, Some, None}
+use Rattle.std.specs.Prelude.{◌≡◌, ◌≢◌, ◌<◌, ℕ, ◌==◌, List, length, set, Bool, true, false, if◌then◌else◌, nat_lt, Option, Some, None}
 use Rattle.std.specs.List.{slice_get}
+use Rattle.actor_names.specs.declared.member.Member.{Member}
+use Rattle.actor_names.specs.declared.member.Member.TheVariants as member
+use Rattle.actor_names.specs.Members.{seat_of, member_at}
 use Rattle.call_fs.specs.Program.{IsKind, IsWithin}
 use Rattle.call_fs.specs.declared.program.Port.{Port}
 use Rattle.call_fs.specs.declared.program.Port.TheVariants as port
@@ -119,19 +122,22 @@ slot_leads mouths None a = None
 slot_leads mouths (Some slot) a = if is_in mouths slot a then Some (slot.0, port.Program slot.1) else None
 
 -- that of a member is taken by the sender, whose own nobody takes
-abbrev pub output_leads : ℕ → Option (ℕ × Port) → Option (ℕ × Port)
-output_leads zero own = None
-output_leads (suc zero) own = Some (0, port.Clean)
-output_leads (suc (suc zero)) own = Some (0, port.Lspawn)
-output_leads (suc (suc (suc zero))) own = Some (0, port.Rspawn)
-output_leads other own = own
+abbrev pub member_leads : Member → Option (ℕ × Port)
+member_leads member.Sender = None
+member_leads member.Cleaner = Some (0, port.Clean)
+member_leads member.LocalSpawner = Some (0, port.Lspawn)
+member_leads member.RemoteSpawner = Some (0, port.Rspawn)
+
+abbrev pub output_leads : Option Member → Option (ℕ × Port) → Option (ℕ × Port)
+output_leads (Some member) own = member_leads member
+output_leads None own = own
 
 -- where what the actor at a place gives to a port is taken: at which place, and by which port
 abbrev pub leads : List Mouths → ℕ → Option (ℕ × ℕ) → List ℕ → Port → Option (ℕ × Port)
 leads mouths at slot a port.Clean = Some (1, port.Input)
 leads mouths at slot a port.Lspawn = Some (2, port.Input)
 leads mouths at slot a port.Rspawn = Some (3, port.Input)
-leads mouths at slot a port.Output = output_leads at (slot_leads mouths slot a)
+leads mouths at slot a port.Output = output_leads (member_at at) (slot_leads mouths slot a)
 leads mouths at slot a other = None
 
 -- bytes were given there, or nowhere
@@ -179,13 +185,19 @@ abbrev pub OwnIsShut : Option (ℕ × ℕ) → List ℕ → List Mouths → List
 OwnIsShut None a old new = new ≡ old
 OwnIsShut (Some slot) a old new = SlotIsShut (is_in old slot a) slot old new
 
--- What an actor gives to is shut: what the member at its seat does, and of any other one its output, in its slot.
+-- the member whose pipes are at a place
+abbrev pub member_with : Option ℕ → Option Member
+member_with None = None
+member_with (Some at) = member_at at
+
+-- What an actor gives to is shut: what a member does, and of any other one its output, in its slot.
+abbrev pub ShutsBy : Option Member → Option (ℕ × ℕ) → List ℕ → List Mouths → List Mouths → Type 0
+ShutsBy (Some member) slot a old new = AreShut (seat_of member) old new
+ShutsBy None slot a old new = OwnIsShut slot a old new
+
+-- so by the place of its pipes
 abbrev pub HaveShut : Option ℕ → Option (ℕ × ℕ) → List ℕ → List Mouths → List Mouths → Type 0
-HaveShut (Some zero) slot a old new = AreShut 0 old new
-HaveShut (Some (suc zero)) slot a old new = AreShut 1 old new
-HaveShut (Some (suc (suc zero))) slot a old new = AreShut 2 old new
-HaveShut (Some (suc (suc (suc zero)))) slot a old new = AreShut 3 old new
-HaveShut wire slot a old new = OwnIsShut slot a old new
+HaveShut wire slot a old new = ShutsBy (member_with wire) slot a old new
 
 -- what an actor with this place and this slot did with its pipes and slots is what the model says
 pub record Exchanges (wire : Option ℕ) (slot : Option (ℕ × ℕ)) (old new : List Mouths) (pid most : ℕ) (a : List ℕ) (due : NeedData) (came : GotData) : Type 0 where

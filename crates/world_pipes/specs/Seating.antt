@@ -1,6 +1,9 @@
 -- What an actor finds ready by its pipes, and what of a child is due to one.
-use Rattle.std.specs.Prelude.{◌≡◌, ◌≤◌, ◌<◌, ℕ, zero, suc, List, [], ◌∷◌, ◌++◌, length, Bool, true, false, Option, Some, None, IsSomeAnd, All, if◌then◌else◌, is_some}
+use Rattle.std.specs.Prelude.{◌≡◌, ◌≤◌, ◌<◌, ℕ, List, [], ◌∷◌, ◌++◌, length, Bool, true, false, Option, Some, None, IsSomeAnd, All, if◌then◌else◌, is_some}
 use Rattle.std.specs.List.{slice_get}
+use Rattle.actor_names.specs.declared.member.Member.{Member}
+use Rattle.actor_names.specs.declared.member.Member.TheVariants as member
+use Rattle.actor_names.specs.Members.{member_at}
 use Rattle.call_fs.specs.declared.past.ChildData.{ChildData}
 use Rattle.call_fs.specs.declared.past.ChildData.TheVariants as child
 use Rattle.call_fs.specs.declared.past.NeedData.{NeedData}
@@ -60,18 +63,18 @@ only_child ended = if ended then Some 0 else None
 
 -- What who has pipes finds by them: the sender its links, and whether its only program has ended; the cleaner its input; and the others
 -- also which of their programs has ended.
-abbrev pub FindsBy : ℕ → Mouths → Ready → Type 0
-FindsBy zero m ready = ready ≡ record {
+abbrev pub FindsBy : Option Member → Mouths → Ready → Type 0
+FindsBy (Some member.Sender) m ready = ready ≡ record {
   links = is_ready (pipe_of m port.Clean) ∷ is_ready (pipe_of m port.Lspawn) ∷ is_ready (pipe_of m port.Rspawn) ∷ false ∷ [];
   child = only_child (ended_of m 0);
 }
-FindsBy (suc zero) m ready = ready ≡ input_of m None
+FindsBy (Some member.Cleaner) m ready = ready ≡ input_of m None
 FindsBy other m ready = (child : Option ℕ) × IsLowest (ended_of m) 0 child × (ready ≡ input_of m child)
 
 -- and who has none, an injector
 abbrev pub IsFoundAt : List Mouths → Option ℕ → Bool → Ready → Type 0
 IsFoundAt mouths None awaits ready = ready ≡ (if awaits then input_alone false else INPUT_READY)
-IsFoundAt mouths (Some at) awaits ready = IsSomeAnd (slice_get mouths at) (λ m. FindsBy at m ready)
+IsFoundAt mouths (Some at) awaits ready = IsSomeAnd (slice_get mouths at) (λ m. FindsBy (member_at at) m ready)
 
 -- whether an actor runs in a slot of the one with this place
 abbrev pub has_actor : List Mouths → Option ℕ → ℕ → Bool

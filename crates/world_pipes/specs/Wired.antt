@@ -1,6 +1,7 @@
 -- The pipes that a world keeps, against those of the model.
-use Rattle.std.specs.Prelude.{◌≡◌, ◌<◌, ◌≤◌, ℕ, zero, suc, List, length, Bool, true, false, if◌then◌else◌, Option, Some, None, bytes_eq, codes, nat_lt}
+use Rattle.std.specs.Prelude.{◌≡◌, ◌<◌, ◌≤◌, ℕ, zero, suc, List, length, Bool, true, false, if◌then◌else◌, Option, Some, None, option_map, codes, nat_lt}
 use Rattle.std.specs.List.{slice_get}
+use Rattle.actor_names.specs.Members.{member_of, seat_of}
 use Rattle.call_fs.specs.declared.program.Port.{Port}
 use Rattle.call_fs.specs.declared.program.Port.TheVariants as port
 use Rattle.world_pipes.specs.declared.mouths.Mouths.{Mouths}
@@ -8,13 +9,9 @@ use Rattle.world_pipes.specs.Mouths.{pipe_of, tenant_of, ended_of}
 use Rattle.world_pipes.specs.Pipework.{Pipe, Pipework, Slot, Tenant, fresh, is_member}
 use Rattle.world_pipes.specs.Pipework.Tenant.{Runs}
 
--- The seat of a member, by its name: 0 is the sender's, 1 the cleaner's, 2 the local spawner's and 3 the remote spawner's.
+-- the seat of a member, by its name
 abbrev pub seat : List ℕ → Option ℕ
-seat a = if bytes_eq a (codes "sender") then Some 0
-    else (if bytes_eq a (codes "clean") then Some 1
-    else (if bytes_eq a (codes "lspawn") then Some 2
-    else (if bytes_eq a (codes "rspawn") then Some 3
-    else None)))
+seat a = option_map seat_of (member_of a)
 
 -- what is kept at a place; at no place, and past the last one, nothing
 abbrev pub pipe_in : Option Mouths → Port → Pipe

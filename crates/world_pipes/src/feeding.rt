@@ -3,9 +3,12 @@ ghost use Rattle.std.specs.Prelude.{◌≡◌, ◌<◌, ◌≤◌, ◌&&◌, Som
 ghost use Rattle.world_pipes.specs.Mouths.{HasPipe, IsSame};
 ghost use Rattle.world_pipes.specs.Pipework.{is_port};
 ghost use Rattle.world_pipes.specs.Wired.{HaveSlots};
-ghost use Rattle.world_pipes.specs.Exchanges.{IsNoAct, AreAsBefore, HasExchanged, HasFreedBy, HasTaken, HasTakenBy, HasSlotFor, HasStarted, HasGivenTo, IsSameAt, HaveShut, OwnIsShut, AreShut, HasShut, GivesNoActor, SuitsPlace, is_in, slot_leads, leads, gives_at};
+ghost use Rattle.world_pipes.specs.Exchanges.{IsNoAct, AreAsBefore, HasExchanged, HasFreedBy, HasTaken, HasTakenBy, HasSlotFor, HasStarted, HasGivenTo, IsSameAt, HaveShut, OwnIsShut, AreShut, HasShut, GivesNoActor, SuitsPlace, is_in, slot_leads, member_leads, leads, member_with, gives_at};
+ghost use Rattle.actor_names.specs.Members.{seat_of};
+ghost use Rattle.call_fs.specs.declared.program.Port.TheVariants as port;
 
-use crate::{MEMBERS, Mouths, Taken, command_exits};
+use crate::{Mouths, Taken, command_exits};
+use actor_names::Member;
 use call_fs::{ChildData, GotData, NeedData, Port};
 use mail_bytes::Memory;
 use std::alloc::Global;
@@ -137,16 +140,28 @@ fn leads(
 ) -> Option<(usize, Port)>
     ensures { result ≡ leads mouths.now at slot actor.now port }
 {
-    match (port, at) {
-        (Port::Clean, _) => Some((1, Port::Input)),
-        (Port::Lspawn, _) => Some((2, Port::Input)),
-        (Port::Rspawn, _) => Some((3, Port::Input)),
-        (Port::Output, 0) => None,
-        (Port::Output, 1) => Some((0, Port::Clean)),
-        (Port::Output, 2) => Some((0, Port::Lspawn)),
-        (Port::Output, 3) => Some((0, Port::Rspawn)),
-        (Port::Output, _) => slot_leads(mouths, slot, actor),
+    match port {
+        Port::Clean => Some((Member::Cleaner.seat(), Port::Input)),
+        Port::Lspawn => Some((Member::LocalSpawner.seat(), Port::Input)),
+        Port::Rspawn => Some((Member::RemoteSpawner.seat(), Port::Input)),
+        Port::Output => match Member::at(at) {
+            Some(member) => member_leads(member),
+            None => slot_leads(mouths, slot, actor),
+        },
         _ => None,
+    }
+}
+
+/// Where the output of a member is taken: by the sender, whose own nobody takes.
+fn member_leads(member: Member) -> Option<(usize, Port)>
+    ensures { result ≡ member_leads member }
+{
+    let taker = Member::Sender.seat();
+    match member {
+        Member::Sender => None,
+        Member::Cleaner => Some((taker, Port::Clean)),
+        Member::LocalSpawner => Some((taker, Port::Lspawn)),
+        Member::RemoteSpawner => Some((taker, Port::Rspawn)),
     }
 }
 
@@ -185,10 +200,17 @@ pub fn shut_after(
 )
     ensures { HaveShut wire slot actor.now mouths.old.items mouths.new.items }
 {
-    match wire {
-        Some(seat) if seat < MEMBERS => shut_all(mouths.as_mut_slice(), seat),
-        _ => shut_own(mouths, slot, actor),
+    match member_with(wire) {
+        Some(member) => shut_all(mouths.as_mut_slice(), member),
+        None => shut_own(mouths, slot, actor),
     }
+}
+
+/// The member whose pipes are at this place, if they are those of one.
+fn member_with(wire: Option<usize>) -> Option<Member>
+    ensures { result ≡ member_with wire }
+{
+    Member::at(wire?)
 }
 
 /// The output of the actor of this name is shut, if it runs in its slot, and it is marked as over. Takes no memory.
@@ -203,23 +225,23 @@ fn shut_own(mouths: &mut Vec<Mouths>, slot: Option<(usize, u8)>, actor: &[u8])
     }
 }
 
-/// What the member at this seat gives to is shut. Takes no memory.
-fn shut_all(mouths: &mut [Mouths], seat: usize)
-    ensures { AreShut seat mouths.old mouths.new }
+/// What this member gives to is shut. Takes no memory.
+fn shut_all(mouths: &mut [Mouths], member: Member)
+    ensures { AreShut (seat_of member) mouths.old mouths.new }
 {
     for place in 0..mouths.len() {
-        shut_at(&mut mouths[place], seat, place);
+        shut_at(&mut mouths[place], member, place);
     }
 }
 
-/// What the member at this seat gives to those that have their pipes at this place is shut. Takes no memory.
-fn shut_at(mouths: &mut Mouths, seat: usize, place: usize)
-    ensures { HasShut (gives_at seat place) mouths.old mouths.new }
+/// What this member gives to those that have their pipes at this place is shut. Takes no memory.
+fn shut_at(mouths: &mut Mouths, member: Member, place: usize)
+    ensures { HasShut (gives_at (seat_of member) place) mouths.old mouths.new }
 {
-    shut_if(mouths, Port::Input, gives_at(seat, place, Port::Input));
-    shut_if(mouths, Port::Clean, gives_at(seat, place, Port::Clean));
-    shut_if(mouths, Port::Lspawn, gives_at(seat, place, Port::Lspawn));
-    shut_if(mouths, Port::Rspawn, gives_at(seat, place, Port::Rspawn));
+    shut_if(mouths, Port::Input, gives_at(member, place, Port::Input));
+    shut_if(mouths, Port::Clean, gives_at(member, place, Port::Clean));
+    shut_if(mouths, Port::Lspawn, gives_at(member, place, Port::Lspawn));
+    shut_if(mouths, Port::Rspawn, gives_at(member, place, Port::Rspawn));
 }
 
 /// If so wanted, nothing more will come by this port. Takes no memory. The condition: there is such a pipe.
@@ -233,21 +255,27 @@ fn shut_if(mouths: &mut Mouths, port: Port, wanted: bool)
     mouths.close(port);
 }
 
-/// Whether what the member at this seat gives is taken by this port of the pipes at this place.
-fn gives_at(seat: usize, place: usize, port: Port) -> bool
-    ensures { result ≡ gives_at seat place port }
+/// Whether what this member gives is taken by this port of the pipes at this place.
+fn gives_at(member: Member, place: usize, port: Port) -> bool
+    ensures { result ≡ gives_at (seat_of member) place port }
 {
     match port {
-        Port::Input => {
-            if place < MEMBERS {
-                seat == 0
-            } else {
-                seat == 2
-            }
-        }
-        Port::Clean => seat == 1,
-        Port::Lspawn => seat == 2,
-        Port::Rspawn => seat == 3,
+        Port::Input => gives_input_at(member, place),
+        Port::Clean => matches!(member, Member::Cleaner),
+        Port::Lspawn => matches!(member, Member::LocalSpawner),
+        Port::Rspawn => matches!(member, Member::RemoteSpawner),
         _ => false,
+    }
+}
+
+/// Whether this member gives the input of who has its pipes at this place: the sender that of the members, and the local spawner that of
+/// the others.
+fn gives_input_at(member: Member, place: usize) -> bool
+    ensures { result ≡ gives_at (seat_of member) place port.Input }
+{
+    match member {
+        Member::Sender => place < Member::COUNT,
+        Member::LocalSpawner => place >= Member::COUNT,
+        Member::Cleaner | Member::RemoteSpawner => false,
     }
 }

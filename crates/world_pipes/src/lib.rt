@@ -53,7 +53,5 @@ pub use feeding::{exchange, shut_after};
 pub use mouths::{Mouths, Slot, Tenant};
 pub use pipe::{Pipe, Taken};
 pub use reports::put_report;
-pub use seating::{
-    MEMBERS, add_pipes, due_slot, is_of_child, pipes_for, pipes_of, ready_at, renew, seat,
-};
-pub use unreported::{SPAWNER, first_unreported, is_unreported};
+pub use seating::{add_pipes, due_slot, is_of_child, pipes_for, pipes_of, ready_at, renew, seat};
+pub use unreported::{first_unreported, is_unreported};

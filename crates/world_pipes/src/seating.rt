@@ -6,12 +6,10 @@ ghost use Rattle.world_pipes.specs.Seating.{AreFresh, AreRenewed, HasPipesFor, H
 ghost use Rattle.world_pipes.specs.Mouths.{ended_of};
 
 use crate::Mouths;
+use actor_names::Member;
 use call_fs::{Child, ChildData, INPUT_READY, Need, NeedData, Port, Ready};
 use mail_bytes::Memory;
 use std::alloc::Global;
-
-/// How many members a generation has.
-pub const MEMBERS: usize = 4;
 
 /// How many numbers a slot has.
 const SLOTS: u16 = 256;
@@ -22,30 +20,20 @@ const NOT_READY: Ready = Ready {
     child: None,
 };
 
-/// The seat of a member of a generation, by its name: 0 is the sender's, 1 the cleaner's, 2 the local spawner's and 3 the remote
-/// spawner's.
+/// The seat of a member of a generation, by its name.
 pub fn seat(name: &[u8]) -> Option<usize>
     ensures { result ≡ seat name.now }
 {
-    if name == b"sender".as_slice() {
-        Some(0)
-    } else if name == b"clean".as_slice() {
-        Some(1)
-    } else if name == b"lspawn".as_slice() {
-        Some(2)
-    } else if name == b"rspawn".as_slice() {
-        Some(3)
-    } else {
-        None
-    }
+    let member = Member::of(name)?;
+    Some(member.seat())
 }
 
 /// The pipes of the members of a new generation: nothing lies in them.
 fn pipes(alloc: Global) -> Result<Vec<Mouths>, Memory>
     ensures { IfOk result (λ mouths. AreFresh mouths.items) }
 {
-    let mut mouths = Vec::with_capacity(alloc, MEMBERS)?;
-    for _ in 0..MEMBERS {
+    let mut mouths = Vec::with_capacity(alloc, Member::COUNT)?;
+    for _ in 0..Member::COUNT {
         mouths.push(Mouths::new(alloc, SLOTS)?)?;
     }
     Ok(mouths)
@@ -85,7 +73,7 @@ fn clear_members(mouths: &mut [Mouths])
     requires slots { HaveSlots mouths.old }
     ensures { AreRenewed mouths.old mouths.new }
 {
-    for seat in 0..MEMBERS {
+    for seat in 0..Member::COUNT {
         mouths[seat].clear();
     }
 }
@@ -122,8 +110,8 @@ pub fn ready_at(mouths: &[Mouths], wire: Option<usize>, awaits: bool) -> Ready
         return if awaits { NOT_READY } else { INPUT_READY };
     };
     let mouths = &mouths[at];
-    match at {
-        0 => Ready {
+    match Member::at(at) {
+        Some(Member::Sender) => Ready {
             links: [
                 mouths.is_ready(Port::Clean),
                 mouths.is_ready(Port::Lspawn),
@@ -132,7 +120,7 @@ pub fn ready_at(mouths: &[Mouths], wire: Option<usize>, awaits: bool) -> Ready
             ],
             child: only_child(mouths),
         },
-        1 => input_ready(mouths, None),
+        Some(Member::Cleaner) => input_ready(mouths, None),
         _ => input_ready(mouths, mouths.lowest_ended()),
     }
 }

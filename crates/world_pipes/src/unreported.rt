@@ -5,16 +5,14 @@ ghost use Rattle.world_pipes.specs.Mouths.{is_remote, IsLowest};
 ghost use Rattle.world_pipes.specs.Wired.{tenant_in};
 
 use crate::Mouths;
-
-/// The seat of the remote spawner.
-pub const SPAWNER: usize = 3;
+use actor_names::Member;
 
 /// Whether the remote spawner lives, and a program runs in this slot of which no report came. The condition: if it lives, it has pipes.
 pub fn is_unreported(lives: bool, mouths: &[Mouths], slot: u8) -> bool
     requires { lives ≡ true → 3 < length mouths.now }
     ensures { result ≡ (lives && is_remote false (tenant_in (slice_get mouths.now 3) slot)) }
 {
-    lives && mouths[SPAWNER].runs(slot, false)
+    lives && mouths[Member::RemoteSpawner.seat()].runs(slot, false)
 }
 
 /// The lowest such slot from this one on. The condition: as above.
@@ -23,7 +21,7 @@ pub fn first_unreported(lives: bool, mouths: &[Mouths], from: u8) -> Option<u8>
     ensures { IsLowest (λ d. lives && is_remote false (tenant_in (slice_get mouths.now 3) d)) from result }
 {
     if lives {
-        mouths[SPAWNER].lowest(from, false)
+        mouths[Member::RemoteSpawner.seat()].lowest(from, false)
     } else {
         None
     }

@@ -5,8 +5,8 @@ use Rattle.bounce_record.specs.declared.note_row.NoteRow.{NoteRow}
 use Rattle.bounce_record.specs.declared.note_row.NoteRow.TheVariants as written
 use Rattle.bounce_record.specs.declared.return_row.ReturnRow.{ReturnRow}
 use Rattle.bounce_record.specs.declared.return_row.ReturnRow.TheVariants as back
-use Rattle.bounce_record.specs.Returning.{Returning, return_due_at}
-use Rattle.bounce_record.specs.Writing.{Writing, writing_due_at}
+use Rattle.bounce_record.specs.Returning.{Returning, due_at as return_due_at}
+use Rattle.bounce_record.specs.Writing.{Writing, due_at as note_due_at}
 use Rattle.call_fs.specs.declared.past.GotData.{GotData}
 use Rattle.call_fs.specs.declared.past.NeedData.{NeedData}
 use Rattle.call_fs.specs.declared.past.NeedData.TheVariants as needs
@@ -66,7 +66,7 @@ away_told c due got told h = refl
 
 -- By its rows
 
-note_away : (row : NoteRow) (w : Writing) → IsAway (writing_due_at row w)
+note_away : (row : NoteRow) (w : Writing) → IsAway (note_due_at row w)
 note_away written.Open w = tt
 note_away written.Create w = tt
 note_away (written.Stat fd) w = tt

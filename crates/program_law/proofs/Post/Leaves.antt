@@ -4,7 +4,7 @@ use Rattle.std.specs.Prelude.{nat_lt, ◌||◌, is_some}
 use Rattle.bounce_record.specs.declared.note_row.NoteRow.{NoteRow}
 use Rattle.bounce_record.specs.declared.note_row.NoteRow.TheVariants as written
 use Rattle.bounce_record.specs.Returning.{return_begun}
-use Rattle.bounce_record.specs.Writing.{written_on}
+use Rattle.bounce_record.specs.Writing.{moved as note_moved}
 use Rattle.call_fs.specs.declared.past.GotData.{GotData}
 use Rattle.envelope_records.specs.declared.channel.Record.{Record}
 use Rattle.mail_bytes.specs.Decimal.{digits}
@@ -158,10 +158,10 @@ mark_opened_goes w m d came = mark_over_goes false m d
 mark_goes : (row : MarkRow) (m : Marked) (came : GotData) (d : Desk) → Goes d (act_mark row m came d)
 mark_goes mark.Note m came d =
     let e : Desk = begin_note m d in
-    let f : Desk = record e { note = written_on e.note came } in
+    let f : Desk = record e { note = note_moved e.note came } in
     goes_then d f (noted_at f.note.row m f) refl (noted_goes f.note.row m f)
 mark_goes mark.Noting m came d =
-    let f : Desk = record d { note = written_on d.note came } in
+    let f : Desk = record d { note = note_moved d.note came } in
     goes_then d f (noted_at f.note.row m f) refl (noted_goes f.note.row m f)
 mark_goes mark.Open m came d = mark_opened_goes (said came).way m d came
 mark_goes (mark.Write fd) m came d = to_row (at.Mark (mark.Close fd (is_fine (said came).way)) m) d tt

@@ -7,8 +7,8 @@ use Rattle.bounce_record.specs.declared.note_row.NoteRow.{NoteRow}
 use Rattle.bounce_record.specs.declared.note_row.NoteRow.TheVariants as written
 use Rattle.bounce_record.specs.declared.return_row.ReturnRow.{ReturnRow}
 use Rattle.bounce_record.specs.declared.return_row.ReturnRow.TheVariants as back
-use Rattle.bounce_record.specs.Returning.{Returning, return_due_at}
-use Rattle.bounce_record.specs.Writing.{Writing, writing_due_at}
+use Rattle.bounce_record.specs.Returning.{Returning, due_at as return_due_at}
+use Rattle.bounce_record.specs.Writing.{Writing, due_at as note_due_at}
 use Rattle.call_fs.proofs.Maps.{put_same, put_other}
 use Rattle.call_fs.specs.declared.past.GotData.{GotData}
 use Rattle.call_fs.specs.declared.past.GotData.TheVariants as came
@@ -375,7 +375,7 @@ module _ (d : Desk) where
   pass_asks_none (todo.Left why) p = tt
   pass_asks_none todo.Lost p = tt
 
-  note_asks_none : (row : NoteRow) (w : Writing) → IsNoRequest (writing_due_at row w)
+  note_asks_none : (row : NoteRow) (w : Writing) → IsNoRequest (note_due_at row w)
   note_asks_none written.Open w = tt
   note_asks_none written.Create w = tt
   note_asks_none (written.Stat fd) w = tt

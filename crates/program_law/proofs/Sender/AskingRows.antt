@@ -7,7 +7,7 @@ use Rattle.address_rules.specs.Files.{Fault, first_fault, place}
 use Rattle.bounce_record.specs.declared.note_row.NoteRow.{NoteRow}
 use Rattle.bounce_record.specs.declared.note_row.NoteRow.TheVariants as written
 use Rattle.bounce_record.specs.Returning.{return_begun}
-use Rattle.bounce_record.specs.Writing.{written_on}
+use Rattle.bounce_record.specs.Writing.{moved as note_moved}
 use Rattle.call_fs.specs.declared.calls.Fd.{Fd}
 use Rattle.call_fs.specs.declared.past.GotData.{GotData}
 use Rattle.envelope_records.specs.declared.channel.Record.{Record}
@@ -152,7 +152,7 @@ module _ (S : ℕ → List ℕ → Type 0) where
     note_then row m d h = (kept_of d h, tt)
 
     noted_then : (m : Marked) (got : GotData) (d : Desk) → Base S t d → Then (noted m got d)
-    noted_then m got d h = note_then (written_on d.note got).row m (record d { note = written_on d.note got }) h
+    noted_then m got d h = note_then (note_moved d.note got).row m (record d { note = note_moved d.note got }) h
 
     pub mark_then : (row : MarkRow) (m : Marked) (got : GotData) (d : Desk) → Base S t d → Then (act_mark row m got d)
     mark_then mark.Note m got d h = noted_then m got (begin_note m d) h

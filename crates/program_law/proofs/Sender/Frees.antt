@@ -63,7 +63,7 @@ use Rattle.bounce_record.specs.declared.note_row.NoteRow.TheVariants as note
 use Rattle.bounce_record.specs.declared.return_row.ReturnRow.{ReturnRow}
 use Rattle.bounce_record.specs.declared.return_row.ReturnRow.TheVariants as back
 use Rattle.bounce_record.specs.Returning.{Returning, return_begun}
-use Rattle.bounce_record.specs.Writing.{written_on}
+use Rattle.bounce_record.specs.Writing.{moved as note_moved}
 use Rattle.send_core.specs.Turn.{act_mark, begin_note, noted, noted_at, begun_at, file_read, in_todo, lost, mark_opened, mark_over, pass_opened, requested, todo_found, todo_named, todo_none, todo_on, todo_over, took, unlinked}
 use Rattle.program_law.specs.Sender.Waits.{awaits_in, awaits_at, awaits, IsFree}
 use Rattle.program_law.proofs.Sender.Awaits.{Begins, passing_at, point_begins}
@@ -139,7 +139,7 @@ notes_by (note.Close fd) m e = inl refl
 notes_by (note.Shut fd) m e = inl refl
 
 notes : (m : Marked) (got : GotData) (e : Desk) → Free (noted m got e)
-notes m got e = notes_by (written_on e.note got).row m (record e { note = written_on e.note got })
+notes m got e = notes_by (note_moved e.note got).row m (record e { note = note_moved e.note got })
 
 marks : (row : MarkRow) (m : Marked) (got : GotData) (e : Desk) → Free (act_mark row m got e)
 marks mark.Note m got e = notes m got (begin_note m e)

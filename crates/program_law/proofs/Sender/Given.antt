@@ -58,9 +58,9 @@ use Rattle.bounce_record.specs.declared.note_row.NoteRow.TheVariants as note
 use Rattle.bounce_record.specs.declared.return_row.ReturnRow.{ReturnRow}
 use Rattle.bounce_record.specs.declared.return_row.ReturnRow.TheVariants as back
 use Rattle.bounce_record.specs.declared.bounces.Bounce.{Bounce as Bouncing}
-use Rattle.bounce_record.specs.Returning.{Returning, awaited_row, bounce_at, due_of_return, given_row, goes as goes_in, made, message_opened, message_read, notes_opened, notes_read, return_begun, return_due_at, returned_at as return_moved, returned_on, started_row, unlinked_row}
+use Rattle.bounce_record.specs.Returning.{Returning, awaited_row, bounce_at, due_by as return_due, given_row, goes as goes_in, made, message_opened, message_read, notes_opened, notes_read, return_begun, due_at as return_due_at, moved_at as return_moved, moved as return_moved_by, started_row, unlinked_row}
 use Rattle.call_fs.specs.declared.file_system.TheConstants.{PIECE}
-use Rattle.bounce_record.specs.Writing.{written_on}
+use Rattle.bounce_record.specs.Writing.{moved as note_moved}
 use Rattle.send_core.specs.Turn.{act_mark, begin_note, noted, noted_at, begun_at, file_read, in_todo, lost, mark_opened, mark_over, pass_opened, requested, todo_found, todo_named, todo_none, todo_on, todo_over, took, unlinked}
 use Rattle.program_law.proofs.Sender.Awaits.{Begins, passing_at, point_begins}
 
@@ -144,7 +144,7 @@ notes_by (note.Close fd) m e = (λ w. w)
 notes_by (note.Shut fd) m e = (λ w. w)
 
 notes : (m : Marked) (got : GotData) (e : Desk) → Quiet (noted m got e)
-notes m got e = notes_by (written_on e.note got).row m (record e { note = written_on e.note got })
+notes m got e = notes_by (note_moved e.note got).row m (record e { note = note_moved e.note got })
 
 marks : (row : MarkRow) (m : Marked) (got : GotData) (e : Desk) → Quiet (act_mark row m got e)
 marks mark.Note m got e = notes m got (begin_note m e)
@@ -359,7 +359,7 @@ returned_gave due got it n now e given = by it.row refl where
   by back.Failed is = quiet_gave due got (finish_at finish.Later n now (record e { bounce = it })) (finish_past now _)
   by row is = given
 
-begun_calm : (controls : Controls) (sender : List ℕ) (n now : ℕ) (got : GotData) → Calm (returned_on controls sender (return_begun n) now got)
+begun_calm : (controls : Controls) (sender : List ℕ) (n now : ℕ) (got : GotData) → Calm (return_moved_by controls sender (return_begun n) now got)
 begun_calm controls sender n now (came.Answered told) = opened_calm (return_begun n) told.answer
 begun_calm controls sender n now got = λ w. w
 
@@ -368,7 +368,7 @@ finish_gave finish.OpenBounce n now got e =
     let it = bounce_on n now got (return_begun n) e.book in
     returned_gave (due_at (at.Finish finish.OpenBounce n) e) got it n now (record e { busy = true }) (λ w. absurd (begun_calm e.book.controls (sender_of n e.book.messages.known) n now got w))
 finish_gave finish.Return n now got e =
-    returned_gave (due_of_return e.bounce) got (bounce_on n now got e.bounce e.book) n now e (return_given e.book.controls (sender_of n e.book.messages.known) e.bounce.row e.bounce now got)
+    returned_gave (return_due e.bounce) got (bounce_on n now got e.bounce e.book) n now e (return_given e.book.controls (sender_of n e.book.messages.known) e.bounce.row e.bounce now got)
 finish_gave finish.UnlinkInfo n now got e =
     quiet_gave (due_at (at.Finish finish.UnlinkInfo n) e) got (act_finish finish.UnlinkInfo n now got e) (finish_goes (finish_to finish.UnlinkInfo (said got).way) n now e (info_leads (said got).way e.bounce.row))
 finish_gave finish.Give n now got e = quiet_gave (due_at (at.Finish finish.Give n) e) got (act_finish finish.Give n now got e) (finish_goes (finish_to finish.Give (said got).way) n now e (give_leads (said got).way e.bounce.row))

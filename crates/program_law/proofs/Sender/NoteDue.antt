@@ -4,8 +4,8 @@ use Rattle.bounce_record.specs.declared.note_row.NoteRow.{NoteRow}
 use Rattle.bounce_record.specs.declared.note_row.NoteRow.TheVariants as written
 use Rattle.bounce_record.specs.declared.return_row.ReturnRow.{ReturnRow}
 use Rattle.bounce_record.specs.declared.return_row.ReturnRow.TheVariants as back
-use Rattle.bounce_record.specs.Returning.{Returning, return_due_at}
-use Rattle.bounce_record.specs.Writing.{Writing, writing_due_at}
+use Rattle.bounce_record.specs.Returning.{Returning, due_at as return_due_at}
+use Rattle.bounce_record.specs.Writing.{Writing, due_at as note_due_at}
 use Rattle.call_fs.specs.declared.calls.CallData.{CallData}
 use Rattle.call_fs.specs.declared.past.ChildData.{ChildData}
 use Rattle.call_fs.specs.declared.past.NeedData.{NeedData}
@@ -17,7 +17,7 @@ use Rattle.call_fs.specs.declared.program.Port.TheVariants as port
 abbrev OnlyCalls : NeedData → Type 0
 OnlyCalls due = ((c : CallData) × (due ≡ needs.File c)) ⊎ (due ≡ needs.Wait)
 
-note_calls : (row : NoteRow) (w : Writing) → OnlyCalls (writing_due_at row w)
+note_calls : (row : NoteRow) (w : Writing) → OnlyCalls (note_due_at row w)
 note_calls written.Open w = inl (_, refl)
 note_calls written.Create w = inl (_, refl)
 note_calls (written.Stat fd) w = inl (_, refl)
@@ -32,17 +32,17 @@ note_calls written.Failed w = inr refl
 only_calls : (due need : NeedData) → ((c : CallData) → needs.File c ≡ need → ⊥) → (needs.Wait ≡ need → ⊥) → OnlyCalls due → due ≡ need → ⊥
 only_calls due need no_call no_wait h e = ⊎_elim (λ c. no_call c.0 (sym c.1 ∙ e)) (λ w. no_wait (sym w ∙ e)) h
 
-pub note_gives : (row : NoteRow) (w : Writing) (p : Port) (bytes : List ℕ) → writing_due_at row w ≡ needs.Give p bytes → ⊥
-note_gives row w p bytes due = only_calls (writing_due_at row w) (needs.Give p bytes) (λ c e. cc) (λ e. cc) (note_calls row w) due
+pub note_gives : (row : NoteRow) (w : Writing) (p : Port) (bytes : List ℕ) → note_due_at row w ≡ needs.Give p bytes → ⊥
+note_gives row w p bytes due = only_calls (note_due_at row w) (needs.Give p bytes) (λ c e. cc) (λ e. cc) (note_calls row w) due
 
-pub note_takes : (row : NoteRow) (w : Writing) (p : Port) → writing_due_at row w ≡ needs.Take p → ⊥
-note_takes row w p due = only_calls (writing_due_at row w) (needs.Take p) (λ c e. cc) (λ e. cc) (note_calls row w) due
+pub note_takes : (row : NoteRow) (w : Writing) (p : Port) → note_due_at row w ≡ needs.Take p → ⊥
+note_takes row w p due = only_calls (note_due_at row w) (needs.Take p) (λ c e. cc) (λ e. cc) (note_calls row w) due
 
-pub note_starts : (row : NoteRow) (w : Writing) (asked : ChildData) → writing_due_at row w ≡ needs.Start asked → ⊥
-note_starts row w asked due = only_calls (writing_due_at row w) (needs.Start asked) (λ c e. cc) (λ e. cc) (note_calls row w) due
+pub note_starts : (row : NoteRow) (w : Writing) (asked : ChildData) → note_due_at row w ≡ needs.Start asked → ⊥
+note_starts row w asked due = only_calls (note_due_at row w) (needs.Start asked) (λ c e. cc) (λ e. cc) (note_calls row w) due
 
-pub note_runs : (row : NoteRow) (w : Writing) (text : List ℕ) → writing_due_at row w ≡ needs.Command text → ⊥
-note_runs row w text due = only_calls (writing_due_at row w) (needs.Command text) (λ c e. cc) (λ e. cc) (note_calls row w) due
+pub note_runs : (row : NoteRow) (w : Writing) (text : List ℕ) → note_due_at row w ≡ needs.Command text → ⊥
+note_runs row w text due = only_calls (note_due_at row w) (needs.Command text) (λ c e. cc) (λ e. cc) (note_calls row w) due
 
 -- a return gives nothing to the cleaner, and takes nothing of it
 pub return_gives : (row : ReturnRow) (it : Returning) (text : List ℕ) → return_due_at row it ≡ needs.Give port.Clean text → ⊥

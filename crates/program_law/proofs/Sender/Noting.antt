@@ -12,7 +12,7 @@ use Rattle.address_rules.specs.Nuls.{HaveNoNul}
 use Rattle.bounce_record.specs.declared.note_row.NoteRow.{NoteRow}
 use Rattle.bounce_record.specs.declared.note_row.NoteRow.TheVariants as written
 use Rattle.bounce_record.specs.Notes.{note_text, parting, with_note}
-use Rattle.bounce_record.specs.Writing.{Writing, left_out, next_piece, parted_note, piece, tail_row, writing_due_at, written_row}
+use Rattle.bounce_record.specs.Writing.{Writing, left_out, next_piece, parted_note, piece, tail_row, due_at as note_due_at, written_row}
 use Rattle.bounce_record.proofs.Counting.{parting_tail}
 use Rattle.call_fs.specs.declared.calls.Answer.{Answer}
 use Rattle.call_fs.specs.declared.calls.Answer.TheVariants as answer
@@ -546,7 +546,7 @@ module _ (controls : Controls) (now : ℕ) (q : Queue) (a : List ℕ) (G : Sound
       named : (make : List ℕ → CallData) (c : CallData) → ◌≡◌ {A = NeedData} (needs.File (make (path (Of Bounce d.note.n)))) (needs.File c) → ◌≡◌ {A = NeedData} (needs.File (make (path (Of Bounce m.n)))) (needs.File c)
       named make c due = subst (λ (k : ℕ). ◌≡◌ {A = NeedData} (needs.File (make (path (Of Bounce k)))) (needs.File c)) of.number due
 
-      pub note_step : (row : NoteRow) (child : Option Child) (c : CallData) (told : Told) → NoteHolds controls q a row m name report text → writing_due_at row d.note ≡ needs.File c
+      pub note_step : (row : NoteRow) (child : Option Child) (c : CallData) (told : Told) → NoteHolds controls q a row m name report text → note_due_at row d.note ≡ needs.File c
           → Fits q.disk c told.answer wrote → IsReadBy q.disk c told → Result row child c told
       note_step written.Open child c told holds due fits given = absurd holds
       note_step written.Create child c told holds due fits given =

@@ -32,7 +32,7 @@ use Rattle.todo_pass.specs.Disks.{SameAt, fd_in, HoldsTodo, LeaveAlone, LeadsTo,
 use Rattle.todo_pass.specs.Laws.{IsMadeRow}
 use Rattle.todo_pass.specs.Run.{IsRun}
 use Rattle.todo_pass.specs.Sorting.{has, info_text}
-use Rattle.todo_pass.specs.Table.{Pass, passed, moved, due_of_pass}
+use Rattle.todo_pass.specs.Table.{Pass, place_after as pass_after, moved, due_by as pass_due}
 use Rattle.todo_pass.proofs.Ends.{files_are_made}
 use Rattle.todo_pass.proofs.Made.{numbered}
 use Rattle.queue_law.specs.Books.{own_call}
@@ -78,21 +78,21 @@ alone_then n row d e f one two = record {
   descriptor = open_then (fd_in row) d e f one.descriptor two.descriptor;
 }
 
-leads_more : (controls : Controls) (n : ℕ) (past : List Own) (first d e : Disk) → LeadsTo controls n first past d → LeaveAlone n (passed controls n past).row d e
+leads_more : (controls : Controls) (n : ℕ) (past : List Own) (first d e : Disk) → LeadsTo controls n first past d → LeaveAlone n (pass_after controls n past).row d e
     → LeadsTo controls n first past e
-leads_more controls n [] first d e h more = alone_then n (passed controls n []).row first d e h more
+leads_more controls n [] first d e h more = alone_then n (pass_after controls n []).row first d e h more
 leads_more controls n (event ∷ before) first d e h more =
-    (h.0, h.1, h.2, h.3, alone_then n (passed controls n (event ∷ before)).row h.1 d e h.4 more)
+    (h.0, h.1, h.2, h.3, alone_then n (pass_after controls n (event ∷ before)).row h.1 d e h.4 more)
 
 -- A pass of a number, at its place
 
-pub goes_at : (controls : Controls) (now : ℕ) (q : Queue) (a : List ℕ) (n : ℕ) (past : List Own) (p : Pass) (first : Disk) → p ≡ passed controls n past → IsRun controls n past
-    → LeadsTo controls n first past q.disk → PassStands controls now q a n (passed controls n past).row → PassGoesOn controls now q a p
+pub goes_at : (controls : Controls) (now : ℕ) (q : Queue) (a : List ℕ) (n : ℕ) (past : List Own) (p : Pass) (first : Disk) → p ≡ pass_after controls n past → IsRun controls n past
+    → LeadsTo controls n first past q.disk → PassStands controls now q a n (pass_after controls n past).row → PassGoesOn controls now q a p
 goes_at controls now q a n past p first is run leads stands =
     let number : n ≡ p.n = sym (ap (λ (z : Pass). z.n) is ∙ numbered controls n past) in
     record {
       past = past;
-      is = is ∙ ap (λ m. passed controls m past) number;
+      is = is ∙ ap (λ m. pass_after controls m past) number;
       run = subst (λ m. IsRun controls m past) number run;
       first = first;
       leads = subst (λ m. LeadsTo controls m first past q.disk) number leads;
@@ -128,7 +128,7 @@ search_begins controls now q a read after text wrote n G fits number =
       is = refl;
       run = tt;
       first = q.disk;
-      leads = nothing_else n (passed controls n []).row q.disk;
+      leads = nothing_else n (pass_after controls n []).row q.disk;
       stands = record {
         rests = λ holds. rests_begin.queued controls now q n (entry q.disk.files w.0) G (find_some q.disk.names q.disk.files (Of Todo n) w.0 w.1);
         holds = tt;
@@ -144,14 +144,14 @@ module _ (controls : Controls) (now : ℕ) (q : Queue) (a : List ℕ) (p : Pass)
   n : ℕ
   n = p.n
 
-  at_place : PassStands controls now q a p.n (passed controls p.n h.past).row
+  at_place : PassStands controls now q a p.n (pass_after controls p.n h.past).row
   at_place = subst (λ (z : Pass). PassStands controls now q a p.n z.row) h.is h.stands
 
-  calls : (read : ℕ) (call : CallData) (told : Told) (wrote : ℕ) → Sound controls q → due_of_pass p ≡ needs.File call → Fits q.disk call told.answer wrote
+  calls : (read : ℕ) (call : CallData) (told : Told) (wrote : ℕ) → Sound controls q → pass_due p ≡ needs.File call → Fits q.disk call told.answer wrote
       → IsReadBy q.disk call told
       → (role : ℕ → Role) × PassGoesTo controls now a q (called_queue q a read call told.answer wrote role) p (moved controls p read (came.Answered told))
   calls read call told wrote G due fits told_is =
-      let due_now : due_of_pass (passed controls p.n h.past) ≡ needs.File call = sym (ap due_of_pass h.is) ∙ due in
+      let due_now : pass_due (pass_after controls p.n h.past) ≡ needs.File call = sym (ap pass_due h.is) ∙ due in
       let w = passes_keep controls now q a p.n h.past read nothing_ready call told wrote G at_place due_now fits in
       let own = own_call read nothing_ready call told in
       let r = called_queue q a read call told.answer wrote w.0 in (
@@ -161,14 +161,14 @@ module _ (controls : Controls) (now : ℕ) (q : Queue) (a : List ℕ) (p : Pass)
           goes_on = goes_at controls now r a p.n (own ∷ h.past) (moved controls p read (came.Answered told)) h.first
               (ap (λ (z : Pass). moved controls z read (came.Answered told)) h.is)
               (h.run, (due_now, fits_answer q.disk call told.answer wrote fits))
-              (q.disk, r.disk, h.leads, ((wrote, fits, refl), told_is), nothing_else p.n (passed controls p.n (own ∷ h.past)).row r.disk)
+              (q.disk, r.disk, h.leads, ((wrote, fits, refl), told_is), nothing_else p.n (pass_after controls p.n (own ∷ h.past)).row r.disk)
               w.1.stands;
         },
       )
 
   others : (o : List ℕ) (m k : Option ℕ) (r : Queue) → Elsewhere now o m q r → a ≢ o → Spares now k q r → k ≢ Some p.n → about r p.n ≡ about q p.n → PassGoesOn controls now r a p
   others o m k r E far S other same =
-      let row = (passed controls p.n h.past).row in
+      let row = (pass_after controls p.n h.past).row in
       record {
         past = h.past;
         is = h.is;
@@ -222,7 +222,7 @@ both P local remote channel.Remote = remote
 
 pub passes_give : PassesGive
 passes_give controls now q a p h at_give =
-    let place : (passed controls p.n h.past).row ≡ at.Give = sym (ap (λ (z : Pass). z.row) h.is) ∙ at_give in
+    let place : (pass_after controls p.n h.past).row ≡ at.Give = sym (ap (λ (z : Pass). z.row) h.is) ∙ at_give in
     let R = h.stands.rests (subst HoldsTodo (sym at_give) tt) in
     let ready = passes_make controls p.n h.past h.first q h.run h.leads place R.rest in
     let F = files_are_made controls p.n h.past h.first q.disk h.run h.leads (subst IsMadeRow (sym place) tt) in

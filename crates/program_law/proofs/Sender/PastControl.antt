@@ -5,7 +5,7 @@ use Rattle.address_rules.specs.declared.control_file.ControlFile.{ControlFile}
 use Rattle.bounce_record.specs.declared.note_row.NoteRow.{NoteRow}
 use Rattle.bounce_record.specs.declared.note_row.NoteRow.TheVariants as written
 use Rattle.bounce_record.specs.Returning.{return_begun}
-use Rattle.bounce_record.specs.Writing.{written_on}
+use Rattle.bounce_record.specs.Writing.{moved as note_moved}
 use Rattle.call_fs.specs.declared.calls.Fd.{Fd}
 use Rattle.call_fs.specs.declared.past.GotData.{GotData}
 use Rattle.call_fs.specs.declared.past.NeedData.{NeedData}
@@ -286,7 +286,7 @@ note_past written.Failed m d = over_past false m d
 note_past row m d = tt
 
 noted_past : (m : Marked) (got : GotData) (d : Desk) → Past (noted m got d)
-noted_past m got d = note_past (written_on d.note got).row m (record d { note = written_on d.note got })
+noted_past m got d = note_past (note_moved d.note got).row m (record d { note = note_moved d.note got })
 
 mark_past : (row : MarkRow) (m : Marked) (got : GotData) (d : Desk) → Past (act_mark row m got d)
 mark_past mark.Note m got d = noted_past m got (begin_note m d)

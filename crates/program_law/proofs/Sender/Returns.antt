@@ -11,7 +11,7 @@ use Rattle.bounce_record.specs.declared.bounces.Bounce.{Bounce as Bouncing}
 use Rattle.bounce_record.specs.declared.return_row.ReturnRow.{ReturnRow}
 use Rattle.bounce_record.specs.declared.return_row.ReturnRow.TheVariants as back
 use Rattle.bounce_record.specs.Bounces.{bounce_of, single}
-use Rattle.bounce_record.specs.Returning.{Returning, answered, bounce_at, goes, input_of, made, return_begun, return_due_at, returned_at}
+use Rattle.bounce_record.specs.Returning.{Returning, answered, bounce_at, goes, input_of, made, return_begun, due_at as return_due_at, moved_at as return_moved_at}
 use Rattle.call_fs.specs.declared.calls.Answer.{Answer}
 use Rattle.call_fs.specs.declared.calls.Answer.TheVariants as answer
 use Rattle.call_fs.specs.declared.calls.CallData.{CallData}
@@ -231,7 +231,7 @@ module _ (controls : Controls) (now : ℕ) (q : Queue) (a : List ℕ) (child : O
     abbrev Steps : ReturnRow → CallData → Type 0
     Steps row asked = (given : Answer) (bytes : List ℕ) → Fits q.disk asked given wrote → IsReadBy q.disk asked (record { answer = given; bytes = bytes })
         → Leads (booked_queue child (booked_return row n it.notes (came.Answered (record { answer = given; bytes = bytes }))) (called_queue q a read asked given wrote q.role))
-        (returned_at b.controls sender row it read (came.Answered (record { answer = given; bytes = bytes })))
+        (return_moved_at b.controls sender row it read (came.Answered (record { answer = given; bytes = bytes })))
 
     abbrev same_grows : Grows q q
     same_grows = record { looks = λ part k far. refl; lives = same_lives }
@@ -451,7 +451,7 @@ module _ (controls : Controls) (now : ℕ) (q : Queue) (a : List ℕ) (child : O
     nothing_leads = stays_closed controls now q a G n pre
 
     awaited : (pid : ℕ) (got : GotData) → HasMade controls (about q n) sender it.input → HasChild (booked_return (back.Await pid) n it.notes got) child
-        → Taken (booked_queue child (booked_return (back.Await pid) n it.notes got) q) (returned_at b.controls sender (back.Await pid) it read got)
+        → Taken (booked_queue child (booked_return (back.Await pid) n it.notes got) q) (return_moved_at b.controls sender (back.Await pid) it read got)
     awaited pid (came.Ended status) h has = by_zero (status == 0) has
       where
         by_zero : (zero : Bool) → HasChild (if zero then Returned n ∷ [] else []) child
@@ -532,7 +532,7 @@ module _ (controls : Controls) (now : ℕ) (q : Queue) (a : List ℕ) (n : ℕ) 
   abbrev At : Returning → Type 0
   At next = FinishStands controls now q a (returned_to next.row) n b.messages.known next
 
-  started : (got : GotData) → HasMade controls (about q n) (sender_of n b.messages.known) it.input → At (returned_at b.controls (sender_of n b.messages.known) back.Start it read got)
+  started : (got : GotData) → HasMade controls (about q n) (sender_of n b.messages.known) it.input → At (return_moved_at b.controls (sender_of n b.messages.known) back.Start it read got)
   started (came.Started pid) h = record { idle = idle; number = number; holds = h }
   started (came.Answered told) h = tt
   started (came.Took bytes) h = tt
@@ -543,7 +543,7 @@ module _ (controls : Controls) (now : ℕ) (q : Queue) (a : List ℕ) (n : ℕ) 
   started came.Failed h = tt
   started came.Memory h = tt
 
-  given : (pid : ℕ) (got : GotData) → HasMade controls (about q n) (sender_of n b.messages.known) it.input → At (returned_at b.controls (sender_of n b.messages.known) (back.Give pid) it read got)
+  given : (pid : ℕ) (got : GotData) → HasMade controls (about q n) (sender_of n b.messages.known) it.input → At (return_moved_at b.controls (sender_of n b.messages.known) (back.Give pid) it read got)
   given pid came.Gave h = record { idle = idle; number = number; holds = h }
   given pid (came.Started other) h = tt
   given pid (came.Answered told) h = tt
@@ -555,7 +555,7 @@ module _ (controls : Controls) (now : ℕ) (q : Queue) (a : List ℕ) (n : ℕ) 
   given pid came.Memory h = tt
 
   pub steps : (row : ReturnRow) (got : GotData) → ReturnHolds controls q a row it n (sender_of n b.messages.known) → IsBeforeStatus row
-      → At (returned_at b.controls (sender_of n b.messages.known) row it read got)
+      → At (return_moved_at b.controls (sender_of n b.messages.known) row it read got)
   steps back.Start got h before = started got h
   steps (back.Give pid) got h before = given pid got h
   steps back.Open got h before = absurd before
@@ -581,13 +581,13 @@ returns_go_on = record {
         → Sound controls q → KnowsEach q (at.Finish finish.Return n) b.messages.known → (h : ReturnStands controls q a n b.messages.known it)
         → b.controls ≡ controls → (row : ReturnRow) → it.row ≡ row → row ≡ back.Await pid → HasChild (booked_return row n it.notes got) child
         → ReturnTakes controls now a q (booked_queue child (booked_return row n it.notes got) q) n
-        (returned_to (returned_at b.controls (sender_of n b.messages.known) row it read got).row) b.messages.known (returned_at b.controls (sender_of n b.messages.known) row it read got)
+        (returned_to (return_moved_at b.controls (sender_of n b.messages.known) row it read got).row) b.messages.known (return_moved_at b.controls (sender_of n b.messages.known) row it read got)
     takes_at controls now q a child n pid b it read got G each h same row own is has =
         let there : ReturnHolds controls q a (back.Await pid) it n (sender_of n b.messages.known) =
         subst (λ (x : ReturnRow). ReturnHolds controls q a x it n (sender_of n b.messages.known)) (own ∙ is) h.holds in
         let by : ReturnRow → Type 0 = λ x. HasChild (booked_return x n it.notes got) child
         → ReturnTakes controls now a q (booked_queue child (booked_return x n it.notes got) q) n
-        (returned_to (returned_at b.controls (sender_of n b.messages.known) x it read got).row) b.messages.known (returned_at b.controls (sender_of n b.messages.known) x it read got) in
+        (returned_to (return_moved_at b.controls (sender_of n b.messages.known) x it read got).row) b.messages.known (return_moved_at b.controls (sender_of n b.messages.known) x it read got) in
         subst by (sym is) (awaited controls now q a child n b read 0 G h.idle each same it h.number pid got there) has
 
 pub finishes_lead : FinishesLead

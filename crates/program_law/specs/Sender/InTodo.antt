@@ -10,7 +10,7 @@ use Rattle.todo_pass.specs.declared.row.Row.{Row as PassRow}
 use Rattle.todo_pass.specs.declared.row.Row.TheVariants as todo
 use Rattle.todo_pass.specs.Disks.{LeadsTo}
 use Rattle.todo_pass.specs.Run.{IsRun}
-use Rattle.todo_pass.specs.Table.{Pass, passed}
+use Rattle.todo_pass.specs.Table.{Pass, place_after as pass_after}
 use Rattle.queue_law.specs.Books.{Injection}
 use Rattle.queue_law.specs.Numbers.{About, Queue, about}
 use Rattle.queue_law.specs.Passes.{PassStands}
@@ -21,7 +21,7 @@ use Rattle.program_law.specs.Sender.Knows.{IsThereIf, has_file}
 -- alone what it holds; and it has what it relies on.
 pub record PassGoesOn (controls : Controls) (now : ℕ) (q : Queue) (a : List ℕ) (p : Pass) : Type 0 where
   pub past : List Own
-  pub is : p ≡ passed controls p.n past
+  pub is : p ≡ pass_after controls p.n past
   pub run : IsRun controls p.n past
   pub first : Disk
   pub leads : LeadsTo controls p.n first past q.disk

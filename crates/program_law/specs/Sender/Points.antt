@@ -9,7 +9,7 @@ use Rattle.call_fs.specs.declared.past.NeedData.TheVariants as needs
 use Rattle.call_fs.specs.Apply.{Fits, IsReadBy}
 use Rattle.bounce_record.specs.declared.return_row.ReturnRow.{ReturnRow}
 use Rattle.bounce_record.specs.declared.return_row.ReturnRow.TheVariants as rows
-use Rattle.bounce_record.specs.Returning.{Returning, due_of_return, return_begun}
+use Rattle.bounce_record.specs.Returning.{Returning, due_by as return_due, return_begun}
 use Rattle.queue_clean.specs.declared.command.Command.TheVariants.{Foop}
 use Rattle.send_known.specs.declared.known.Known.{Known}
 use Rattle.send_known.specs.Known.{forgotten}
@@ -75,7 +75,7 @@ pub record FinishesLead : Type 0 where
       FinishLeads controls now a q (called_queue q a read call told.answer wrote q.role) n (returned_to r.row) b.messages.known r
   pub returns : (controls : Controls) (now : ℕ) (q : Queue) (a : List ℕ) (child : Option Child) (n : ℕ) (b : Book) (back : Returning) (read : ℕ) (call : CallData) (told : Told)
       (wrote : ℕ) → Sound controls q → KnowsEach q (at.Finish finish.Return n) b.messages.known → ReturnStands controls q a n b.messages.known back → b.controls ≡ controls
-      → due_of_return back ≡ needs.File call → Fits q.disk call told.answer wrote → IsReadBy q.disk call told
+      → return_due back ≡ needs.File call → Fits q.disk call told.answer wrote → IsReadBy q.disk call told
       → let r = bounce_on n read (came.Answered told) back b in
       FinishLeads controls now a q
       (booked_queue child (returned_at back.row n back.notes (came.Answered told)) (called_queue q a read call told.answer wrote q.role)) n (returned_to r.row) b.messages.known r

@@ -20,7 +20,7 @@ use Rattle.send_parts.specs.Files.{message_number}
 use Rattle.send_parts.specs.Steps.{dir_text}
 use Rattle.send_core.specs.Turn.{known_of}
 use Rattle.todo_pass.specs.declared.row.Row.TheVariants as at
-use Rattle.todo_pass.specs.Table.{Pass, begun, moved, due_of_pass}
+use Rattle.todo_pass.specs.Table.{Pass, begun, moved, due_by as pass_due}
 use Rattle.queue_law.specs.Numbers.{Role, Queue, About, about, IsPreprocessed, Sound}
 use Rattle.queue_law.specs.Rests.{RestsAs, Spares}
 use Rattle.queue_law.specs.Senders.{LeadsOn, called_queue}
@@ -45,7 +45,7 @@ pub record PassGoesTo (controls : Controls) (now : ℕ) (a : List ℕ) (q r : Qu
 pub record PassesGoOn : Type 0 where
   -- a file call that is due, with any answer
   pub calls : (controls : Controls) (now : ℕ) (q : Queue) (a : List ℕ) (p : Pass) (read : ℕ) (call : CallData) (told : Told) (wrote : ℕ)
-      → Sound controls q → PassGoesOn controls now q a p → due_of_pass p ≡ needs.File call → Fits q.disk call told.answer wrote → IsReadBy q.disk call told
+      → Sound controls q → PassGoesOn controls now q a p → pass_due p ≡ needs.File call → Fits q.disk call told.answer wrote → IsReadBy q.disk call told
       → (role : ℕ → Role) × PassGoesTo controls now a q (called_queue q a read call told.answer wrote role) p (moved controls p read (came.Answered told))
   -- what others do that leaves the number alone
   pub others : (controls : Controls) (now : ℕ) (a o : List ℕ) (m k : Option ℕ) (q r : Queue) (p : Pass) → Elsewhere now o m q r → a ≢ o → Spares now k q r

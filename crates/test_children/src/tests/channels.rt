@@ -264,6 +264,26 @@ fn own_input_is_channel_0(rt: HostRuntime) -> Result<(), Fail> {
     Ok(())
 }
 
+/// Whether a channel whose reader isn't started has one post, its failure, which is counted.
+fn fails_at_once<R: Wait + Copy + Drop>(rt: R, alloc: Global) -> Result<bool, AllocError> {
+    let (mut opener, taker) = share(alloc, 1)?;
+    let mut posts = ChildPosts::new(rt, taker);
+    let Some(reader) = opener.open()? else {
+        return Ok(false);
+    };
+    let is_told = reader.fail(&rt).is_ok();
+    let mut buffer = [0; 10];
+    let is_first = posts.next(&mut buffer) == Post::Failed { chan: 0 };
+    let is_last = posts.next(&mut buffer) == Post::Turn;
+    Ok(is_told && is_first && is_last && posts.faults() == 1)
+}
+
+#[test]
+fn a_reader_that_is_not_started(rt: HostRuntime) -> Result<(), Fail> {
+    assert!(rt; fails_at_once(rt, rt.alloc())?);
+    Ok(())
+}
+
 #[test]
 fn limits_that_are_told(rt: HostRuntime) -> Result<(), Fail> {
     assert!(rt; drain_limit(None) == Some(600_000));

@@ -154,6 +154,18 @@ fn commands_of_a_shell(rt: HostRuntime) -> Result<(), Fail> {
             Status::Ended(7)
         )?
     );
+    // one whose output outlives it
+    assert!(rt;
+        prints(
+            rt,
+            alloc,
+            b"(sleep 0.3; echo late) & exit 5",
+            b"",
+            0,
+            b"late\n",
+            Status::Ended(5)
+        )?
+    );
     // one that reads nothing
     assert!(rt; prints(rt, alloc, b"echo done", b"abc", 1, b"done\n", well)?);
     Ok(())
@@ -226,15 +238,8 @@ fn feedings_that_fail(rt: HostRuntime) -> Result<(), Fail> {
 #[test]
 fn children_that_go_on_and_on(rt: HostRuntime) -> Result<(), Fail> {
     let alloc = rt.alloc();
-    // one that prints and prints
-    let flood = run(
-        rt,
-        alloc,
-        &[b"sh", b"-c", b"exec cat /dev/zero"],
-        b"",
-        0,
-        LONG,
-    )?;
+    // a remote program that prints and prints
+    let flood = run(rt, alloc, &[b"/bin/cat", b"/dev/zero"], b"", 0, LONG)?;
     assert!(rt; flood.is_failed && flood.bytes.len() == MOST_PRINTED);
     assert!(rt; flood.status == Status::Crashed);
     // one that doesn't end
@@ -276,5 +281,51 @@ fn programs_of_others(rt: HostRuntime) -> Result<(), Fail> {
         LONG,
     )?;
     assert!(rt; wrong.bytes.is_empty() && wrong.status == Status::Failed);
+    Ok(())
+}
+
+/// Prints its descriptors, and reads its input.
+const DESCRIPTORS: &[u8] = b"echo /proc/self/fd/*; exec cat";
+
+/// Whether two children end in the order in which their inputs are ended, where the second was started while the first one ran;
+/// and whether it has the descriptors that a child has which is alone.
+fn keeps_apart<R: Threads + Wait + Processes + Clock + Copy + Send + Sync + Drop + 'static>(
+    rt: R,
+    alloc: Global,
+) -> Result<bool, AllocError>
+where
+    R::Started: Drop + Send + 'static,
+    <R::Started as OpenProcess>::Stdin: Send + 'static,
+    <R::Started as OpenProcess>::Stdout: Send + 'static,
+    <R::Started as OpenProcess>::Stderr: Send + 'static,
+{
+    let alone = run(rt, alloc, &[b"sh", b"-c", DESCRIPTORS], b"", 0, LONG)?;
+    let (mut opener, taker) = share(alloc, 16)?;
+    let _own = opener.open()?;
+    let gate = RestingGate::new(rt, opener.queue()?);
+    let mut posts = ChildPosts::new(rt, taker);
+    let mut children = Children::new(rt, alloc, HostSystem::new(rt, 0), opener, LONG)?;
+    let commands: [&[u8]; 2] = [b"exec cat", DESCRIPTORS];
+    for command in commands {
+        match children.start(alloc, &[b"sh", b"-c", command]) {
+            Started::Chan { .. } => {}
+            Started::Failed | Started::Memory => return Ok(false),
+        }
+    }
+    let mut bytes = Vec::new(alloc);
+    // the second one still holds all that it has when the first one's input ends
+    children.finish(1);
+    let is_first_failed = collect(&mut posts, &gate, &mut bytes)?;
+    let is_first = children.status(1) == Status::Ended(0);
+    children.finish(2);
+    let is_second_failed = collect(&mut posts, &gate, &mut bytes)?;
+    let is_second = children.status(2) == Status::Ended(0);
+    let are_well = !is_first_failed && is_first && !is_second_failed && is_second;
+    Ok(are_well && !bytes.is_empty() && bytes.as_slice() == alone.bytes.as_slice())
+}
+
+#[test]
+fn no_descriptor_of_another(rt: HostRuntime) -> Result<(), Fail> {
+    assert!(rt; keeps_apart(rt, rt.alloc())?);
     Ok(())
 }

@@ -13,18 +13,12 @@ ghost use Rattle.test_deliver.specs.Deliveries.{IsRunning};
 
 use super::cases::DIRS;
 use super::rows::{Case, Exit, bytes_of, is_joined, number_of};
-use call_fs::{Answer, CallFs, Child, DeliveryWordsData, Got, Need, PIECE, Port, Ready, perform};
+use call_fs::{Answer, CallFs, Child, DeliveryWordsData, Got, Need, PIECE, Port, UNREADY, perform};
 use crash_fs::CrashDisk;
 use local_deliver::{Local, LocalArgs};
 use mail_bytes::{ByteText, LAST_MOMENT, Memory};
 use mem_fs::MemFs;
 use std::alloc::Global;
-
-/// Nothing is ready.
-const UNREADY: Ready = Ready {
-    links: [false; 4],
-    child: None,
-};
 
 /// What a delivery did, and what it meets later.
 #[derive(Drop)]

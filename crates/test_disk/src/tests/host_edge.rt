@@ -1,5 +1,6 @@
-// Rows over real files of what only the system itself can show: what it tells of a file, its clock, symbolic links, reads
-// of a file that is open for something else, the rights of a new file, and what a link leaves open.
+// Rows over real files of what only the system itself can show: what it tells of a file, its clock, symbolic links, a FIFO,
+// reads of a file that is open for something else, a device that is full, the rights of a new file, and what a link leaves
+// open.
 use call_fs::{CallFs, Fd, FsError, How};
 use host_fs::{Facts, HostFs, System};
 use mail_bytes::NameBuf;
@@ -22,18 +23,24 @@ enum Look {
     Clock,
     /// The names of a directory with symbolic links.
     Links,
+    /// Opens of what is no regular file, or can't be looked at.
+    Specials,
     /// Reads of files that are open to be written.
     Reads,
+    /// A device that takes no bytes, and can't be synced.
+    Full,
     /// How many files are open.
     Opens,
 }
 
 /// All of that.
-const LOOKS: [Look; 5] = [
+const LOOKS: [Look; 7] = [
     Look::Facts,
     Look::Clock,
     Look::Links,
+    Look::Specials,
     Look::Reads,
+    Look::Full,
     Look::Opens,
 ];
 
@@ -46,7 +53,9 @@ fn holds(rt: &HostRuntime, root: &str, look: Look) -> bool {
         Look::Facts => are_told(rt, root),
         Look::Clock => is_now(rt),
         Look::Links => lists_files(rt, root, &mut disk),
+        Look::Specials => are_faults(rt, root, &mut disk),
         Look::Reads => are_read(rt.alloc(), &mut disk),
+        Look::Full => is_full(rt),
         Look::Opens => leaves_none_open(rt, &mut disk),
     }
 }
@@ -84,7 +93,7 @@ fn the_system_is_asked_for_the_right_thing(rt: HostRuntime) {
 
 /// Whether these facts are those of the file, field by field.
 fn is_same(facts: Facts, found: &Metadata) -> bool {
-    facts.is_dir == found.is_dir()
+    (facts.is_dir, facts.is_file) == (found.is_dir(), found.is_file())
         && (facts.number, facts.length) == (found.ino(), found.len())
         && (facts.modified, facts.modified_nanos) == (found.mtime(), found.mtime_nsec())
         && (facts.changed, facts.changed_nanos) == (found.ctime(), found.ctime_nsec())
@@ -143,13 +152,18 @@ fn is_now(rt: &HostRuntime) -> bool {
 /// A name that is asked for the next one, and that one, if there is one.
 type Next = (&'static [u8], Option<&'static [u8]>);
 
-/// Of a link to a directory, one to nothing, a file and a link to that, these count as names.
-const LISTED: [Next; 3] = [(b"", Some(b"3")), (b"3", Some(b"4")), (b"4", None)];
+/// Of a link to a directory, one to nothing, a file, a link to that, and a link to itself, these count as names.
+const LISTED: [Next; 4] = [
+    (b"", Some(b"3")),
+    (b"3", Some(b"4")),
+    (b"4", Some(b"5")),
+    (b"5", None),
+];
 
-/// Whether `todo` lists its files, and links to files, alone.
+/// Whether `todo` lists its files, links to files, and what can't be looked at, alone.
 fn lists_files(rt: &HostRuntime, root: &str, disk: &mut Host) -> bool {
     let mut is_so = true;
-    for (name, to) in [("1", "../pid"), ("2", "nothing"), ("4", "3")] {
+    for (name, to) in [("1", "../pid"), ("2", "nothing"), ("4", "3"), ("5", "5")] {
         let Ok(path) = format!(in rt.alloc(); "{root}/todo/{name}") else {
             return false;
         };
@@ -168,6 +182,57 @@ fn is_next(disk: &mut Host, after: &[u8], wanted: Option<&[u8]>) -> bool {
     match (disk.next_name(b"todo", after, &mut name), wanted) {
         (Ok(true), Some(wanted)) => name.as_slice() == wanted,
         (Ok(false), None) => true,
+        _ => false,
+    }
+}
+
+/// Makes a FIFO, a link to it, one to a device and one to itself.
+fn makes_specials(rt: &HostRuntime, root: &str) -> Option<bool> {
+    let fifo = format!(in rt.alloc(); "{root}/todo/1").ok()?;
+    let mut program = Command::new(rt.alloc(), "mkfifo").ok()?;
+    let mut is_so = program.arg(fifo.as_str()).ok()?.status(rt).ok()?.success();
+    for (name, to) in [("2", "1"), ("3", "/dev/zero"), ("4", "4")] {
+        let path = format!(in rt.alloc(); "{root}/todo/{name}").ok()?;
+        is_so = symlink(rt, to, path.as_str()).is_ok() && is_so;
+    }
+    Some(is_so)
+}
+
+/// Whether each open of this name is a fault, and is counted.
+fn is_fault(alloc: Global, disk: &mut Host, name: &[u8]) -> bool {
+    let mut is_so = true;
+    for how in [How::Read, How::Append, How::Write] {
+        let faults = disk.faults();
+        is_so = disk.open(alloc, name, how) == Err(FsError::Fault) && is_so;
+        is_so = disk.faults() == faults.saturating_add(1) && is_so;
+    }
+    is_so
+}
+
+/// Whether each of these is a fault, however it is opened, at once, and a file beside them is opened and found.
+fn are_faults(rt: &HostRuntime, root: &str, disk: &mut Host) -> bool {
+    let mut is_so = makes_specials(rt, root) == Some(true);
+    for name in [b"todo/1", b"todo/2", b"todo/3", b"todo/4"] {
+        is_so = is_fault(rt.alloc(), disk, name) && is_so;
+    }
+    is_so = disk.create_excl(rt.alloc(), 0, b"todo/5").is_ok() && is_so;
+    is_so = disk.open(rt.alloc(), b"todo/5", How::Read).is_ok() && is_so;
+    is_next(disk, b"4", Some(b"5")) && is_so
+}
+
+/// Whether a device without room refuses bytes at its end and at a place, and a device a sync.
+fn is_full(rt: &HostRuntime) -> bool {
+    let path = "/dev/full";
+    match (
+        System::open(rt, path, How::Append),
+        System::open(rt, path, How::Write),
+    ) {
+        (Ok(end), Ok(place)) => {
+            System::append(rt, &end, b"!").is_err()
+                && System::write_at(rt, &place, b"!", 0).is_err()
+                && System::sync(rt, &end).is_err()
+                && System::sync(rt, &place).is_err()
+        }
         _ => false,
     }
 }

@@ -108,13 +108,13 @@ const AT_REST: [&[Row<'static>]; 3] = [
 /// A little more than the time that a directory has to be at rest before its names are kept, in milliseconds.
 const PAUSE: u64 = 2100;
 
-/// A device that takes no bytes, and can't be synced.
+/// A device is no file.
 const FULL: &[Row<'static>] = &[
-    Row(Call::Open(b"/dev/full", How::Append), "opened 0"),
-    Row(Call::Append(Fd(0), b"!"), "Fault 1"),
-    Row(Call::Sync(Fd(0)), "Fault 2"),
-    Row(Call::Open(b"/dev/full", How::Write), "opened 1"),
-    Row(Call::Sync(Fd(1)), "Fault 3"),
+    Row(Call::Open(b"/dev/full", How::Append), "Fault 1"),
+    Row(Call::Append(Fd(0), b"!"), "Fault 2"),
+    Row(Call::Sync(Fd(0)), "Fault 3"),
+    Row(Call::Open(b"/dev/full", How::Write), "Fault 4"),
+    Row(Call::Sync(Fd(1)), "Fault 5"),
 ];
 
 /// The directories of a queue, and how many splits each has.
@@ -308,6 +308,15 @@ fn counts(rt: &HostRuntime, root: &str) -> Result<(u64, usize, usize), Fail> {
     ))
 }
 
+/// Takes some of a queue's directories away, to be made again.
+fn take_some(rt: &HostRuntime, root: &str) -> Result<(), Fail> {
+    for gone in ["intd", "mess/17", "remote/0", "users"] {
+        let gone = format!(in rt.alloc(); "{root}/{gone}")?;
+        fs::remove_dir(rt, gone.as_str())?;
+    }
+    Ok(())
+}
+
 #[test]
 fn all_directories_are_made(rt: HostRuntime) -> Result<(), Fail> {
     let root = scratch(&rt, "directories")?;
@@ -315,7 +324,10 @@ fn all_directories_are_made(rt: HostRuntime) -> Result<(), Fail> {
     for root in twice {
         let disk = HostFs::open(&rt, rt.alloc(), root.as_bytes())?;
         assert_eq!(rt; disk.faults(), 0);
+        take_some(&rt, root)?;
     }
+    let disk = HostFs::open(&rt, rt.alloc(), root.as_bytes())?;
+    assert_eq!(rt; disk.faults(), 0);
     let counts = counts(&rt, root.as_str());
     let removed = fs::remove_dir_all(&rt, root.as_str());
     assert_eq!(rt; counts?, (103, 11, 23));

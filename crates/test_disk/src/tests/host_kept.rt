@@ -9,6 +9,7 @@ use std::test::Fail;
 /// A directory that was changed for the last time 100 seconds and 8 nanoseconds after 1970 began.
 const FACTS: Facts = Facts {
     is_dir: true,
+    is_file: false,
     number: 2,
     length: 4096,
     modified: 100,
@@ -76,7 +77,7 @@ const KEPT: &[Row<'static>] = &[
     Row(
         Call::NextName(b"todo", b"0"),
         &[TOLD, FORBIDDEN],
-        "stat r/todo/; stat r/todo/10; Fault 1",
+        "stat r/todo/; stat r/todo/10; name 10",
     ),
     Row(
         Call::NextName(b"todo", b"0"),

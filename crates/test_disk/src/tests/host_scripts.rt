@@ -45,13 +45,13 @@ const OPENED: &[Row<'static>] = &[
     ),
     Row(
         Call::Open(b"b", How::Write),
-        &[Reply::Done, SEVEN],
-        "open r/b Write; fstat 1; opened 1",
+        &[SEVEN, Reply::Done, SEVEN],
+        "stat r/b; open r/b Write; fstat 1; opened 1",
     ),
     Row(
         Call::Open(b"/c", How::Read),
-        &[Reply::Done, SEVEN],
-        "open /c Read; fstat 2; opened 2",
+        &[SEVEN, Reply::Done, SEVEN],
+        "stat /c; open /c Read; fstat 2; opened 2",
     ),
 ];
 
@@ -100,38 +100,38 @@ const CREATED: &[Row<'static>] = &[
 const NAMED: &[Row<'static>] = &[
     Row(
         Call::Open(b"a", How::Append),
-        &[Reply::Done, SEVEN],
-        "open r/a Append; fstat 0; opened 0",
+        &[SEVEN, Reply::Done, SEVEN],
+        "stat r/a; open r/a Append; fstat 0; opened 0",
     ),
     Row(
         Call::Open(b"a", How::Read),
-        &[MISSING],
-        "open r/a Read; NotThere",
+        &[SEVEN, MISSING],
+        "stat r/a; open r/a Read; NotThere",
     ),
     Row(
         Call::Open(b"a", How::Read),
-        &[NO_DIRECTORY],
-        "open r/a Read; NotThere",
+        &[SEVEN, NO_DIRECTORY],
+        "stat r/a; open r/a Read; NotThere",
     ),
     Row(
         Call::Open(b"a", How::Read),
-        &[FORBIDDEN],
-        "open r/a Read; Fault 1",
+        &[SEVEN, FORBIDDEN],
+        "stat r/a; open r/a Read; Fault 1",
     ),
     Row(
         Call::Open(b"a", How::Read),
-        &[Reply::Done, Reply::Directory],
-        "open r/a Read; fstat 1; Fault 2",
+        &[SEVEN, Reply::Done, Reply::Directory],
+        "stat r/a; open r/a Read; fstat 1; Fault 2",
     ),
     Row(
         Call::Open(b"a", How::Read),
-        &[Reply::Done, FORBIDDEN],
-        "open r/a Read; fstat 2; Fault 3",
+        &[SEVEN, Reply::Done, FORBIDDEN],
+        "stat r/a; open r/a Read; fstat 2; Fault 3",
     ),
     Row(
         Call::Open(b"a", How::Read),
-        &[Reply::Done, SEVEN],
-        "open r/a Read; fstat 3; opened 1",
+        &[SEVEN, Reply::Done, SEVEN],
+        "stat r/a; open r/a Read; fstat 3; opened 1",
     ),
     Row(Call::Unlink(b"/a"), &[Reply::Done], "unlink /a; done"),
     Row(Call::Unlink(b"a"), &[MISSING], "unlink r/a; NotThere"),
@@ -157,6 +157,37 @@ const NAMED: &[Row<'static>] = &[
     Row(Call::Stat(b"a"), &[MISSING], "stat r/a; NotThere"),
     Row(Call::Stat(b"a"), &[NO_DIRECTORY], "stat r/a; NotThere"),
     Row(Call::Stat(b"a"), &[FORBIDDEN], "stat r/a; Fault 7"),
+    // what is no regular file isn't opened, since a FIFO would be waited for
+    Row(
+        Call::Open(b"a", How::Read),
+        &[Reply::Special],
+        "stat r/a; Fault 8",
+    ),
+    Row(
+        Call::Open(b"a", How::Append),
+        &[Reply::Directory],
+        "stat r/a; Fault 9",
+    ),
+    Row(
+        Call::Open(b"a", How::Write),
+        &[SEVEN, Reply::Done, Reply::Special],
+        "stat r/a; open r/a Write; fstat 4; Fault 10",
+    ),
+    Row(
+        Call::Open(b"a", How::Read),
+        &[MISSING],
+        "stat r/a; NotThere",
+    ),
+    Row(
+        Call::Open(b"a", How::Read),
+        &[NO_DIRECTORY],
+        "stat r/a; NotThere",
+    ),
+    Row(
+        Call::Open(b"a", How::Read),
+        &[FORBIDDEN],
+        "stat r/a; Fault 11",
+    ),
 ];
 
 /// Bytes are read and written.
@@ -262,8 +293,8 @@ const MOVED: &[Row<'static>] = &[
     Row(Call::ReadAt(Fd(1), 0, 1), &[], "Fault 16"),
     Row(
         Call::Open(b"d", How::Read),
-        &[Reply::Done, SEVEN],
-        "open r/d Read; fstat 3; opened 1",
+        &[SEVEN, Reply::Done, SEVEN],
+        "stat r/d; open r/d Read; fstat 3; opened 1",
     ),
     Row(Call::Sync(Fd(1)), &[Reply::Done], "sync 3; done"),
 ];
@@ -438,8 +469,9 @@ const LISTED: &[Row<'static>] = &[
             Reply::Done,
             Reply::Bytes(b"b\0"),
             FORBIDDEN,
+            Reply::Bytes(b""),
         ],
-        "stat r/todo/; clock; list r/todo/; names; stat r/todo/b; Fault 1",
+        "stat r/todo/; clock; list r/todo/; names; stat r/todo/b; names; name b",
     ),
     Row(
         Call::NextName(b"todo", b"a"),
@@ -451,7 +483,7 @@ const LISTED: &[Row<'static>] = &[
             SEVEN,
             FORBIDDEN,
         ],
-        "stat r/todo/; clock; list r/todo/; names; stat r/todo/b; names; Fault 2",
+        "stat r/todo/; clock; list r/todo/; names; stat r/todo/b; names; Fault 1",
     ),
     Row(
         Call::NextName(b"todo", b""),
@@ -466,9 +498,9 @@ const LISTED: &[Row<'static>] = &[
     Row(
         Call::NextName(b"todo", b""),
         &[FORBIDDEN, FORBIDDEN],
-        "stat r/todo/; list r/todo/; Fault 3",
+        "stat r/todo/; list r/todo/; Fault 2",
     ),
-    Row(Call::NextName(b"todo\xff", b""), &[], "Fault 4"),
+    Row(Call::NextName(b"todo\xff", b""), &[], "Fault 3"),
 ];
 
 /// Plays rows over a disk of the scripted system, and tells what went otherwise.
@@ -496,6 +528,7 @@ pub fn play_both(
     second: &[Row<'static>],
 ) -> Result<String, Memory> {
     let mut disk = HostFs::open(&system, alloc, b"r")?;
+    let _ = system.seen("");
     let mut wrong = play(alloc, system, &mut disk, first);
     wrong.push_str(play(alloc, system, &mut disk, second).as_str())?;
     Ok(wrong)

@@ -24,6 +24,8 @@ pub enum Reply<'a> {
     File(u64, u64, i64),
     /// A directory that was changed one second after 1970 began.
     Directory,
+    /// A FIFO, a device or the like, changed then.
+    Special,
     /// It is told so.
     Told(Facts),
     /// The clock tells so many nanoseconds since 1970.
@@ -32,8 +34,7 @@ pub enum Reply<'a> {
     Fails(ErrorKind),
 }
 
-/// A system that answers each call by the next reply, and fails once there is none. Directories can't be made, which asks
-/// for no reply and isn't written down.
+/// A system that answers each call by the next reply, and fails once there is none.
 #[derive(Drop)]
 pub struct Scripted(Rc<Script>);
 
@@ -125,6 +126,7 @@ impl Script {
             Reply::Told(facts) => Ok(facts),
             Reply::File(number, length, modified) => Ok(Facts {
                 is_dir: false,
+                is_file: true,
                 number,
                 length,
                 modified,
@@ -132,8 +134,9 @@ impl Script {
                 changed: modified,
                 changed_nanos: 0,
             }),
-            _ => Ok(Facts {
-                is_dir: true,
+            reply => Ok(Facts {
+                is_dir: !matches!(reply, Reply::Special),
+                is_file: false,
                 number: 2,
                 length: 4096,
                 modified: 1,
@@ -262,8 +265,8 @@ impl<'s> System for &'s Scripted {
         self.0.ask_done(format!(in self.0.alloc; "unlink {path}"))
     }
 
-    fn make_dir(&self, _path: &str) -> io::Result<()> {
-        Err(io::Error::from(ErrorKind::PermissionDenied))
+    fn make_dir(&self, path: &str) -> io::Result<()> {
+        self.0.ask_done(format!(in self.0.alloc; "make_dir {path}"))
     }
 
     fn now(&self) -> io::Result<Duration> {

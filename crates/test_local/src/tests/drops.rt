@@ -2,19 +2,13 @@
 ghost use Rattle.std.specs.Prelude.{◌≡◌, ◌≤◌, All, IfOk, OnOk, length};
 ghost use Rattle.test_local.specs.Drops.{IsRunning};
 
-use call_fs::{CallFs, CrashFs, Got, Need, PIECE, Ready, Survival, perform};
+use call_fs::{CallFs, CrashFs, Got, Need, PIECE, Survival, UNREADY, perform};
 use crash_fs::CrashDisk;
 use mail_bytes::Memory;
 use maildir_drop::{End, MaildirDrop};
 use mem_fs::MemFs;
 use std::alloc::Global;
 use std::test::Fail;
-
-/// Nothing is ready.
-const UNREADY: Ready = Ready {
-    links: [false; 4],
-    child: None,
-};
 
 /// Makes the next step of a drop; whether there was one.
 fn makes_step<D: CallFs>(alloc: Global, machine: &mut MaildirDrop, disk: &mut D) -> bool

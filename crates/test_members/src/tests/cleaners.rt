@@ -4,7 +4,7 @@ use super::one_word::OneWord;
 use super::sent::{Sent, posts_of, same};
 use call_fs::CallFs;
 use mem_fs::MemFs;
-use outside::{Clock, MemClock, MemPosts, MemSink, MemSpawner, Posts, Sink, Spawner};
+use outside::{Clock, MemClock, MemPosts, MemSink, MemSpawner, OpenGate, Posts, Sink, Spawner};
 use program_runner::{Lines, run_member};
 use queue_clean::{Cleaner, asks_for_little};
 use std::alloc::Global;
@@ -135,6 +135,7 @@ fn run<D: CallFs, K: Clock, P: Posts, S: Spawner, O: Sink>(
         posts,
         spawner,
         output,
+        &OpenGate,
     ) {
         Ok(status) => status,
         Err(_) => None,

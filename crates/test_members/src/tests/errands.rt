@@ -6,7 +6,9 @@ use crate::{Errand, Kind};
 use call_fs::CallFs;
 use mail_bytes::Memory;
 use mem_fs::MemFs;
-use outside::{Clock, MemChild, MemClock, MemPosts, MemSpawner, Posts, Sink, Spawner, Status};
+use outside::{
+    Clock, MemChild, MemClock, MemPosts, MemSpawner, OpenGate, Posts, Sink, Spawner, Status,
+};
 use program_runner::{Lines, Nothing, run_member};
 use std::alloc::Global;
 use std::test::Fail;
@@ -177,6 +179,7 @@ fn run<D: CallFs, K: Clock, P: Posts, S: Spawner, O: Sink>(
         posts,
         spawner,
         output,
+        &OpenGate,
     ) {
         Ok(status) => status,
         Err(_) => None,

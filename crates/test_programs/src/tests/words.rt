@@ -1,6 +1,8 @@
 // Words of the command line, and what they are.
 
-use command_words::{Command, QueueWords, WordsError, places, read_words};
+use command_words::{
+    Channels, Command, LocalWords, QueueWords, WordsError, channels, places, read_words,
+};
 use mail_bytes::ByteText;
 use std::alloc::{AllocError, Global};
 use std::test::Fail;
@@ -27,7 +29,7 @@ const QUEUE: [Row; 8] = [
 ];
 
 /// Words that are no command.
-const NO_COMMANDS: [&str; 36] = [
+const NO_COMMANDS: [&str; 55] = [
     "",
     "nosuch",
     "--help",
@@ -64,6 +66,56 @@ const NO_COMMANDS: [&str; 36] = [
     "audit DIR --uid 1",
     "clean",
     "clean DIR more",
+    "lspawn",
+    "lspawn DIR more",
+    "lspawn DIR --help",
+    "rspawn DIR",
+    "rspawn DIR p more",
+    "rspawn DIR p --uid 1",
+    "rspawn --version DIR p",
+    "local DIR",
+    "local DIR =j =h =j = = =x =a",
+    "local DIR =j =h =j = = =x =a =l more",
+    "local DIR =j h =j = = =x =a =l",
+    "local DIR j =h =j = = =x =a =l",
+    "local DIR =j =h =j = = =x =a l",
+    "local DIR =j =h =j = = =x =% =l",
+    "local DIR =j =h =j = = =x =a%4 =l",
+    "local DIR =j =h =j = = =x%g0 =a =l",
+    "local DIR =j =h =j = = =x =a =l --uid 01",
+    "local DIR =j =h =j = = =x =a =l --uid 4294967296",
+    "local DIR =j =h =j = = =x =a =l --bounce",
+];
+
+/// A line of words of `local`, then what they stand for, in their order, and the user.
+type DeliveryRow = (&'static str, [&'static [u8]; 8], u32);
+
+/// Words of `local`.
+const LOCAL: [DeliveryRow; 3] = [
+    (
+        "local DIR =j =home/j =j = = =localhost =a@x =./Maildir/",
+        [
+            b"j",
+            b"home/j",
+            b"j",
+            b"",
+            b"",
+            b"localhost",
+            b"a@x",
+            b"./Maildir/",
+        ],
+        0,
+    ),
+    (
+        "local --uid 1000 DIR =j =/home/j =J-%3d =- =%3D =x =%20%0A =l",
+        [b"j", b"/home/j", b"J-=", b"-", b"=", b"x", b" \n", b"l"],
+        1000,
+    ),
+    (
+        "local DIR == =%00%ff =%25 =- =a-b =x = =|true --uid=4294967295",
+        [b"=", b"\x00\xff", b"%", b"-", b"a-b", b"x", b"", b"|true"],
+        4_294_967_295,
+    ),
 ];
 
 /// What words are.
@@ -73,6 +125,9 @@ enum Kind {
     Queue,
     Audit,
     Clean,
+    Lspawn,
+    Rspawn,
+    Local,
     Usage,
     Memory,
 }
@@ -118,6 +173,45 @@ fn are_places(alloc: Global, words: &[String], env: &str, dir: &str) -> bool {
     }
 }
 
+/// Whether `local` is told this.
+fn is_delivery(told: &LocalWords, row: &DeliveryRow) -> bool {
+    let words = &told.words;
+    told.dir.is(b"DIR")
+        && words.user.is(row.1[0])
+        && words.home.is(row.1[1])
+        && words.local.is(row.1[2])
+        && words.dash.is(row.1[3])
+        && words.ext.is(row.1[4])
+        && words.domain.is(row.1[5])
+        && words.sender.is(row.1[6])
+        && words.line.is(row.1[7])
+        && told.uid == row.2
+}
+
+/// Whether the words are `local`, told this.
+fn are_local(alloc: Global, words: &[String], row: &DeliveryRow) -> bool {
+    match read_words(alloc, words) {
+        Ok(Command::Local(told)) => is_delivery(&told, row),
+        _ => false,
+    }
+}
+
+/// Whether the words are `rspawn` with this program.
+fn are_rspawn(alloc: Global, words: &[String], program: &str) -> bool {
+    match read_words(alloc, words) {
+        Ok(Command::Rspawn(told)) => told.program.is(program.as_bytes()),
+        _ => false,
+    }
+}
+
+/// Whether a command with these words has these channels.
+fn have_channels(alloc: Global, words: &[String], wanted: Channels) -> bool {
+    match channels(alloc, words) {
+        Ok(found) => found == wanted,
+        Err(_) => false,
+    }
+}
+
 /// What the words are.
 fn kind_of(alloc: Global, words: &[String]) -> Kind {
     match read_words(alloc, words) {
@@ -125,6 +219,9 @@ fn kind_of(alloc: Global, words: &[String]) -> Kind {
         Ok(Command::Queue(_)) => Kind::Queue,
         Ok(Command::Audit(_)) => Kind::Audit,
         Ok(Command::Clean(_)) => Kind::Clean,
+        Ok(Command::Lspawn(_)) => Kind::Lspawn,
+        Ok(Command::Rspawn(_)) => Kind::Rspawn,
+        Ok(Command::Local(_)) => Kind::Local,
         Err(WordsError::Usage) => Kind::Usage,
         Err(WordsError::Memory) => Kind::Memory,
     }
@@ -168,11 +265,56 @@ fn words_with_a_directory(rt: HostRuntime) -> Result<(), Fail> {
         ("audit -- -DIR", Kind::Audit, "-DIR"),
         ("clean DIR", Kind::Clean, "DIR"),
         ("clean -- -DIR", Kind::Clean, "-DIR"),
+        ("lspawn DIR", Kind::Lspawn, "DIR"),
+        ("lspawn -- -DIR", Kind::Lspawn, "-DIR"),
+        ("rspawn DIR p", Kind::Rspawn, "DIR"),
+        ("rspawn -- -DIR -p", Kind::Rspawn, "-DIR"),
+        ("local DIR =j =h =j = = =x =a =l", Kind::Local, "DIR"),
     ] {
         let words = words_of(rt.alloc(), line)?;
         let is_known = kind_of(rt.alloc(), &words) == kind
             && are_places(rt.alloc(), &words, "-", dir);
         assert!(rt; is_known, "{line}");
+    }
+    Ok(())
+}
+
+#[test]
+fn words_of_local(rt: HostRuntime) -> Result<(), Fail> {
+    for row in &LOCAL {
+        let words = words_of(rt.alloc(), row.0)?;
+        let are_told = are_local(rt.alloc(), &words, row)
+            && are_places(rt.alloc(), &words, "-", "DIR");
+        assert!(rt; are_told, "{}", row.0);
+    }
+    Ok(())
+}
+
+#[test]
+fn words_of_rspawn(rt: HostRuntime) -> Result<(), Fail> {
+    let alloc = rt.alloc();
+    let words = words_of(alloc, "rspawn DIR /usr/bin/deliver")?;
+    assert!(rt; are_rspawn(alloc, &words, "/usr/bin/deliver"));
+    let mut words = words_of(alloc, "rspawn DIR")?;
+    words.push(String::new(alloc))?;
+    assert!(rt; kind_of(alloc, &words) == Kind::Usage);
+    Ok(())
+}
+
+#[test]
+fn channels_of_words(rt: HostRuntime) -> Result<(), Fail> {
+    for (line, wanted) in [
+        ("play", Channels::Nothing),
+        ("queue - DIR", Channels::Nothing),
+        ("audit DIR", Channels::Nothing),
+        ("clean DIR", Channels::Nothing),
+        ("lspawn DIR", Channels::InputAndChildren),
+        ("rspawn DIR p", Channels::InputAndChildren),
+        ("local DIR =j =h =j = = =x =a =l", Channels::Children),
+        ("lspawn", Channels::Nothing),
+    ] {
+        let words = words_of(rt.alloc(), line)?;
+        assert!(rt; have_channels(rt.alloc(), &words, wanted), "{line}");
     }
     Ok(())
 }

@@ -3,7 +3,8 @@
 use Channel::{Local, Remote};
 use envelope_records::records;
 use mail_bytes::ByteText;
-use send_jobs::{Attempt, Channel, Failure, Job, MAX_SLOTS, Mark, OutOfRange, Slots, retry_at};
+use queue_limits::MAX_SLOTS;
+use send_jobs::{Attempt, Channel, Failure, Job, Mark, OutOfRange, Slots, retry_at};
 use std::alloc::Global;
 
 /// An attempt that went out: its message, its place, whether its pass is dying, its delivery and its address.

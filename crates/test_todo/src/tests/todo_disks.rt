@@ -4,18 +4,12 @@ ghost use Rattle.std.specs.Bool.{OnTrue};
 ghost use Rattle.test_todo.specs.Passes.{IsRunning};
 
 use address_rules::{ControlError, Controls};
-use call_fs::{Answer, CallFs, CrashFs, Got, Need, PIECE, Ready, Survival, perform};
+use call_fs::{Answer, CallFs, CrashFs, Got, Need, PIECE, Survival, UNREADY, perform};
 use crash_fs::CrashDisk;
 use mail_bytes::{ByteText, Memory};
 use mem_fs::MemFs;
 use std::alloc::Global;
 use todo_pass::{End, Part, TodoPass, Why};
-
-/// Nothing is ready.
-pub const UNREADY: Ready = Ready {
-    links: [false; 4],
-    child: None,
-};
 
 /// How many bytes of a piece were read.
 fn count_of(answer: &Answer) -> usize

@@ -1,9 +1,9 @@
 // Preprocessing, call by call.
 ghost use Rattle.call_fs.specs.Columns.{IsMomentIn};
 
-use super::todo_disks::{UNREADY, controls};
+use super::todo_disks::controls;
 use address_rules::Controls;
-use call_fs::{Answer, Call, Fd, FsError, Got, How, Need, Port, Stat};
+use call_fs::{Answer, Call, Fd, FsError, Got, How, Need, Port, Stat, UNREADY};
 use std::alloc::Global;
 use todo_pass::{End, Part, TodoPass, Why};
 

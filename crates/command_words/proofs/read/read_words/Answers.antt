@@ -3,7 +3,7 @@ use Rattle.std.specs.String.{string_bytes}
 use Rattle.std.specs.Option.{option_copied}
 use Rattle.std.proofs.lemmas.Result.{IfOk-weaker}
 use Rattle.std.specs.Option.{option_map}
-use Rattle.command_words.specs.declared.command.Command.TheVariants.{Audit, Clean}
+use Rattle.command_words.specs.declared.command.Command.TheVariants.{Audit, Clean, Lspawn, Rspawn, Local}
 use Rattle.command_words.specs.Reads.{dir_words}
 use Rattle.command_words.proofs.Commands.{named, named_word, names_none}
 use Rattle.command_words.proofs.read.read_words.Goals as goal
@@ -33,7 +33,7 @@ returns-in-queue-clause-usage c =
 
 pub returns-in_default-as_str-clause-usage : goal.returns-in_default-as_str-clause-usage
 returns-in_default-as_str-clause-usage c =
-    λ usage. names_none _ c.in-Some.name.now _ (sym c.first.ensures.value ∙ ap option_copied c.in-Some.is) c.as_str.ensures.value c.in_default-as_str.not-play c.in_default-as_str.not-queue c.in_default-as_str.not-audit c.in_default-as_str.not-clean
+    λ usage. names_none _ c.in-Some.name.now _ (sym c.first.ensures.value ∙ ap option_copied c.in-Some.is) c.as_str.ensures.value c.in_default-as_str.not-play c.in_default-as_str.not-queue c.in_default-as_str.not-audit c.in_default-as_str.not-clean c.in_default-as_str.not-lspawn c.in_default-as_str.not-rspawn c.in_default-as_str.not-local
 
 pub returns-in-Ok-clause-ok : goal.returns-in-Ok-clause-ok
 returns-in-Ok-clause-ok c =
@@ -54,3 +54,33 @@ pub returns-in-Err-read_dir-clause-usage : goal.returns-in-Err-read_dir-clause-u
 returns-in-Err-read_dir-clause-usage c =
     let clean = named_word _ c.in-Some.name.now _ (codes "clean") (sym c.first.ensures.value ∙ ap option_copied c.in-Some.is) c.as_str.ensures.value c.in-clean.is in
     λ is. clean ∙ ap (option_map Clean) (ap (λ l. dir_words l (map string_bytes c.args.words.now)) (sym c.in_ok-clean_line-in-clean.ensures) ∙ c.in-Err-read_dir.ensures.usage (cc))
+
+pub returns-in-Ok-read_dir-2-clause-ok : goal.returns-in-Ok-read_dir-2-clause-ok
+returns-in-Ok-read_dir-2-clause-ok c =
+    let lspawn = named_word _ c.in-Some.name.now _ (codes "lspawn") (sym c.first.ensures.value ∙ ap option_copied c.in-Some.is) c.as_str.ensures.value c.in-lspawn.is in
+    lspawn ∙ ap (option_map Lspawn) (ap (λ l. dir_words l (map string_bytes c.args.words.now)) (sym c.in_ok-lspawn_line-in-lspawn.ensures) ∙ c.in-Ok-read_dir-2.ensures.ok)
+
+pub returns-in-Err-read_dir-2-clause-usage : goal.returns-in-Err-read_dir-2-clause-usage
+returns-in-Err-read_dir-2-clause-usage c =
+    let lspawn = named_word _ c.in-Some.name.now _ (codes "lspawn") (sym c.first.ensures.value ∙ ap option_copied c.in-Some.is) c.as_str.ensures.value c.in-lspawn.is in
+    λ is. lspawn ∙ ap (option_map Lspawn) (ap (λ l. dir_words l (map string_bytes c.args.words.now)) (sym c.in_ok-lspawn_line-in-lspawn.ensures) ∙ c.in-Err-read_dir-2.ensures.usage (cc))
+
+pub returns-in-Ok-read_rspawn-clause-ok : goal.returns-in-Ok-read_rspawn-clause-ok
+returns-in-Ok-read_rspawn-clause-ok c =
+    let rspawn = named_word _ c.in-Some.name.now _ (codes "rspawn") (sym c.first.ensures.value ∙ ap option_copied c.in-Some.is) c.as_str.ensures.value c.in-rspawn.is in
+    rspawn ∙ ap (option_map Rspawn) c.in-Ok-read_rspawn.ensures.ok
+
+pub returns-in-Err-read_rspawn-clause-usage : goal.returns-in-Err-read_rspawn-clause-usage
+returns-in-Err-read_rspawn-clause-usage c =
+    let rspawn = named_word _ c.in-Some.name.now _ (codes "rspawn") (sym c.first.ensures.value ∙ ap option_copied c.in-Some.is) c.as_str.ensures.value c.in-rspawn.is in
+    λ is. rspawn ∙ ap (option_map Rspawn) (c.in-Err-read_rspawn.ensures.usage (cc))
+
+pub returns-in-Ok-read_local-clause-ok : goal.returns-in-Ok-read_local-clause-ok
+returns-in-Ok-read_local-clause-ok c =
+    let local = named_word _ c.in-Some.name.now _ (codes "local") (sym c.first.ensures.value ∙ ap option_copied c.in-Some.is) c.as_str.ensures.value c.in-local.is in
+    local ∙ ap (option_map Local) c.in-Ok-read_local.ensures.ok
+
+pub returns-in-Err-read_local-clause-usage : goal.returns-in-Err-read_local-clause-usage
+returns-in-Err-read_local-clause-usage c =
+    let local = named_word _ c.in-Some.name.now _ (codes "local") (sym c.first.ensures.value ∙ ap option_copied c.in-Some.is) c.as_str.ensures.value c.in-local.is in
+    λ is. local ∙ ap (option_map Local) (c.in-Err-read_local.ensures.usage (cc))

@@ -2,7 +2,7 @@ use Rattle.std.proofs.Common.{Some, sym, ap, ◌∙◌}
 use Rattle.call_fs.specs.Program.{came_of}
 use Rattle.local_deliver.specs.declared.place.Place.{Place}
 use Rattle.local_deliver.specs.Drops.{end_drop}
-use Rattle.local_deliver.specs.DropAfter.{after_of, went}
+use Rattle.local_deliver.specs.inside.DropAfter.{after_of, went}
 use Rattle.local_deliver.proofs.DropSteps.{goes_is}
 use Rattle.local_deliver.proofs.steps.drop_goes.Goals as goal
 

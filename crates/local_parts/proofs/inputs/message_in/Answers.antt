@@ -1,5 +1,5 @@
 use Rattle.std.proofs.Common.{sym, ap, ◌∙◌}
-use Rattle.local_parts.specs.Heads.{head_of}
+use Rattle.local_parts.specs.inside.Heads.{head_of}
 use Rattle.local_parts.proofs.Heads.{has_head, no_head}
 use Rattle.local_parts.proofs.inputs.message_in.Goals as goal
 

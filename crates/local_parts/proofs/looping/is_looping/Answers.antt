@@ -1,5 +1,5 @@
 use Rattle.std.proofs.Common.{ap, ◌∙◌}
-use Rattle.local_parts.specs.Scanning.{is_found, scanned}
+use Rattle.local_parts.specs.inside.Scanning.{is_found, scanned}
 use Rattle.local_parts.proofs.Searching.{searched_parts}
 use Rattle.local_parts.proofs.looping.is_looping.Goals as goal
 

@@ -1,5 +1,5 @@
 use Rattle.std.proofs.Common.{List, ℕ, ap, ◌∙◌, Vec, Global}
-use Rattle.local_parts.specs.Scanning.{scanned}
+use Rattle.local_parts.specs.inside.Scanning.{scanned}
 use Rattle.local_parts.proofs.Searching.{blocks_more}
 use Rattle.local_parts.proofs.looping.scan_blocks.Goals as goal
 

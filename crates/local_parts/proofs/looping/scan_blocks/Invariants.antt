@@ -1,6 +1,6 @@
 use Rattle.std.proofs.Common.{◌≡◌, take}
 use Rattle.mail_bytes.specs.Blocks.{joined}
-use Rattle.local_parts.specs.Scanning.{scanned}
+use Rattle.local_parts.specs.inside.Scanning.{scanned}
 use Rattle.local_parts.specs.declared.looping.Scan.TheVariants.{Like}
 use Rattle.local_parts.proofs.looping.scan_blocks.Given as goal
 

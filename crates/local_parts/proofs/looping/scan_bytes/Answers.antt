@@ -1,5 +1,5 @@
 use Rattle.std.proofs.Common.{get_or, sym, ap, ◌∙◌}
-use Rattle.local_parts.specs.Scanning.{scan_step}
+use Rattle.local_parts.specs.inside.Scanning.{scan_step}
 use Rattle.local_parts.proofs.Searching.{scanned_more}
 use Rattle.local_parts.proofs.looping.scan_bytes.Goals as goal
 

@@ -1,5 +1,5 @@
 use Rattle.std.proofs.Common.{◌≡◌, take}
-use Rattle.local_parts.specs.Scanning.{scanned}
+use Rattle.local_parts.specs.inside.Scanning.{scanned}
 use Rattle.local_parts.proofs.looping.scan_bytes.Given as goal
 
 abbrev pub invariant-loop-byte : goal.invariant-loop-byte

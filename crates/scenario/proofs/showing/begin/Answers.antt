@@ -1,7 +1,7 @@
 use Rattle.std.proofs.Common.{◌≡◌, List, ℕ, Some, None, ap, rules}
 use Rattle.world_events.specs.Programs.{injection_of}
 use Rattle.scenario.specs.declared.showing.Given.{Given}
-use Rattle.scenario.specs.Fates.{Receiver}
+use Rattle.scenario.specs.inside.Fates.{Receiver}
 use Rattle.scenario.proofs.Receivers.{begins_none, begins_one}
 use Rattle.scenario.proofs.showing.begin.Goals as goal
 

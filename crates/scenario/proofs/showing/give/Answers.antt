@@ -1,7 +1,7 @@
 use Rattle.std.proofs.Common.{◌≡◌, ◌∙◌, ◌+◌, ◌-◌, ◌<◌, ℕ, List, length, get_or, Bool, true, false, bytes_eq, refl, sym, ap, subst, arith}
 use Rattle.std.specs.Prelude.{◌&&◌}
 use Rattle.scenario.specs.declared.showing.Given.{Given}
-use Rattle.scenario.specs.Fates.{Receiver, given_to, is_given, receiver}
+use Rattle.scenario.specs.inside.Fates.{Receiver, given_to, is_given, receiver}
 use Rattle.scenario.proofs.Receivers.{IsPast, gives_here, past_all, past_more, past_none, same_at, turned}
 use Rattle.scenario.proofs.showing.give.Goals as goal
 use Rattle.scenario.proofs.showing.give.Goals.{else-given-place-via-then-given-place+else-eq, else-given-place-via-else-given-place}

@@ -3,7 +3,7 @@ use Rattle.std.proofs.lemmas.List.{take_all}
 use Rattle.world_events.specs.Programs.{injection_of}
 use Rattle.world_events.specs.declared.event.Event.{Event as Kept}
 use Rattle.scenario.specs.declared.showing.Given.{Given}
-use Rattle.scenario.specs.Fates.{Receiver, given_to, received_by, receivers_in}
+use Rattle.scenario.specs.inside.Fates.{Receiver, given_to, received_by, receivers_in}
 use Rattle.scenario.proofs.Receivers.{next_received, other_received, turned, written_over}
 use Rattle.scenario.proofs.showing.given_by.Goals as goal
 use Rattle.scenario.proofs.showing.given_by.Goals.{in-Start+in_ok-begin-in-Start, in-Child+in_ok-begin-in-Child, in-Feed, in_default}

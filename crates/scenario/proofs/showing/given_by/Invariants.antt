@@ -1,5 +1,5 @@
 use Rattle.std.proofs.Common.{◌≡◌, reverse, take}
-use Rattle.scenario.specs.Fates.{receivers_in}
+use Rattle.scenario.specs.inside.Fates.{receivers_in}
 use Rattle.scenario.proofs.Receivers.{turned}
 use Rattle.scenario.proofs.showing.given_by.Given as goal
 

@@ -10,9 +10,11 @@ use Rattle.world_events.specs.declared.books.Entry.{Entry}
 use Rattle.world_events.specs.declared.event.Event.{Event as Kept}
 use Rattle.scenario.specs.declared.showing.Given.{Given}
 use Rattle.scenario.specs.Deeds.{after, history_of}
-use Rattle.scenario.specs.Fates.{IsUsed, receiver, receivers_in}
+use Rattle.scenario.specs.Fates.{IsUsed}
+use Rattle.scenario.specs.inside.Fates.{receiver, receivers_in}
 use Rattle.scenario.specs.Shown.{View}
-use Rattle.scenario.specs.Viewed.{given_lines, view_at}
+use Rattle.scenario.specs.Viewed.{view_at}
+use Rattle.scenario.specs.inside.Viewed.{given_lines}
 use Rattle.scenario.proofs.EachMail.{if_put}
 use Rattle.scenario.proofs.Showings.{all_used, mails_shown}
 use Rattle.scenario.proofs.showing.put_all.Goals as goal

@@ -6,7 +6,8 @@ use Rattle.world_events.specs.declared.books.Entry.{Entry}
 use Rattle.scenario.specs.declared.showing.Given.{Given}
 use Rattle.scenario.specs.Fates.{IsUsed}
 use Rattle.scenario.specs.Shown.{View}
-use Rattle.scenario.specs.Viewed.{given_lines, view_at}
+use Rattle.scenario.specs.Viewed.{view_at}
+use Rattle.scenario.specs.inside.Viewed.{given_lines}
 use Rattle.scenario.proofs.EachMail.{all_so_far, one_more, one_put, so_far}
 use Rattle.scenario.proofs.showing.put_each.Goals as goal
 

@@ -2,7 +2,7 @@ use Rattle.std.proofs.Common.{drop, sym, ap, ◌∙◌, rules, tests}
 use Rattle.std.specs.List.{list_all}
 use Rattle.std.proofs.lemmas.Iterator.{YieldsList-from_slice}
 use Rattle.std.proofs.lemmas.Iterator.Search.{all_from_yields_List}
-use Rattle.scenario.specs.Playing.{is_search_kept}
+use Rattle.scenario.specs.inside.Playing.{is_search_kept}
 use Rattle.scenario.proofs.Tracings.{to_the_end, past_the_end}
 use Rattle.scenario.proofs.turning.only_searches.Goals as goal
 

@@ -1,6 +1,6 @@
 use Rattle.std.proofs.Common.{◌≡◌, ℕ, ◌++◌, Bool, ◌&&◌, refl, sym, ap, ◌∙◌, subst, drop, length, arith}
 use Rattle.std.specs.List.{list_all}
-use Rattle.scenario.specs.Playing.{HasRounded, is_search_kept}
+use Rattle.scenario.specs.inside.Playing.{HasRounded, is_search_kept}
 use Rattle.scenario.specs.Steps.{plan_through}
 use Rattle.scenario.specs.Turns.{events_of}
 use Rattle.scenario.proofs.RoundSteps.{round_stops, round_ends}

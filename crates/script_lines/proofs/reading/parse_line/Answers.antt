@@ -3,7 +3,7 @@ use Rattle.std.proofs.lemmas.Result.{IfErr-weaker}
 use Rattle.script_words.specs.declared.error.WordError.TheVariants.{Malformed}
 use Rattle.script_lines.specs.declared.line.Line.{Line}
 use Rattle.script_lines.specs.Lines.{IsLine}
-use Rattle.script_lines.specs.Reading.{CanFollow}
+use Rattle.script_lines.specs.inside.Reading.{CanFollow}
 use Rattle.script_lines.proofs.LineHeads.{has_keyword, follows}
 use Rattle.script_lines.proofs.reading.parse_line.Goals as goal
 

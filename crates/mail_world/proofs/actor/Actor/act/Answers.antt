@@ -7,6 +7,7 @@ use Rattle.world_events.specs.declared.event.Event.{Event as Kept}
 use Rattle.world_events.specs.declared.event.Event.TheVariants as kept
 use Rattle.mail_world.specs.ByKind.{present_of, found_of, looked_of, need_of, takes_of, with_own}
 use Rattle.mail_world.specs.Inside.{StandsFor}
+use Rattle.mail_world.specs.declared.actor.Actor.{Actor as Held}
 use Rattle.std.specs.Prelude.{IfOk, OnErr, IsNone}
 use Rattle.mail_bytes.specs.Told.{Meets}
 use Rattle.mail_world.specs.declared.world.Did.{Did}
@@ -33,6 +34,9 @@ if_err (Err e) still = still
 pub ask-requires-clause-may : goal.ask-requires-clause-may
 ask-requires-clause-may g c = c.requires.may.asks
 
+pub take_in-idle-requires-clause-looked : goal.take_in-idle-requires-clause-looked
+take_in-idle-requires-clause-looked g c = c.requires.read.looked
+
 pub take_in-idle-requires-clause-kind : goal.take_in-idle-requires-clause-kind
 take_in-idle-requires-clause-kind g c =
     let asked = c.in_ok-own.ensures in
@@ -43,21 +47,20 @@ pub take_in-idle-requires-clause-within : goal.take_in-idle-requires-clause-with
 take_in-idle-requires-clause-within g c =
     let asked = c.in_ok-own.ensures in
     let own = c.in-Did.own in
-    call_within (takes_of c.ask.new.self.machine) own.due own.came (subst IsStated c.in-Did.is asked.stated)
+    call_within (takes_of c.args.self.now.machine) own.due own.came (subst IsStated c.in-Did.is asked.stated)
 
 pub returns-in-Did-clause-acted : goal.returns-in-Did-clause-acted
 returns-in-Did-clause-acted g c =
     let asked = c.in_ok-own.ensures in
     let own = c.in-Did.own in
     let at = c.args.at in
-    let machine = c.ask.new.self.machine in
+    let machine = c.args.self.now.machine in
     let read = subst (λ (came : Came). IsReadAt came at.now at.ready) c.in-Did.is asked.read in
     let need = asked.need ∙ ap due_by c.in-Did.is in
-    let present = asked.present in
-    let found = asked.found in
+    let looked = c.requires.read in
     let copied = c.copy.ensures in
-    let taken = c.take_in-idle.ensures.name in
-    let name = asked.name in
+    let taken = c.take_in-idle.ensures in
+    let name = taken.name in
     let put : Kept = kept.Act c.copy.result own in
     let event : put ≡ kept.Act c.args.self.now.name own = cc in
     rw c.new.ensures (record {
@@ -67,25 +70,25 @@ returns-in-Did-clause-acted g c =
       found = read.1;
       due = λ program past f. asked.due program past f ∙ ap due_by c.in-Did.is;
       follows = λ program past f.
-          let past_is : with_own machine own.came past ≡ own ∷ past = own_is machine own past (present ∙ sym read.0) (found ∙ sym read.1) need in
-          subst (StandsFor c.take_in-idle.new.self program) past_is (c.take_in-idle.ensures.follows program past (asked.follows program past f));
-      owes = λ n is. let owed = c.take_in-idle.ensures.owes n is in record {
+          let past_is : with_own machine own.came past ≡ own ∷ past = own_is machine own past (looked.present ∙ sym read.0) (looked.found ∙ sym read.1) need in
+          subst (StandsFor c.take_in-idle.new.self program) past_is (taken.follows program past f);
+      owes = λ n is. let owed = taken.owes n is in record {
         here = owed.0 ∙ c.len-index.ensures;
-        read = ap present_of owed.1 ∙ present ∙ sym read.0;
-        found = ap found_of owed.1 ∙ found ∙ sym read.1;
-        looked = ap looked_of owed.1 ∙ asked.looked;
+        read = ap present_of owed.1 ∙ looked.present ∙ sym read.0;
+        found = ap found_of owed.1 ∙ looked.found ∙ sym read.1;
+        looked = ap looked_of owed.1 ∙ looked.looked;
         due = ap need_of owed.1 ∙ need;
         kind = call_kind own.due own.came (subst IsStated c.in-Did.is asked.stated);
         within = call_within (takes_of c.take_in-idle.new.self.machine) own.due own.came (subst IsStated c.in-Did.is asked.stated);
       };
       made = subst (λ (came : Came). IsMade came at.now (g.D.CallFs.disk c.args.disk.now) (g.D.CallFs.disk c.ask.new.disk)) c.in-Did.is asked.made;
       passed = inl (subst IsStated c.in-Did.is asked.stated, refl);
-      name = c.take_in-idle.ensures.name ∙ name;
-      stays = record { wire = c.take_in-idle.ensures.stays.wire ∙ asked.stays.wire; slot = c.take_in-idle.ensures.stays.slot ∙ asked.stays.slot; entry = c.take_in-idle.ensures.stays.entry ∙ asked.stays.entry };
-      descriptors = c.take_in-idle.ensures.descriptors ∙ c.keep_open.ensures ∙ ap (λ (fds : List Fd). opened_by fds own.due own.came) asked.descriptors;
-      ended = c.take_in-idle.ensures.ended ∙ asked.ended;
-      status = c.take_in-idle.ensures.status ∙ asked.status;
-      awaits = c.take_in-idle.ensures.awaits ∙ asked.awaits;
+      name = taken.name;
+      stays = record { wire = taken.stays.wire; slot = taken.stays.slot; entry = taken.stays.entry };
+      descriptors = taken.descriptors ∙ c.keep_open.ensures ∙ ap (λ (fds : List Fd). opened_by fds own.due own.came) c.in_ok-reserve.ensures.items;
+      ended = taken.ended;
+      status = taken.status;
+      awaits = taken.awaits;
     })
 
 pub returns-in-Did-clause-idle : goal.returns-in-Did-clause-idle
@@ -94,38 +97,49 @@ returns-in-Did-clause-idle g c =
     let own = c.in-Did.own in
     let at = c.args.at in
     let read = subst (λ (came : Came). IsReadAt came at.now at.ready) c.in-Did.is asked.read in
+    let looked = c.requires.read in
     let copied = c.copy.ensures in
-    let taken = c.take_in-idle.ensures.name in
-    let name = asked.name in
+    let name = c.take_in-idle.ensures.name in
     let put : Kept = kept.Act c.copy.result own in
     let event : put ≡ kept.Act c.args.self.now.name own = cc in
-    rw c.new.ensures (told_idle c.args.self.now c.ask.new.self.machine own c.take_in-idle.result c.args.history.now.events.items c.put.new.self.events.items asked.follows
-    (asked.present ∙ sym read.0) (asked.found ∙ sym read.1) (asked.need ∙ ap due_by c.in-Did.is) c.take_in-idle.ensures.idle
+    rw c.new.ensures (told_idle c.args.self.now c.args.self.now.machine own c.take_in-idle.result c.args.history.now.events.items c.put.new.self.events.items (λ program past f. f)
+    (looked.present ∙ sym read.0) (looked.found ∙ sym read.1) (asked.need ∙ ap due_by c.in-Did.is) c.take_in-idle.ensures.idle
     (c.put.ensures.event ∙ ap (λ (k : Kept). c.args.history.now.events.items ++ k ∷ []) event))
 
+-- with room for a descriptor
+abbrev roomy : (g : _) (c : In-Due g) → Held
+roomy g c = record c.args.self.now { descriptors = c.reserve.new.self }
+
 -- what the machine that looked is asked
-asked_of : (g : _) (c : In-Due g) → HasAsked c.args.self.now c.ask.new.self c.args.at.now c.args.at.ready c.in-Due.due
+asked_of : (g : _) (c : In-Due g) → HasAsked c.args.self.now (roomy g c) c.args.at.now c.args.at.ready c.in-Due.due
 asked_of g c =
     let asked = c.in_ok-own.ensures in
+    let looked = c.requires.read in
     record {
       next = λ program past f. asked.due program past f ∙ ap due_by c.in-Due.is;
-      follows = asked.follows;
-      present = asked.present;
-      found = asked.found;
-      looked = asked.looked;
+      follows = λ program past f. f;
+      present = looked.present;
+      found = looked.found;
+      looked = looked.looked;
       need = asked.need ∙ ap due_by c.in-Due.is;
-      takes = asked.takes;
-      awaits = asked.awaits;
-      name = asked.name;
-      descriptors = asked.descriptors;
-      ended = asked.ended;
-      status = asked.status;
-      owed = asked.owed;
-      stays = asked.stays;
+      takes = refl;
+      awaits = refl;
+      name = refl;
+      descriptors = c.in_ok-reserve.ensures.items;
+      ended = refl;
+      status = refl;
+      owed = refl;
+      stays = record { wire = refl; slot = refl; entry = refl };
     }
 
-pub pass-did-requires-clause-seat : goal.pass-did-requires-clause-seat
-pass-did-requires-clause-seat g c = subst (λ (o : Option ℕ). IsSeated o c.args.mouths.now.items) (sym c.in_ok-own.ensures.stays.wire) c.requires.seat
+pub pass-did-requires-clause-looked : goal.pass-did-requires-clause-looked
+pass-did-requires-clause-looked g c = c.requires.read.looked
+
+pub pass-did-requires-clause-read : goal.pass-did-requires-clause-read
+pass-did-requires-clause-read g c = c.requires.read.present
+
+pub pass-did-requires-clause-found : goal.pass-did-requires-clause-found
+pass-did-requires-clause-found g c = c.requires.read.found
 
 -- what is due is next
 next_is : (g : _) (c : In-Due g) → next_of c.requires.may.asks.program c.requires.may.asks.past c.args.at.now c.args.at.ready ≡ c.in-Due.due
@@ -134,38 +148,40 @@ next_is g c = let may = c.requires.may.asks in c.in_ok-own.ensures.due may.progr
 pub pass-did-requires-clause-waits : goal.pass-did-requires-clause-waits
 pass-did-requires-clause-waits g c =
     let next = next_is g (goal.at.pass-did-requires-clause-waits g c).In-Due in
-    λ none. only_waits c.in-Due.due (subst IsAct next (c.requires.may.acts (sym c.in_ok-own.ensures.stays.wire ∙ none))) (subst IsStated c.in-Due.is c.in_ok-own.ensures.stated)
+    λ none. only_waits c.in-Due.due (subst IsAct next (c.requires.may.acts none)) (subst IsStated c.in-Due.is c.in_ok-own.ensures.stated)
 
 pub pass-did-requires-clause-suits : goal.pass-did-requires-clause-suits
 pass-did-requires-clause-suits g c =
     let next = next_is g (goal.at.pass-did-requires-clause-suits g c).In-Due in
-    λ i wire. subst (SuitsPlace i) next (c.requires.may.suits i (sym c.in_ok-own.ensures.stays.wire ∙ wire))
+    λ i wire. subst (SuitsPlace i) next (c.requires.may.suits i wire)
 
 -- nothing of a child is due
 pub pass-did-requires-clause-alone : goal.pass-did-requires-clause-alone
 pass-did-requires-clause-alone g c =
     let next = next_is g (goal.at.pass-did-requires-clause-alone g c).In-Due in
     let mouths = c.args.mouths.now.items in
-    λ i wire. gives_no_actor mouths c.args.self.now.wire i c.in-Due.due (sym c.in_ok-own.ensures.stays.wire ∙ wire)
+    λ i wire. gives_no_actor mouths c.args.self.now.wire i c.in-Due.due wire
     (subst (λ (due : NeedData). is_due_of_child (has_actor mouths c.args.self.now.wire) due ≡ false) next c.requires.may.own)
 
 pub returns-in-Due-clause-acted : goal.returns-in-Due-clause-acted
 returns-in-Due-clause-acted g c =
     let at = c.args.at in
+    let here = (goal.at.returns-in-Due-clause-acted g c).In-Due in
     let old = g.D.CallFs.disk c.args.disk.now in
     let before = c.args.history.now.events.items in
     let asked = c.in_ok-own.ensures in
     let none : IsNoAct c.in-Due.due = subst IsStated c.in-Due.is asked.stated in
     let still : g.D.CallFs.disk c.ask.new.disk ≡ old = subst (λ (came : Came). IsMade came at.now old (g.D.CallFs.disk c.ask.new.disk)) c.in-Due.is asked.made in
     subst (λ (t : Option Disk). IfOk c.pass-did.result (λ did. HasStepped did old t c.args.mouths.now.items c.pass-did.new.mouths.items at.pid c.args.self.now c.pass-did.new.self before c.pass-did.new.history.events.items at.now at.ready)) (sym still)
-    (passed_result old c.args.mouths.now.items c.pass-did.new.mouths.items at.pid c.args.self.now c.ask.new.self c.pass-did.new.self before c.pass-did.new.history.events.items at.now at.ready c.in-Due.due
-    (asked_of g (goal.at.returns-in-Due-clause-acted g c).In-Due) none (length before) c.pass-did.new.history c.args.history.now c.pass-did.result c.pass-did.ensures.passed c.pass-did.ensures.waits c.pass-did.ensures.at)
+    (passed_result old c.args.mouths.now.items c.pass-did.new.mouths.items at.pid c.args.self.now (roomy g here) c.pass-did.new.self before c.pass-did.new.history.events.items at.now at.ready c.in-Due.due
+    (asked_of g here) none (length before) c.pass-did.new.history c.args.history.now c.pass-did.result c.pass-did.ensures.passed c.pass-did.ensures.waits c.pass-did.ensures.at)
 
 -- the disk is untouched then
 pub returns-in-Due-clause-waits : goal.returns-in-Due-clause-waits
 returns-in-Due-clause-waits g c =
+    let here = (goal.at.returns-in-Due-clause-waits g c).In-Due in
     let still : c.ask.new.disk ≡ c.args.disk.now = subst (λ (came : Came). IsUntouched came c.args.disk.now c.ask.new.disk) c.in-Due.is c.in_ok-own.ensures.still in
-    if_waits c.args.disk.now c.ask.new.disk c.args.history.now c.pass-did.new.history c.ask.new.self c.pass-did.new.self c.pass-did.result still c.pass-did.ensures.waits
+    if_waits c.args.disk.now c.ask.new.disk c.args.history.now c.pass-did.new.history (roomy g here) c.pass-did.new.self c.pass-did.result still c.pass-did.ensures.waits
 
 pub returns-in-Due-clause-err : goal.returns-in-Due-clause-err
 returns-in-Due-clause-err g c =
@@ -182,7 +198,6 @@ returns-in-Ended-clause-acted g c =
     let status = c.in-Ended.status in
     let still : g.D.CallFs.disk c.ask.new.disk ≡ old = subst (λ (came : Came). IsMade came at.now old (g.D.CallFs.disk c.ask.new.disk)) c.in-Ended.is asked.made in
     let copied = c.copy-in-Ended.ensures in
-    let name = asked.name in
     let put : Kept = kept.End c.copy-in-Ended.result at.now at.ready status in
     let event : put ≡ kept.End x.name at.now at.ready status = cc in
     rw c.new-in-Ended.ensures (record {
@@ -190,14 +205,14 @@ returns-in-Ended-clause-acted g c =
       over = record {
         event = c.put-in-Ended.ensures.event ∙ ap (λ (k : Kept). c.args.history.now.events.items ++ k ∷ []) event;
         closed = subst (λ (t : Option Disk). Meets t new (λ d e. e ≡ shut x.descriptors.items d)) still
-            (subst (λ (fds : List Fd). Meets (g.D.CallFs.disk c.ask.new.disk) new (λ d e. e ≡ shut fds d)) asked.descriptors c.end.ensures.closed);
+            (subst (λ (fds : List Fd). Meets (g.D.CallFs.disk c.ask.new.disk) new (λ d e. e ≡ shut fds d)) c.in_ok-reserve.ensures.items c.end.ensures.closed);
         shuts = shuts_after c.args.mouths.now.items c.shut_after.new.mouths.items x.name x.wire x.slot c.requires.seat.four
             (shut_of c.args.mouths.now.items c.shut_after.new.mouths.items c.end.new.self.wire x.wire c.end.new.self.slot x.slot c.as_slice.result.now x.name
-            (c.end.ensures.stays.wire ∙ asked.stays.wire) (c.end.ensures.stays.slot ∙ asked.stays.slot) (c.as_slice.ensures ∙ c.end.ensures.name ∙ name) c.shut_after.ensures);
-        name = c.end.ensures.name ∙ asked.name;
+            c.end.ensures.stays.wire c.end.ensures.stays.slot (c.as_slice.ensures ∙ c.end.ensures.name) c.shut_after.ensures);
+        name = c.end.ensures.name;
         descriptors = c.end.ensures.descriptors;
         ended = c.end.ensures.ended ∙ ap Some c.len-index.ensures;
         status_is = c.end.ensures.status;
-        stays = record { wire = c.end.ensures.stays.wire ∙ asked.stays.wire; slot = c.end.ensures.stays.slot ∙ asked.stays.slot; entry = c.end.ensures.stays.entry ∙ asked.stays.entry };
+        stays = record { wire = c.end.ensures.stays.wire; slot = c.end.ensures.stays.slot; entry = c.end.ensures.stays.entry };
       };
     })

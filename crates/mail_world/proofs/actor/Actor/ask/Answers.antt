@@ -17,17 +17,15 @@ use Rattle.mail_world.proofs.actor.Actor.ask.Goals.{After-need}
 asks_next : (g : _) (c : After-need g) → due_of c.need.result ≡ next_of c.requires.may.program c.requires.may.past c.args.at.now c.args.at.ready
 asks_next g c =
     let may = c.requires.may in
-    c.need.ensures.next may.program may.past c.look.ensures.looked (c.look.ensures.stands may.program may.past may.follows)
-    ∙ ap (λ n. next_of may.program may.past n (found_of c.look.new.self)) c.look.ensures.present ∙ ap (next_of may.program may.past c.args.at.now) c.look.ensures.found
+    let read = c.requires.read in
+    c.need.ensures.next may.program may.past read.looked may.follows
+    ∙ ap (λ n. next_of may.program may.past n (found_of c.args.self.now.machine)) read.present ∙ ap (next_of may.program may.past c.args.at.now) read.found
 
 -- so it uses what its past holds
 asks_held : (g : _) (c : After-need g) → UsesHeld (held c.requires.may.past) (due_of c.need.result)
 asks_held g c =
     let may = c.requires.may in
     subst (UsesHeld (held may.past)) (sym (asks_next g c)) (program_uses may.program may.past c.args.at.now c.args.at.ready may.run)
-
-pub look-requires-clause-given : goal.look-requires-clause-given
-look-requires-clause-given g c = c.requires.may.found
 
 pub perform-answer-requires-clause-fits : goal.perform-answer-requires-clause-fits
 perform-answer-requires-clause-fits g c =

@@ -26,6 +26,7 @@ use Rattle.mail_world.proofs.Living.{living_push, room_less}
 use Rattle.mail_world.proofs.Booked.{start_booked}
 use Rattle.mail_world.proofs.Noted.{put_among}
 use Rattle.mail_world.proofs.Piped.{start_piped}
+use Rattle.mail_world.proofs.Placing.{so_many}
 use Rattle.mail_world.proofs.Seats.{seat_none}
 use Rattle.mail_world.proofs.Starting.{starts_push, same_starts, mail_starts}
 use Rattle.mail_world.proofs.Worlds.{start_keeps, start_leads_on}
@@ -40,7 +41,7 @@ none_is (Some i) h = absurd cc
 new_name : (g : _) (c : After-saturating_add-self-inside g) → among_all c.self.inside.crew (place_of c.self.inside.places) c.args.name.now ≡ None
 new_name g c =
     let i = c.self.inside in
-    none_is (among_all i.crew (place_of i.places) c.args.name.now) (sym (c.self.invariant.0.kept.started c.args.name.now) ∙ ap (λ (w : Seen _). was_started w.events c.args.name.now) c.self.view_is ∙ c.requires.new)
+    none_is (among_all i.crew (place_of i.places) c.args.name.now) (sym (c.self.invariant.world.kept.started c.args.name.now) ∙ ap (λ (w : Seen _). was_started w.events c.args.name.now) c.self.view_is ∙ c.requires.new)
 
 -- the event that was put
 started : (g : _) (c : After-saturating_add-self-inside g) →
@@ -60,101 +61,101 @@ with_texts_is : (pid start : ℕ) (m e message envelope : List ℕ) → m ≡ me
 with_texts_is pid start m e message envelope one two = ap (λ (m : List ℕ). mail pid start m e) one ∙ ap (mail pid start message) two
 
 pub invariant_of-self : goal.invariant_of-self
-invariant_of-self g c = (
-  rw (c.in_err-reserve.ensures.same) c.self.invariant.0,
-  c.in_err-reserve.ensures.stays (living c.self.inside.actors.items) c.self.invariant.1,
-  rw (c.in_err-reserve.ensures.same) c.self.invariant.2,
-  rw (c.in_err-reserve.ensures.same) c.self.invariant.3,
-  rw (c.in_err-reserve.ensures.same) c.self.invariant.4,
-)
+invariant_of-self g c = record {
+  world = rw (c.in_err-reserve.ensures.same) c.self.invariant.world;
+  room = c.in_err-reserve.ensures.stays (living c.self.inside.actors.items) c.self.invariant.room;
+  booked = rw (c.in_err-reserve.ensures.same) c.self.invariant.booked;
+  piped = rw (c.in_err-reserve.ensures.same) c.self.invariant.piped;
+  started = rw (c.in_err-reserve.ensures.same) c.self.invariant.started;
+}
 
 pub invariant_of-self-in_err-reserve-2 : goal.invariant_of-self-in_err-reserve-2
 invariant_of-self-in_err-reserve-2 g c =
-    let items = c.in_err-reserve-2.ensures.items in (
-      rw (items, c.in_ok-reserve.ensures.same) c.self.invariant.0,
-      rw (items) (c.in_ok-reserve.ensures.stays (living c.self.inside.actors.items) c.self.invariant.1),
-      rw (items, c.in_ok-reserve.ensures.same) c.self.invariant.2,
-      rw (items, c.in_ok-reserve.ensures.same) c.self.invariant.3,
-      rw (c.in_ok-reserve.ensures.same) c.self.invariant.4,
-    )
+    let items = c.in_err-reserve-2.ensures.items in record {
+      world = rw (items, c.in_ok-reserve.ensures.same) c.self.invariant.world;
+      room = rw (items) (c.in_ok-reserve.ensures.stays (living c.self.inside.actors.items) c.self.invariant.room);
+      booked = rw (items, c.in_ok-reserve.ensures.same) c.self.invariant.booked;
+      piped = rw (items, c.in_ok-reserve.ensures.same) c.self.invariant.piped;
+      started = rw (c.in_ok-reserve.ensures.same) c.self.invariant.started;
+    }
 
 pub invariant_of-self-in_err-make_room : goal.invariant_of-self-in_err-make_room
 invariant_of-self-in_err-make_room g c =
-    let items = c.in_ok-reserve-2.ensures.items in (
-      rw (items, c.in_ok-reserve.ensures.same) c.self.invariant.0,
-      rw (items) (c.in_ok-reserve.ensures.stays (living c.self.inside.actors.items) c.self.invariant.1),
-      rw (items, c.in_ok-reserve.ensures.same, c.in_err-make_room.ensures.same) c.self.invariant.2,
-      rw (items, c.in_ok-reserve.ensures.same) c.self.invariant.3,
-      rw (c.in_ok-reserve.ensures.same) c.self.invariant.4,
-    )
+    let items = c.in_ok-reserve-2.ensures.items in record {
+      world = rw (items, c.in_ok-reserve.ensures.same) c.self.invariant.world;
+      room = rw (items) (c.in_ok-reserve.ensures.stays (living c.self.inside.actors.items) c.self.invariant.room);
+      booked = rw (items, c.in_ok-reserve.ensures.same, c.in_err-make_room.ensures.same) c.self.invariant.booked;
+      piped = rw (items, c.in_ok-reserve.ensures.same) c.self.invariant.piped;
+      started = rw (c.in_ok-reserve.ensures.same) c.self.invariant.started;
+    }
 
 pub invariant_of-self-in_err-make_room-2 : goal.invariant_of-self-in_err-make_room-2
 invariant_of-self-in_err-make_room-2 g c =
     let i = c.self.inside in
-    let items = c.in_ok-reserve-2.ensures.items in (
-      rw (items, c.in_ok-reserve.ensures.same) c.self.invariant.0,
-      rw (items) (c.in_ok-reserve.ensures.stays (living i.actors.items) c.self.invariant.1),
-      rw (items, c.in_ok-reserve.ensures.same, c.in_ok-make_room.ensures.same) c.self.invariant.2,
-      rw (items, c.in_ok-reserve.ensures.same) c.self.invariant.3,
-      rw (c.in_ok-reserve.ensures.same) (same_starts i.starts c.make_room-2.new.self i.crew (place_of i.places) (starts_of (reverse i.history.events.items)) c.in_err-make_room-2.ensures.same c.self.invariant.4),
-    )
+    let items = c.in_ok-reserve-2.ensures.items in record {
+      world = rw (items, c.in_ok-reserve.ensures.same) c.self.invariant.world;
+      room = rw (items) (c.in_ok-reserve.ensures.stays (living i.actors.items) c.self.invariant.room);
+      booked = rw (items, c.in_ok-reserve.ensures.same, c.in_ok-make_room.ensures.same) c.self.invariant.booked;
+      piped = rw (items, c.in_ok-reserve.ensures.same) c.self.invariant.piped;
+      started = rw (c.in_ok-reserve.ensures.same) (same_starts i.starts c.make_room-2.new.self i.crew (place_of i.places) (starts_of (reverse i.history.events.items)) c.in_err-make_room-2.ensures.same c.self.invariant.started);
+    }
 
 pub invariant_of-self-in_err-arguments : goal.invariant_of-self-in_err-arguments
 invariant_of-self-in_err-arguments g c =
     let i = c.self.inside in
-    let items = c.in_ok-reserve-2.ensures.items in (
-      rw (items, c.in_ok-reserve.ensures.same) c.self.invariant.0,
-      rw (items) (c.in_ok-reserve.ensures.stays (living i.actors.items) c.self.invariant.1),
-      rw (items, c.in_ok-reserve.ensures.same, c.in_ok-make_room.ensures.same) c.self.invariant.2,
-      rw (items, c.in_ok-reserve.ensures.same) c.self.invariant.3,
-      rw (c.in_ok-reserve.ensures.same) (same_starts i.starts c.make_room-2.new.self i.crew (place_of i.places) (starts_of (reverse i.history.events.items)) c.in_ok-make_room-2.ensures.same c.self.invariant.4),
-    )
+    let items = c.in_ok-reserve-2.ensures.items in record {
+      world = rw (items, c.in_ok-reserve.ensures.same) c.self.invariant.world;
+      room = rw (items) (c.in_ok-reserve.ensures.stays (living i.actors.items) c.self.invariant.room);
+      booked = rw (items, c.in_ok-reserve.ensures.same, c.in_ok-make_room.ensures.same) c.self.invariant.booked;
+      piped = rw (items, c.in_ok-reserve.ensures.same) c.self.invariant.piped;
+      started = rw (c.in_ok-reserve.ensures.same) (same_starts i.starts c.make_room-2.new.self i.crew (place_of i.places) (starts_of (reverse i.history.events.items)) c.in_ok-make_room-2.ensures.same c.self.invariant.started);
+    }
 
 pub invariant_of-self-in_err-message : goal.invariant_of-self-in_err-message
 invariant_of-self-in_err-message g c =
     let i = c.self.inside in
-    let items = c.in_ok-reserve-2.ensures.items in (
-      rw (items, c.in_ok-reserve.ensures.same) c.self.invariant.0,
-      rw (items) (c.in_ok-reserve.ensures.stays (living i.actors.items) c.self.invariant.1),
-      rw (items, c.in_ok-reserve.ensures.same, c.in_ok-make_room.ensures.same) c.self.invariant.2,
-      rw (items, c.in_ok-reserve.ensures.same) c.self.invariant.3,
-      rw (c.in_ok-reserve.ensures.same) (same_starts i.starts c.make_room-2.new.self i.crew (place_of i.places) (starts_of (reverse i.history.events.items)) c.in_ok-make_room-2.ensures.same c.self.invariant.4),
-    )
+    let items = c.in_ok-reserve-2.ensures.items in record {
+      world = rw (items, c.in_ok-reserve.ensures.same) c.self.invariant.world;
+      room = rw (items) (c.in_ok-reserve.ensures.stays (living i.actors.items) c.self.invariant.room);
+      booked = rw (items, c.in_ok-reserve.ensures.same, c.in_ok-make_room.ensures.same) c.self.invariant.booked;
+      piped = rw (items, c.in_ok-reserve.ensures.same) c.self.invariant.piped;
+      started = rw (c.in_ok-reserve.ensures.same) (same_starts i.starts c.make_room-2.new.self i.crew (place_of i.places) (starts_of (reverse i.history.events.items)) c.in_ok-make_room-2.ensures.same c.self.invariant.started);
+    }
 
 pub invariant_of-self-in_err-envelope : goal.invariant_of-self-in_err-envelope
 invariant_of-self-in_err-envelope g c =
     let i = c.self.inside in
-    let items = c.in_ok-reserve-2.ensures.items in (
-      rw (items, c.in_ok-reserve.ensures.same) c.self.invariant.0,
-      rw (items) (c.in_ok-reserve.ensures.stays (living i.actors.items) c.self.invariant.1),
-      rw (items, c.in_ok-reserve.ensures.same, c.in_ok-make_room.ensures.same) c.self.invariant.2,
-      rw (items, c.in_ok-reserve.ensures.same) c.self.invariant.3,
-      rw (c.in_ok-reserve.ensures.same) (same_starts i.starts c.make_room-2.new.self i.crew (place_of i.places) (starts_of (reverse i.history.events.items)) c.in_ok-make_room-2.ensures.same c.self.invariant.4),
-    )
+    let items = c.in_ok-reserve-2.ensures.items in record {
+      world = rw (items, c.in_ok-reserve.ensures.same) c.self.invariant.world;
+      room = rw (items) (c.in_ok-reserve.ensures.stays (living i.actors.items) c.self.invariant.room);
+      booked = rw (items, c.in_ok-reserve.ensures.same, c.in_ok-make_room.ensures.same) c.self.invariant.booked;
+      piped = rw (items, c.in_ok-reserve.ensures.same) c.self.invariant.piped;
+      started = rw (c.in_ok-reserve.ensures.same) (same_starts i.starts c.make_room-2.new.self i.crew (place_of i.places) (starts_of (reverse i.history.events.items)) c.in_ok-make_room-2.ensures.same c.self.invariant.started);
+    }
 
 pub invariant_of-self-in_err-injector : goal.invariant_of-self-in_err-injector
 invariant_of-self-in_err-injector g c =
     let i = c.self.inside in
-    let items = c.in_ok-reserve-2.ensures.items in (
-      rw (items, c.in_ok-reserve.ensures.same) c.self.invariant.0,
-      rw (items) (c.in_ok-reserve.ensures.stays (living i.actors.items) c.self.invariant.1),
-      rw (items, c.in_ok-reserve.ensures.same, c.in_ok-make_room.ensures.same) c.self.invariant.2,
-      rw (items, c.in_ok-reserve.ensures.same) c.self.invariant.3,
-      rw (c.in_ok-reserve.ensures.same) (same_starts i.starts c.make_room-2.new.self i.crew (place_of i.places) (starts_of (reverse i.history.events.items)) c.in_ok-make_room-2.ensures.same c.self.invariant.4),
-    )
+    let items = c.in_ok-reserve-2.ensures.items in record {
+      world = rw (items, c.in_ok-reserve.ensures.same) c.self.invariant.world;
+      room = rw (items) (c.in_ok-reserve.ensures.stays (living i.actors.items) c.self.invariant.room);
+      booked = rw (items, c.in_ok-reserve.ensures.same, c.in_ok-make_room.ensures.same) c.self.invariant.booked;
+      piped = rw (items, c.in_ok-reserve.ensures.same) c.self.invariant.piped;
+      started = rw (c.in_ok-reserve.ensures.same) (same_starts i.starts c.make_room-2.new.self i.crew (place_of i.places) (starts_of (reverse i.history.events.items)) c.in_ok-make_room-2.ensures.same c.self.invariant.started);
+    }
 
 pub invariant_of-self-in_err-add : goal.invariant_of-self-in_err-add
 invariant_of-self-in_err-add g c =
     let i = c.self.inside in
     let items = c.in_ok-reserve-2.ensures.items in
-    let places : ◌≡◌ {A = List ℕ → Option ℕ} (place_of i.places) (place_of c.add.new.self) = fun_ext (λ q. sym (c.in_err-add.ensures.err q)) in (
-      rw (items, c.in_ok-reserve.ensures.same) (subst (λ (f : List ℕ → Option ℕ). IsWorld (g.D.CallFs.disk i.disk) (among_all i.crew f) i.actors.items (known i.history.events.items) i.history.events.items i.present i.next_pid (counted i.bounces i.deliveries)) places c.self.invariant.0),
-      rw (items) (c.in_ok-reserve.ensures.stays (living i.actors.items) c.self.invariant.1),
-      rw (items, c.in_ok-reserve.ensures.same, c.in_ok-make_room.ensures.same) c.self.invariant.2,
-      rw (items, c.in_ok-reserve.ensures.same) c.self.invariant.3,
-      rw (c.in_ok-reserve.ensures.same) (subst (λ (f : List ℕ → Option ℕ). AreStarts c.make_room-2.new.self i.crew f (starts_of (reverse i.history.events.items))) places
-          (same_starts i.starts c.make_room-2.new.self i.crew (place_of i.places) (starts_of (reverse i.history.events.items)) c.in_ok-make_room-2.ensures.same c.self.invariant.4)),
-    )
+    let places : ◌≡◌ {A = List ℕ → Option ℕ} (place_of i.places) (place_of c.add.new.self) = fun_ext (λ q. sym (c.in_err-add.ensures.err q)) in record {
+      world = rw (items, c.in_ok-reserve.ensures.same) (subst (λ (f : List ℕ → Option ℕ). IsWorld (g.D.CallFs.disk i.disk) (among_all i.crew f) i.actors.items (known i.history.events.items) i.history.events.items i.present i.next_pid (counted i.bounces i.deliveries)) places c.self.invariant.world);
+      room = rw (items) (c.in_ok-reserve.ensures.stays (living i.actors.items) c.self.invariant.room);
+      booked = rw (items, c.in_ok-reserve.ensures.same, c.in_ok-make_room.ensures.same) c.self.invariant.booked;
+      piped = rw (items, c.in_ok-reserve.ensures.same) c.self.invariant.piped;
+      started = rw (c.in_ok-reserve.ensures.same) (subst (λ (f : List ℕ → Option ℕ). AreStarts c.make_room-2.new.self i.crew f (starts_of (reverse i.history.events.items))) places
+          (same_starts i.starts c.make_room-2.new.self i.crew (place_of i.places) (starts_of (reverse i.history.events.items)) c.in_ok-make_room-2.ensures.same c.self.invariant.started));
+    }
 
 pub invariant_of-self-2 : goal.invariant_of-self-2
 invariant_of-self-2 g c =
@@ -171,7 +172,7 @@ invariant_of-self-2 g c =
     let event = started g at in
     let name : c.new-actor.result.name ≡ a = c.new-actor.ensures.name ∙ c.copy.ensures in
     let many : c.len-2.result ≡ length i.actors.items = c.len-2.ensures ∙ c.reserve-2.new.self.ok.0 ∙ ap length held in
-    let within = c.self.invariant.3.many in
+    let within = c.self.invariant.piped.many in
     let put : (b : List ℕ) → place_of c.add.new.self b ≡ put_at (place_of i.places) a (Some (length i.actors.items - i.crew)) b =
     λ b. c.in_ok-add.ensures.ok b ∙ ap (λ (n : List ℕ). put_at (place_of i.places) n (Some (c.len-2.result - i.crew)) b) c.as_slice.ensures ∙ ap (λ (n : ℕ). put_at (place_of i.places) a (Some (n - i.crew)) b) many in
     let placed = put_among i.crew (length i.actors.items) (place_of i.places) (place_of c.add.new.self) a (seat_none a other) within put in
@@ -190,21 +191,22 @@ invariant_of-self-2 g c =
     (record { message_is = refl; message_end = refl; envelope_is = refl; envelope_end = refl }) in
     let fed : FedStands c.give.new.self args [] = subst (λ (args : Arguments). FedStands c.give.new.self args []) texts (c.give.ensures.stands (unfed i.next_pid i.present) [] waits) in
     let machine = subst (λ (m : AnyMachine). Follows m (Injector args) []) (sym c.new-actor.ensures.machine) fed in
-    let stranger = c.self.invariant.0.kept.strangers a new in
+    let stranger = c.self.invariant.world.kept.strangers a new in
     let awaits : awaits_of c.new-actor.result.machine ≡ is_awaiting (known i.history.events.items) a =
     ap awaits_of c.new-actor.ensures.machine ∙ c.give.ensures.given
-    ∙ sym (stranger_awaits i.crew i.mouths.items i.actors.items (known i.history.events.items) i.history.events.items a c.self.invariant.3 stranger.unknown) in (
-      rw (actors, event) (start_keeps (g.D.CallFs.disk i.disk) all (among_all i.crew (place_of c.add.new.self)) i.actors.items i.history.events.items i.present i.next_pid c.saturating_add-self-inside.result (counted i.bounces i.deliveries)
-          c.new-actor.result a (Injector args) tt other c.requires.named c.self.invariant.0 new placed name c.new-actor.ensures.ended c.new-actor.ensures.status c.new-actor.ensures.owed c.new-actor.ensures.descriptors machine awaits refl c.saturating_add-self-inside.ensures),
-      rw (actors) (c.put.ensures.room (living (i.actors.items ++ c.new-actor.result ∷ [])) (room_less c.reserve.new.self (c.len.result + 2) (living (i.actors.items ++ c.new-actor.result ∷ []) + 1)
-          (omega (arith, len, bound)) c.in_ok-reserve.ensures.room)),
-      rw (actors, event, entry) (start_booked i.crew i.actors.items i.history.events.items c.new-actor.result a args i.books.entries.items within c.self.invariant.2 name numbered),
-      rw (actors, event) (start_piped i.crew i.mouths.items i.actors.items i.history.events.items c.new-actor.result a (Injector args) other stranger.unknown tt name c.new-actor.ensures.wire c.new-actor.ensures.slot c.self.invariant.3),
-      rw (event) (subst (AreStarts c.add_other.new.self i.crew (place_of c.add.new.self)) (sym (starts_push i.history.events.items (kept.Start a (Injector args))))
+    ∙ sym (stranger_awaits i.crew i.mouths.items i.actors.items (known i.history.events.items) i.history.events.items a c.self.invariant.piped stranger.unknown) in record {
+      world = rw (actors, event) (start_keeps (g.D.CallFs.disk i.disk) all (among_all i.crew (place_of c.add.new.self)) i.actors.items i.history.events.items i.present i.next_pid c.saturating_add-self-inside.result (counted i.bounces i.deliveries)
+          c.new-actor.result a (Injector args) tt other c.requires.named c.self.invariant.world new placed name c.new-actor.ensures.ended c.new-actor.ensures.status c.new-actor.ensures.owed c.new-actor.ensures.descriptors machine awaits refl c.saturating_add-self-inside.ensures);
+      room = rw (actors) (c.put.ensures.room (living (i.actors.items ++ c.new-actor.result ∷ [])) (room_less c.reserve.new.self (c.len.result + 2) (living (i.actors.items ++ c.new-actor.result ∷ []) + 1)
+          (omega (arith, len, bound)) c.in_ok-reserve.ensures.room));
+      booked = rw (actors, event, entry) (start_booked i.crew i.actors.items i.history.events.items c.new-actor.result a args i.books.entries.items within c.self.invariant.booked name numbered);
+      piped = rw (actors, event) (start_piped i.crew i.mouths.items i.actors.items i.history.events.items c.new-actor.result a (Injector args) other stranger.unknown tt name c.new-actor.ensures.wire c.new-actor.ensures.slot c.self.invariant.piped);
+      started = rw (event) (subst (AreStarts c.add_other.new.self i.crew (place_of c.add.new.self)) (sym (starts_push i.history.events.items (kept.Start a (Injector args))))
           (mail_starts c.make_room-2.new.self c.add_other.new.self i.crew (length i.actors.items) (place_of i.places) (place_of c.add.new.self) (starts_of (reverse i.history.events.items)) a within
           (c.add_other.ensures.order ∙ ap (λ (n : ℕ). c.make_room-2.new.self.order.items ++ n ∷ []) last) c.add_other.ensures.newest new placed
-          (same_starts i.starts c.make_room-2.new.self i.crew (place_of i.places) (starts_of (reverse i.history.events.items)) c.in_ok-make_room-2.ensures.same c.self.invariant.4))),
-    )
+          (same_starts i.starts c.make_room-2.new.self i.crew (place_of i.places) (starts_of (reverse i.history.events.items)) c.in_ok-make_room-2.ensures.same c.self.invariant.started)
+          other put (so_many i.starts i.crew (place_of i.places) (starts_of (reverse i.history.events.items)) i.actors.items (known i.history.events.items) i.history.events.items i.present c.self.invariant.started c.self.invariant.world.kept within)));
+    }
 
 pub returns-clause-goes_on : goal.returns-clause-goes_on
 returns-clause-goes_on g c =
@@ -214,4 +216,4 @@ returns-clause-goes_on g c =
     let args = mail i.next_pid i.present c.args.message.now c.args.envelope.now in
     let at = (goal.at.returns-clause-goes_on g c).After-saturating_add-self-inside in
     rw (← c.self.view_is, started g at) (goes_on told told events (events ++ kept.Start c.args.name.now (Injector args) ∷ []) i.present i.present
-    (start_leads_on told (among_all i.crew (place_of i.places)) i.actors.items events i.present i.next_pid (counted i.bounces i.deliveries) c.args.name.now (Injector args) tt c.self.invariant.0 (new_name g at)))
+    (start_leads_on told (among_all i.crew (place_of i.places)) i.actors.items events i.present i.next_pid (counted i.bounces i.deliveries) c.args.name.now (Injector args) tt c.self.invariant.world (new_name g at)))

@@ -19,13 +19,13 @@ use Rattle.mail_world.proofs.world.World.halt.Goals as goal
 use Rattle.mail_world.proofs.world.World.halt.Goals.{After-cut_off_all}
 
 pub invariant_of-self : goal.invariant_of-self
-invariant_of-self g c = (
-  rw (c.in_err-reserve.ensures.same) c.self.invariant.0,
-  c.in_err-reserve.ensures.stays (living c.self.inside.actors.items) c.self.invariant.1,
-  rw (c.in_err-reserve.ensures.same) c.self.invariant.2,
-  rw (c.in_err-reserve.ensures.same) c.self.invariant.3,
-  rw (c.in_err-reserve.ensures.same) c.self.invariant.4,
-)
+invariant_of-self g c = record {
+  world = rw (c.in_err-reserve.ensures.same) c.self.invariant.world;
+  room = c.in_err-reserve.ensures.stays (living c.self.inside.actors.items) c.self.invariant.room;
+  booked = rw (c.in_err-reserve.ensures.same) c.self.invariant.booked;
+  piped = rw (c.in_err-reserve.ensures.same) c.self.invariant.piped;
+  started = rw (c.in_err-reserve.ensures.same) c.self.invariant.started;
+}
 
 -- the event that was put
 halted : (g : _) (c : After-cut_off_all g) → c.put.new.self.events.items ≡ c.self.inside.history.events.items ++ kept.Halt c.args.how ∷ []
@@ -50,15 +50,15 @@ invariant_of-self-2 g c =
     let items = written_back i.actors.len i.actors.items c.cut_off_all.new.actors over.many i.actors.ok.0 in
     let len : c.len.result ≡ length i.actors.items = c.len.ensures ∙ i.actors.ok.0 in
     let many = over.many in
-    let bound = living_within c.cut_off_all.new.actors in (
-      rw (items, halted g at) (halt_keeps (g.D.CallFs.disk i.disk) (g.D.CallFs.disk c.halt.new.self) (among_all i.crew (place_of i.places)) i.actors.items c.cut_off_all.new.actors i.history.events.items i.present i.next_pid (counted i.bounces i.deliveries) c.args.how
-          c.self.invariant.0 over (stopped g at)),
-      rw (items) (c.put.ensures.room (living c.cut_off_all.new.actors) (room_less c.reserve.new.self (c.len.result + 1) (living c.cut_off_all.new.actors + 1)
-          (omega (arith, len, bound, many)) c.in_ok-reserve.ensures.room)),
-      rw (items, halted g at, c.cut_off.ensures) (halt_booked i.crew (length i.history.events.items) i.actors.items c.cut_off_all.new.actors i.history.events.items c.args.how i.books.entries.items c.self.invariant.2 over),
-      rw (items, halted g at, c.clear.ensures.items) (halt_piped i.crew i.mouths.items i.actors.items c.cut_off_all.new.actors i.history.events.items c.args.how c.self.invariant.3 over),
-      rw (halted g at) (still_starts i.starts i.crew (place_of i.places) i.history.events.items (kept.Halt c.args.how) refl c.self.invariant.4),
-    )
+    let bound = living_within c.cut_off_all.new.actors in record {
+      world = rw (items, halted g at) (halt_keeps (g.D.CallFs.disk i.disk) (g.D.CallFs.disk c.halt.new.self) (among_all i.crew (place_of i.places)) i.actors.items c.cut_off_all.new.actors i.history.events.items i.present i.next_pid (counted i.bounces i.deliveries) c.args.how
+          c.self.invariant.world over (stopped g at));
+      room = rw (items) (c.put.ensures.room (living c.cut_off_all.new.actors) (room_less c.reserve.new.self (c.len.result + 1) (living c.cut_off_all.new.actors + 1)
+          (omega (arith, len, bound, many)) c.in_ok-reserve.ensures.room));
+      booked = rw (items, halted g at, c.cut_off.ensures) (halt_booked i.crew (length i.history.events.items) i.actors.items c.cut_off_all.new.actors i.history.events.items c.args.how i.books.entries.items c.self.invariant.booked over);
+      piped = rw (items, halted g at, c.clear.ensures.items) (halt_piped i.crew i.mouths.items i.actors.items c.cut_off_all.new.actors i.history.events.items c.args.how c.self.invariant.piped over);
+      started = rw (halted g at) (still_starts i.starts i.crew (place_of i.places) i.history.events.items (kept.Halt c.args.how) refl c.self.invariant.started);
+    }
 
 pub returns-clause-goes_on : goal.returns-clause-goes_on
 returns-clause-goes_on g c =
@@ -70,4 +70,4 @@ pub returns-clause-over : goal.returns-clause-over
 returns-clause-over g c =
     let i = c.self.inside in
     let at = (goal.at.returns-clause-over g c).After-cut_off_all in
-    rw (← c.self.view_is, halted g at) (λ a was. all_over (among_all i.crew (place_of i.places)) i.actors.items (known i.history.events.items) i.history.events.items i.present c.args.how a c.self.invariant.0.kept was)
+    rw (← c.self.view_is, halted g at) (λ a was. all_over (among_all i.crew (place_of i.places)) i.actors.items (known i.history.events.items) i.history.events.items i.present c.args.how a c.self.invariant.world.kept was)

@@ -27,7 +27,7 @@ returns-then-is_mail_name g c =
     let found : is_some (place_of i.places a) ≡ not c.is_none.result =
     ap is_some (ap (place_of i.places) (sym c.as_slice-then-is_mail_name.ensures) ∙ sym c.find.ensures) ∙ c.is_none.ensures in
     let started : was_started c.args.self.now.events a ≡ not c.is_none.result =
-    sym (ap (λ (w : Seen _). was_started w.events a) c.self.view_is) ∙ c.self.invariant.0.kept.started a ∙ ap is_some place ∙ some_map i.crew (place_of i.places a) ∙ found in (
+    sym (ap (λ (w : Seen _). was_started w.events a) c.self.view_is) ∙ c.self.invariant.world.kept.started a ∙ ap is_some place ∙ some_map i.crew (place_of i.places a) ∙ found in (
       (λ yes. (mail, started ∙ ap not yes)),
       (λ h. not_true c.is_none.result (sym started ∙ h.1)),
     )

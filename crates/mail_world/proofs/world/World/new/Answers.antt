@@ -18,10 +18,10 @@ none_placed places none a = by_seat (seat a) where
   by_seat (Some i) = let low : nat_lt i 0 ≡ false = le-ltb i 0 (omega arith) in ap (λ (t : Bool). if t then Some i else None) low
 
 pub invariant_of-result : goal.invariant_of-result
-invariant_of-result g c = (
-  rw (c.new.ensures.items, c.new-5.ensures) (new_keeps (g.D.CallFs.disk c.args.disk) (among_all 0 (place_of c.new-2.result)) (none_placed (place_of c.new-2.result) c.new-2.ensures)),
-  search rules,
-  rw (c.new.ensures.items, c.new-4.ensures, c.new-5.ensures) none_booked,
-  rw (c.new.ensures.items, c.new-3.ensures.items, c.new-5.ensures) none_piped,
-  rw (c.new-5.ensures) (none_start c.new-6.result 0 (place_of c.new-2.result) c.new-6.ensures.order),
-)
+invariant_of-result g c = record {
+  world = rw (c.new.ensures.items, c.new-5.ensures) (new_keeps (g.D.CallFs.disk c.args.disk) (among_all 0 (place_of c.new-2.result)) (none_placed (place_of c.new-2.result) c.new-2.ensures));
+  room = search rules;
+  booked = rw (c.new.ensures.items, c.new-4.ensures, c.new-5.ensures) none_booked;
+  piped = rw (c.new.ensures.items, c.new-3.ensures.items, c.new-5.ensures) none_piped;
+  started = rw (c.new-5.ensures) (none_start c.new-6.result (place_of c.new-2.result) c.new-6.ensures.order c.new-2.ensures);
+}

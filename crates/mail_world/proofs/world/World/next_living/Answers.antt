@@ -13,7 +13,7 @@ returns-in_err-actor g c =
     let found : IsNextStart i.starts c.deref.result.now i.crew c.args.from None = rw c.in_err-actor.was at c.next_living.ensures in
     let here = subst (λ (l : List Held). IsNextStart i.starts l i.crew c.args.from None) c.deref.ensures.value found in
     rw (c.from_residual.ensures, ← c.self.view_is)
-    (next_told i.starts i.crew (place_of i.places) i.actors.items (known events) events i.present c.self.invariant.0.kept c.self.invariant.4 c.args.from None here)
+    (next_told i.starts i.crew (place_of i.places) i.actors.items (known events) events i.present c.self.invariant.world.kept c.self.invariant.started c.args.from None here)
 
 pub returns : goal.returns
 returns g c =
@@ -22,4 +22,4 @@ returns g c =
     let what : Option (Held × ℕ) = Some (c.in_ok-actor.actor.now, c.in_ok-actor.at) in
     let found : IsNextStart i.starts c.deref.result.now i.crew c.args.from what = rw c.in_ok-actor.was at c.next_living.ensures in
     let here = subst (λ (l : List Held). IsNextStart i.starts l i.crew c.args.from what) c.deref.ensures.value found in
-    rw (← c.self.view_is) (next_told i.starts i.crew (place_of i.places) i.actors.items (known events) events i.present c.self.invariant.0.kept c.self.invariant.4 c.args.from what here)
+    rw (← c.self.view_is) (next_told i.starts i.crew (place_of i.places) i.actors.items (known events) events i.present c.self.invariant.world.kept c.self.invariant.started c.args.from what here)

@@ -19,7 +19,7 @@ pub is_unreported-requires : goal.is_unreported-requires
 is_unreported-requires g c =
     let i = c.self.inside in
     λ lives. subst (λ (l : List Mouths). 3 < length l) (sym c.deref-2.ensures.value)
-    (spawner_piped i.crew i.mouths.items i.actors.items (known i.history.events.items) i.history.events.items c.self.invariant.3
+    (spawner_piped i.crew i.mouths.items i.actors.items (known i.history.events.items) i.history.events.items c.self.invariant.piped
     (subst (λ (l : List Held). lasts (slice_get (take i.crew l) 3) ≡ true) c.deref.ensures.value (sym c.spawner_lives-lives.ensures ∙ lives)))
 
 -- what the test tells
@@ -30,13 +30,13 @@ told g c =
     sym (c.is_unreported.ensures ∙ ap (λ (t : Bool). t && is_remote false (tenant_in (slice_get c.deref-2.result.now 3) c.args.slot)) c.spawner_lives-lives.ensures
     ∙ ap (λ (l : List Held). lasts (slice_get (take i.crew l) 3) && is_remote false (tenant_in (slice_get c.deref-2.result.now 3) c.args.slot)) c.deref.ensures.value
     ∙ ap (λ (l : List Mouths). lasts (slice_get (take i.crew i.actors.items) 3) && is_remote false (tenant_in (slice_get l 3) c.args.slot)) c.deref-2.ensures.value
-    ∙ unreported_is i.crew (place_of i.places) i.mouths.items i.actors.items (known i.history.events.items) i.history.events.items i.present c.self.invariant.0.kept c.self.invariant.3 c.args.slot)
+    ∙ unreported_is i.crew (place_of i.places) i.mouths.items i.actors.items (known i.history.events.items) i.history.events.items i.present c.self.invariant.world.kept c.self.invariant.piped c.args.slot)
 
 pub returns-then-not-is_unreported-clause-waits : goal.returns-then-not-is_unreported-clause-waits
 returns-then-not-is_unreported-clause-waits g c =
     let i = c.self.inside in
     let at = (goal.at.returns-then-not-is_unreported-clause-waits g c).After-is_unreported in
-    rw (← c.self.view_is) (waits_exactly (known i.history.events.items) c.args.slot c.named.result c.named.ensures
+    rw (← c.self.view_is) (waits_exactly (known i.history.events.items) c.args.slot c.actor_name.result c.actor_name.ensures
     (no_report (known i.history.events.items) c.args.slot (told g at ∙ c.if-not-is_unreported.true)))
 
 pub end_program-requires : goal.end_program-requires

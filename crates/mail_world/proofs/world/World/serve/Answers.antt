@@ -22,19 +22,19 @@ gives w a due to bytes is d =
     subst IsGive (sym is) (give_due has to bytes (ap (is_due_of_child has) (sym is) ∙ d.of_child))
 
 pub start_child-requires-clause-start : goal.start_child-requires-clause-start
-start_child-requires-clause-start g c = starts _ c.args.actor.now c.args.due.now _ c.in-Start.is c.requires
+start_child-requires-clause-start g c = starts _ c.args.actor.now c.args.due.now _ c.in-Start.is c.requires.due
 
 pub fill-requires-clause-give : goal.fill-requires-clause-give
-fill-requires-clause-give g c = gives _ c.args.actor.now c.args.due.now _ _ c.in-Give.is c.requires
+fill-requires-clause-give g c = gives _ c.args.actor.now c.args.due.now _ _ c.in-Give.is c.requires.due
 
 pub fill-requires-clause-spawner : goal.fill-requires-clause-spawner
-fill-requires-clause-spawner g c = c.is.ensures.0 c.if-is.true
+fill-requires-clause-spawner g c = c.is.ensures.0 c.if-is.true ∙ c.name.ensures
 
 pub feed-requires-clause-give : goal.feed-requires-clause-give
-feed-requires-clause-give g c = gives _ c.args.actor.now c.args.due.now _ _ c.in-Give-2.is c.requires
+feed-requires-clause-give g c = gives _ c.args.actor.now c.args.due.now _ _ c.in-Give-2.is c.requires.due
 
 pub feed-requires-clause-other : goal.feed-requires-clause-other
-feed-requires-clause-other g c = λ same. false≢true (sym c.if-is.false ∙ c.is.ensures.1 same)
+feed-requires-clause-other g c = λ same. false≢true (sym c.if-is.false ∙ c.is.ensures.1 (same ∙ sym c.name.ensures))
 
 pub take_status-requires-clause-take : goal.take_status-requires-clause-take
-take_status-requires-clause-take g c = take_due _ c.args.due.now c.requires.of_child c.in_default.not-Start c.in_default.not-Give
+take_status-requires-clause-take g c = take_due _ c.args.due.now c.requires.due.of_child c.in_default.not-Start c.in_default.not-Give

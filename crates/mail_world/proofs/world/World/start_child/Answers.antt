@@ -23,7 +23,7 @@ use Rattle.world_pipes.specs.Wired.{MayRunIn}
 use Rattle.mail_world.specs.declared.actor.Actor.{Actor as Held}
 use Rattle.mail_world.specs.declared.any_machine.AnyMachine.{AnyMachine}
 use Rattle.mail_world.specs.Books.{entries_of}
-use Rattle.mail_world.specs.Children.{Begins, IsDueOfChild, IsMachineOf, IsPaid}
+use Rattle.mail_world.specs.Children.{Begins, IsDueOfChild, IsSetting, IsMachineOf, IsPaid}
 use Rattle.mail_world.specs.Generations.{starts_of}
 use Rattle.mail_world.specs.Inside.{IsWorld, among_all, known, living}
 use Rattle.mail_world.specs.Places.{place_of}
@@ -34,87 +34,67 @@ use Rattle.mail_world.proofs.Bearing.{IsBearing, HasStartedIn, bearing, machine_
 use Rattle.mail_world.proofs.Lists.{set_same}
 use Rattle.mail_world.proofs.Living.{living_push, living_still, room_less}
 use Rattle.mail_world.proofs.Noted.{put_among}
+use Rattle.mail_world.proofs.Placing.{so_many, placed_at}
 use Rattle.mail_world.proofs.Seats.{seat_none}
-use Rattle.mail_world.proofs.Serving.{alive_lives, same_at, slot_at, parent_owes, at_setting, may_take, may_at, was_served, taken_at}
+use Rattle.mail_world.proofs.Serving.{same_at, slot_at, parent_owes, at_setting, may_take, may_at, was_served, taken_at}
 use Rattle.mail_world.proofs.Starting.{starts_push, same_starts, mail_starts}
-use Rattle.mail_world.proofs.Worlds.{in_range}
 use Rattle.mail_world.proofs.world.World.start_child.Goals as goal
-use Rattle.mail_world.proofs.world.World.start_child.Goals.{After-setting-at, After-unwrap-parent_at, In_ok-born, After-due_slot-number, After-index_mut-parent, After-unwrap-wire, After-own_at-own, After-index_mut, After-start_actor, After-new-child, After-put}
+use Rattle.mail_world.proofs.world.World.start_child.Goals.{After-len, In_ok-born, After-due_slot-number, After-index_mut-parent, After-unwrap-wire, After-own_at-own, After-index_mut, After-start_actor, After-new-child, After-put}
 
 -- what is due, and where
-due_here : (g : _) (c : After-setting-at g) →
+due_here : (g : _) (c : After-len g) →
     IsBearing c.self.inside.crew (place_of c.self.inside.places) c.self.inside.mouths.items c.self.inside.actors.items c.self.inside.history.events.items c.self.inside.present (counted c.self.inside.bounces c.self.inside.deliveries) c.args.actor.now c.args.due.now
 due_here g c =
     let i = c.self.inside in
-    bearing i.disk (g.D.CallFs.disk i.disk) i.crew (place_of i.places) i.actors.items i.mouths.items i.history.events.items i.present i.next_pid (counted i.bounces i.deliveries) c.args.actor.now c.args.due.now c.self.invariant.0 c.self.invariant.3
+    bearing i.disk (g.D.CallFs.disk i.disk) i.crew (place_of i.places) i.actors.items i.mouths.items i.history.events.items i.present i.next_pid (counted i.bounces i.deliveries) c.args.actor.now c.args.due.now c.self.invariant.world c.self.invariant.piped
     (subst (λ (w : Seen _). IsDueOfChild w c.args.actor.now c.args.due.now) (sym c.self.view_is) c.requires.due) c.requires.start
 
-pub setting-at-requires : goal.setting-at-requires
-setting-at-requires g c =
-    let asked = c.requires.due in
-    alive_lives _ asked.actor asked.is asked.alive
+-- what the step goes by, and the place of the parent
+setting : (g : _) (c : After-len g) → IsSetting (record { disk = c.self.inside.disk; events = c.self.inside.history.events.items; present = c.self.inside.present }) c.args.actor.now c.args.at
+setting g c = subst (λ (w : Seen _). IsSetting w c.args.actor.now c.args.at) (sym c.self.view_is) c.requires.at
 
-pub place_among-requires : goal.place_among-requires
-place_among-requires g c =
+parent_place : (g : _) (c : After-len g) (n : ℕ) → among_all c.self.inside.crew (place_of c.self.inside.places) c.args.actor.now ≡ Some n → c.args.at.place ≡ n
+parent_place g c n at =
     let i = c.self.inside in
-    λ k at.
-    let within = in_range (g.D.CallFs.disk i.disk) (among_all i.crew (place_of i.places)) i.actors.items (known i.history.events.items) i.history.events.items i.present i.next_pid (counted i.bounces i.deliveries) c.args.actor.now c.self.invariant.0 k at in
-    omega (arith, within, i.actors.ok.0)
-
-pub unwrap-parent_at-requires : goal.unwrap-parent_at-requires
-unwrap-parent_at-requires g c =
-    let k = due_here g (goal.at.unwrap-parent_at-requires g c).After-setting-at in
-    subst IsSome (sym (c.place_among.ensures ∙ k.asks.place)) refl
-
--- the place of the parent
-parent_place : (g : _) (c : After-unwrap-parent_at g) (n : ℕ) → among_all c.self.inside.crew (place_of c.self.inside.places) c.args.actor.now ≡ Some n → c.unwrap-parent_at.result ≡ n
-parent_place g c n at = same_at c.place_among.result c.unwrap-parent_at.result n c.unwrap-parent_at.ensures (c.place_among.ensures ∙ at)
-
--- where it is due
-now_is : (g : _) (c : After-setting-at g) → c.setting-at.result.now ≡ c.self.inside.present
-now_is g c = c.setting-at.ensures.now ∙ ap (λ (w : Seen _). w.present) (sym c.self.view_is)
-
-ready_is : (g : _) (c : After-setting-at g) → c.setting-at.result.ready ≡ found_in (known c.self.inside.history.events.items) c.args.actor.now
-ready_is g c = c.setting-at.ensures.ready ∙ ap (λ (w : Seen _). found_in (known w.events) c.args.actor.now) (sym c.self.view_is)
+    placed_at (record { disk = i.disk; events = i.history.events.items; present = i.present }) c.args.actor.now c.args.at i.starts i.crew (place_of i.places) n (setting g c) c.self.invariant.started at
 
 -- room was made
 pub invariant_of-self : goal.invariant_of-self
 invariant_of-self g c =
     let i = c.self.inside in
-    let room = c.in_err-room_for_one.ensures in (
-      rw (room.actors) c.self.invariant.0,
-      rw (room.actors) c.self.invariant.1,
-      rw (room.actors, room.books) c.self.invariant.2,
-      rw (room.actors, room.pipes) c.self.invariant.3,
-      same_starts i.starts c.room_for_one.new.starts i.crew (place_of i.places) (starts_of (reverse i.history.events.items)) room.starts c.self.invariant.4,
-    )
+    let room = c.in_err-room_for_one.ensures in record {
+      world = rw (room.actors) c.self.invariant.world;
+      room = rw (room.actors) c.self.invariant.room;
+      booked = rw (room.actors, room.books) c.self.invariant.booked;
+      piped = rw (room.actors, room.pipes) c.self.invariant.piped;
+      started = same_starts i.starts c.room_for_one.new.starts i.crew (place_of i.places) (starts_of (reverse i.history.events.items)) room.starts c.self.invariant.started;
+    }
 
 pub index_mut-parent-requires : goal.index_mut-parent-requires
 index_mut-parent-requires g c =
     let at = goal.at.index_mut-parent-requires g c in
-    let k = due_here g at.After-setting-at in
-    let same = parent_place g at.After-unwrap-parent_at k.asks.at k.asks.place in
+    let k = due_here g at.After-len in
+    let same = parent_place g at.After-len k.asks.at k.asks.place in
     let some = slice_get_within c.self.inside.actors.items k.asks.at k.asks.here.held k.asks.here.is in
     let many = ap (λ (l : List Held). length l) c.in_ok-room_for_one.ensures.actors in
     omega (arith, some, many, same, c.room_for_one.new.actors.ok.0)
 
 -- the parent is read
-parent_read : (g : _) (c : After-index_mut-parent g) (n : ℕ) (x : Held) → among_all c.self.inside.crew (place_of c.self.inside.places) c.args.actor.now ≡ Some n → slice_get c.self.inside.actors.items n ≡ Some x
-    → (c.unwrap-parent_at.result ≡ n) × (x ≡ c.index_mut-parent.result.now)
-parent_read g c n x at is =
+parent_read : (g : _) (c : After-index_mut-parent g) (n : ℕ) (x : Held) → c.args.at.place ≡ n → slice_get c.self.inside.actors.items n ≡ Some x
+    → (c.args.at.place ≡ n) × (x ≡ c.index_mut-parent.result.now)
+parent_read g c n x same is =
     let l = c.self.inside.actors.items in
-    let y = c.index_mut-parent.result.now in
-    let same = same_at c.place_among.result c.unwrap-parent_at.result n c.unwrap-parent_at.ensures (c.place_among.ensures ∙ at) in (
+    let y = c.index_mut-parent.result.now in (
       same,
       sym (get_or_from_slice_get l n x y is) ∙ ap (λ (j : ℕ). get_or l j y) (sym same)
-          ∙ sym (subst (λ (l : List Held). y ≡ get_or l c.unwrap-parent_at.result y) c.in_ok-room_for_one.ensures.actors c.index_mut-parent.ensures.value),
+          ∙ sym (subst (λ (l : List Held). y ≡ get_or l c.args.at.place y) c.in_ok-room_for_one.ensures.actors c.index_mut-parent.ensures.value),
     )
 
 pub unwrap-wire-requires : goal.unwrap-wire-requires
 unwrap-wire-requires g c =
     let at = goal.at.unwrap-wire-requires g c in
-    let k = due_here g at.After-setting-at in
-    let read = parent_read g at.After-index_mut-parent k.asks.at k.asks.here.held k.asks.place k.asks.here.is in
+    let k = due_here g at.After-len in
+    let read = parent_read g at.After-index_mut-parent k.asks.at k.asks.here.held (parent_place g at.After-len k.asks.at k.asks.place) k.asks.here.is in
     subst IsSome (sym k.wire_is ∙ ap (λ (x : Held). x.wire) read.1) refl
 
 -- its pipes are at that place
@@ -125,27 +105,27 @@ pub pay_with_room-requires : goal.pay_with_room-requires
 pay_with_room-requires g c =
     let at = goal.at.pay_with_room-requires g c in
     let i = c.self.inside in
-    let a = (due_here g at.After-setting-at).asks in
+    let a = (due_here g at.After-len).asks in
     parent_owes i.actors.items (known i.history.events.items) i.history.events.items i.present c.args.actor.now a.at a.parent a.here c.index_mut-parent.result.now
-    (parent_read g at.After-index_mut-parent a.at a.here.held a.place a.here.is).1
+    (parent_read g at.After-index_mut-parent a.at a.here.held (parent_place g at.After-len a.at a.place) a.here.is).1
 
 pub invariant_of-self-in_err-pay_with_room : goal.invariant_of-self-in_err-pay_with_room
 invariant_of-self-in_err-pay_with_room g c =
     let at = goal.at.invariant_of-self-in_err-pay_with_room g c in
     let i = c.self.inside in
     let l = i.actors.items in
-    let a = (due_here g at.After-setting-at).asks in
-    let read = parent_read g at.After-index_mut-parent a.at a.here.held a.place a.here.is in
-    let still : set l c.unwrap-parent_at.result c.pay_with_room.new.actor ≡ l =
+    let a = (due_here g at.After-len).asks in
+    let read = parent_read g at.After-index_mut-parent a.at a.here.held (parent_place g at.After-len a.at a.place) a.here.is in
+    let still : set l c.args.at.place c.pay_with_room.new.actor ≡ l =
     ap (λ (j : ℕ). set l j c.pay_with_room.new.actor) read.0 ∙ ap (set l a.at) (c.in_err-pay_with_room.ensures.err ∙ sym read.1) ∙ set_same l a.at a.here.held a.here.is in
     let room = c.in_ok-room_for_one.ensures in
-    let same = c.in_err-pay_with_room.ensures.same in (
-      rw (room.actors, still, same) c.self.invariant.0,
-      rw (room.actors, still) (c.in_err-pay_with_room.ensures.stays (living l) c.self.invariant.1),
-      rw (room.actors, still, same, room.books) c.self.invariant.2,
-      rw (room.actors, room.pipes, still, same) c.self.invariant.3,
-      rw (same) (same_starts i.starts c.room_for_one.new.starts i.crew (place_of i.places) (starts_of (reverse i.history.events.items)) room.starts c.self.invariant.4),
-    )
+    let same = c.in_err-pay_with_room.ensures.same in record {
+      world = rw (room.actors, still, same) c.self.invariant.world;
+      room = rw (room.actors, still) (c.in_err-pay_with_room.ensures.stays (living l) c.self.invariant.room);
+      booked = rw (room.actors, still, same, room.books) c.self.invariant.booked;
+      piped = rw (room.actors, room.pipes, still, same) c.self.invariant.piped;
+      started = rw (same) (same_starts i.starts c.room_for_one.new.starts i.crew (place_of i.places) (starts_of (reverse i.history.events.items)) room.starts c.self.invariant.started);
+    }
 
 pub invariant_of-self-in_err-add : goal.invariant_of-self-in_err-add
 invariant_of-self-in_err-add g c =
@@ -153,29 +133,30 @@ invariant_of-self-in_err-add g c =
     let i = c.self.inside in
     let told = g.D.CallFs.disk i.disk in
     let events = i.history.events.items in
-    let a = (due_here g at.After-setting-at).asks in
+    let a = (due_here g at.After-len).asks in
     let z = c.pay_with_room.new.actor in
-    let read = parent_read g at.After-index_mut-parent a.at a.here.held a.place a.here.is in
+    let read = parent_read g at.After-index_mut-parent a.at a.here.held (parent_place g at.After-len a.at a.place) a.here.is in
+    let stood : set i.actors.items c.args.at.place z ≡ set i.actors.items a.at z = ap (λ (j : ℕ). set i.actors.items j z) read.0 in
     let paid = subst (λ (x : Held). IsPaid x z events) (sym read.1) c.in_ok-pay_with_room.ensures.paid in
     let w = paid_keeps told i.crew (place_of i.places) i.actors.items i.mouths.items (entries_of i.books) events i.present i.next_pid (counted i.bounces i.deliveries) c.args.actor.now a.at a.parent z
-    (record { world = c.self.invariant.0; booked = c.self.invariant.2; piped = c.self.invariant.3 }) a.here paid in
+    (record { world = c.self.invariant.world; booked = c.self.invariant.booked; piped = c.self.invariant.piped }) a.here paid in
     let room = c.in_ok-room_for_one.ensures in
     let same = c.in_ok-pay_with_room.ensures.same in
-    let places : ◌≡◌ {A = List ℕ → Option ℕ} (place_of i.places) (place_of c.add.new.self) = fun_ext (λ q. sym (c.in_err-add.ensures.err q)) in (
-      rw (room.actors, same, read.0) (subst (λ (f : List ℕ → Option ℕ). IsWorld told (among_all i.crew f) (set i.actors.items a.at z) (known events) events i.present i.next_pid (counted i.bounces i.deliveries)) places w.world),
-      rw (room.actors, read.0, living_still i.actors.items a.at a.here.held z a.here.is paid.ended) (c.in_ok-pay_with_room.ensures.stays (living i.actors.items) c.self.invariant.1),
-      rw (room.actors, same, room.books, read.0) w.booked,
-      rw (room.actors, room.pipes, same, read.0) w.piped,
-      rw (same) (subst (λ (f : List ℕ → Option ℕ). AreStarts c.room_for_one.new.starts i.crew f (starts_of (reverse events))) places
-          (same_starts i.starts c.room_for_one.new.starts i.crew (place_of i.places) (starts_of (reverse events)) room.starts c.self.invariant.4)),
-    )
+    let places : ◌≡◌ {A = List ℕ → Option ℕ} (place_of i.places) (place_of c.add.new.self) = fun_ext (λ q. sym (c.in_err-add.ensures.err q)) in record {
+      world = rw (room.actors, same, stood) (subst (λ (f : List ℕ → Option ℕ). IsWorld told (among_all i.crew f) (set i.actors.items a.at z) (known events) events i.present i.next_pid (counted i.bounces i.deliveries)) places w.world);
+      room = rw (room.actors, stood, living_still i.actors.items a.at a.here.held z a.here.is paid.ended) (c.in_ok-pay_with_room.ensures.stays (living i.actors.items) c.self.invariant.room);
+      booked = rw (room.actors, same, room.books, stood) w.booked;
+      piped = rw (room.actors, room.pipes, same, stood) w.piped;
+      started = rw (same) (subst (λ (f : List ℕ → Option ℕ). AreStarts c.room_for_one.new.starts i.crew f (starts_of (reverse events))) places
+          (same_starts i.starts c.room_for_one.new.starts i.crew (place_of i.places) (starts_of (reverse events)) room.starts c.self.invariant.started));
+    }
 
 -- what is due, and comes
-own_is : (g : _) (c : After-own_at-own g) (asked : ChildData) → c.args.due.now ≡ needs.Start asked → c.setting-at.result.now ≡ c.self.inside.present → c.setting-at.result.ready ≡ found_in (known c.self.inside.history.events.items) c.args.actor.now
-    → c.own_at-own.result ≡ bear_own c.self.inside.history.events.items c.self.inside.present c.args.actor.now c.setting-at.result.pid asked
+own_is : (g : _) (c : After-own_at-own g) (asked : ChildData) → c.args.due.now ≡ needs.Start asked → c.args.at.now ≡ c.self.inside.present → c.args.at.ready ≡ found_in (known c.self.inside.history.events.items) c.args.actor.now
+    → c.own_at-own.result ≡ bear_own c.self.inside.history.events.items c.self.inside.present c.args.actor.now c.args.at.pid asked
 own_is g c asked due at ready =
     let i = c.self.inside in
-    at_setting c.setting-at.result.now i.present c.setting-at.result.ready (found_in (known i.history.events.items) c.args.actor.now) c.args.due.now (needs.Start asked) (got.Started c.setting-at.result.pid) c.own_at-own.result
+    at_setting c.args.at.now i.present c.args.at.ready (found_in (known i.history.events.items) c.args.actor.now) c.args.due.now (needs.Start asked) (got.Started c.args.at.pid) c.own_at-own.result
     c.own_at-own.ensures at ready due
 
 pub take_in-did-requires-clause-may : goal.take_in-did-requires-clause-may
@@ -184,22 +165,22 @@ take_in-did-requires-clause-may g c =
     let i = c.self.inside in
     let events = i.history.events.items in
     let s = known events in
-    let k = due_here g at.After-setting-at in
+    let k = due_here g at.After-len in
     let a = k.asks in
     let x = c.index_mut-parent.result.now in
     let z = c.pay_with_room.new.actor in
-    let own = bear_own events i.present c.args.actor.now c.setting-at.result.pid k.asked in
+    let own = bear_own events i.present c.args.actor.now c.args.at.pid k.asked in
     let paid = c.in_ok-pay_with_room.ensures.paid in
-    may_at z.machine c.setting-at.result.now i.present c.setting-at.result.ready (found_in s c.args.actor.now) c.own_at-own.result own (now_is g at.After-setting-at) (ready_is g at.After-setting-at)
-    (own_is g at.After-own_at-own k.asked k.due_is (now_is g at.After-setting-at) (ready_is g at.After-setting-at))
-    (may_take i.actors.items s events i.present c.args.actor.now a.at a.parent a.here a.is x z (parent_read g at.After-index_mut-parent a.at a.here.held a.place a.here.is).1 paid.follows paid.awaits own refl refl (a.next ∙ k.due_is) tt (λ most. tt))
+    may_at z.machine c.args.at.now i.present c.args.at.ready (found_in s c.args.actor.now) c.own_at-own.result own (setting g at.After-len).now (setting g at.After-len).ready
+    (own_is g at.After-own_at-own k.asked k.due_is (setting g at.After-len).now (setting g at.After-len).ready)
+    (may_take i.actors.items s events i.present c.args.actor.now a.at a.parent a.here a.is x z (parent_read g at.After-index_mut-parent a.at a.here.held (parent_place g at.After-len a.at a.place) a.here.is).1 paid.follows paid.awaits own refl refl (a.next ∙ k.due_is) tt (λ most. tt))
 
 pub index_mut-requires : goal.index_mut-requires
 index_mut-requires g c =
     let at = goal.at.index_mut-requires g c in
-    let k = due_here g at.After-setting-at in
+    let k = due_here g at.After-len in
     let low = k.low in
-    let read = parent_read g at.After-index_mut-parent k.asks.at k.asks.here.held k.asks.place k.asks.here.is in
+    let read = parent_read g at.After-index_mut-parent k.asks.at k.asks.here.held (parent_place g at.After-len k.asks.at k.asks.place) k.asks.here.is in
     let wire = wire_at g at.After-unwrap-wire k.wire k.asks.here.held k.wire_is read.1 in
     let same = ap (λ (l : _). length l) c.in_ok-room_for_one.ensures.pipes in
     omega (arith, low, wire, same, c.room_for_one.new.mouths.ok.0)
@@ -219,38 +200,38 @@ mouth_is g c w wire low =
 pub start_actor-requires : goal.start_actor-requires
 start_actor-requires g c =
     let at = goal.at.start_actor-requires g c in
-    let k = due_here g at.After-setting-at in
-    let read = parent_read g at.After-index_mut-parent k.asks.at k.asks.here.held k.asks.place k.asks.here.is in
+    let k = due_here g at.After-len in
+    let read = parent_read g at.After-index_mut-parent k.asks.at k.asks.here.held (parent_place g at.After-len k.asks.at k.asks.place) k.asks.here.is in
     let wire = wire_at g at.After-unwrap-wire k.wire k.asks.here.held k.wire_is read.1 in
     let slot = slot_is g at.After-due_slot-number k.asked k.due_is in
     slot_low k.wire c.due_slot-number.result (length c.index_mut.result.now.slots.items) (subst (MayRunIn k.wire) (sym slot) k.runs_in) c.due_slot-number.type_inv
-    (c.self.invariant.3.slots k.wire c.index_mut.result.now (mouth_is g at.After-index_mut k.wire wire k.low))
+    (c.self.invariant.piped.slots k.wire c.index_mut.result.now (mouth_is g at.After-index_mut k.wire wire k.low))
 
 -- What is born
 
 asked_is : (g : _) (c : In_ok-born g) (asked : ChildData) → c.args.due.now ≡ needs.Start asked → c.in-Start.asked ≡ asked
 asked_is g c asked due = let both : ◌≡◌ {A = NeedData} (needs.Start c.in-Start.asked) (needs.Start asked) = sym c.in-Start.is ∙ due in cc
 
-born_is : (g : _) (c : In_ok-born g) (asked : ChildData) → c.in-Start.asked ≡ asked → c.setting-at.result.now ≡ c.self.inside.present
-    → child_of (counted c.self.inside.bounces c.self.inside.deliveries) c.args.actor.now asked c.setting-at.result.pid c.self.inside.present ≡ Some (c.in_ok-born.born.name, c.in_ok-born.born.program)
+born_is : (g : _) (c : In_ok-born g) (asked : ChildData) → c.in-Start.asked ≡ asked → c.args.at.now ≡ c.self.inside.present
+    → child_of (counted c.self.inside.bounces c.self.inside.deliveries) c.args.actor.now asked c.args.at.pid c.self.inside.present ≡ Some (c.in_ok-born.born.name, c.in_ok-born.born.program)
 born_is g c asked same now =
     let i = c.self.inside in
     let before = counted i.bounces i.deliveries in
-    let pid = c.setting-at.result.pid in
+    let pid = c.args.at.pid in
     ap (λ (asked : ChildData). child_of before c.args.actor.now asked pid i.present) (sym same) ∙ ap (child_of before c.args.actor.now c.in-Start.asked pid) (sym now)
     ∙ c.in_ok-born.ensures before c.counts_with-counts.ensures
 
 -- its machine
-begins_is : (g : _) (c : After-new-child g) (asked : ChildData) → c.in-Start.asked ≡ asked → c.setting-at.result.now ≡ c.self.inside.present
-    → child_of (counted c.self.inside.bounces c.self.inside.deliveries) c.args.actor.now asked c.setting-at.result.pid c.self.inside.present ≡ Some (c.in_ok-born.born.name, c.in_ok-born.born.program)
+begins_is : (g : _) (c : After-new-child g) (asked : ChildData) → c.in-Start.asked ≡ asked → c.args.at.now ≡ c.self.inside.present
+    → child_of (counted c.self.inside.bounces c.self.inside.deliveries) c.args.actor.now asked c.args.at.pid c.self.inside.present ≡ Some (c.in_ok-born.born.name, c.in_ok-born.born.program)
     → Begins c.new-child.result.machine c.in_ok-born.born.program
 begins_is g c asked same now born =
     let i = c.self.inside in
-    let pid = c.setting-at.result.pid in
+    let pid = c.args.at.pid in
     let m = c.in_ok-machine.machine in
     subst (λ (m : AnyMachine). Begins m c.in_ok-born.born.program) (sym c.new-child.ensures.machine)
     (machine_begins (counted i.bounces i.deliveries) c.args.actor.now asked pid i.present c.in_ok-born.born.name c.in_ok-born.born.program m born
-    (subst (λ (now : ℕ). IsMachineOf asked pid now m) now (subst (λ (asked : ChildData). IsMachineOf asked pid c.setting-at.result.now m) same c.in_ok-machine.ensures)))
+    (subst (λ (now : ℕ). IsMachineOf asked pid now m) now (subst (λ (asked : ChildData). IsMachineOf asked pid c.args.at.now m) same c.in_ok-machine.ensures)))
 
 -- it runs in a slot of its parent
 began_is : (g : _) (c : After-start_actor g) (d : ℕ) → c.due_slot-number.result ≡ d → HasStartedIn c.index_mut.result.now c.start_actor.new.self d c.in_ok-born.born.name
@@ -295,12 +276,12 @@ invariant_of-self-2 g c =
     let events = i.history.events.items in
     let s = known events in
     let before = counted i.bounces i.deliveries in
-    let k = due_here g at.After-setting-at in
+    let k = due_here g at.After-len in
     let a = k.asks in
-    let pid = c.setting-at.result.pid in
+    let pid = c.args.at.pid in
     let name = c.in_ok-born.born.name in
     let program = c.in_ok-born.born.program in
-    let now = now_is g at.After-setting-at in
+    let now = (setting g at.After-len).now in
     let asked = asked_is g at.In_ok-born k.asked k.due_is in
     let born = born_is g at.In_ok-born k.asked asked now in
     let due = a.next ∙ k.due_is in
@@ -308,9 +289,9 @@ invariant_of-self-2 g c =
     let z = c.pay_with_room.new.actor in
     let y = c.take_in-did.new.actor in
     let b = c.new-child.result in
-    let read = parent_read g at.After-index_mut-parent a.at a.here.held a.place a.here.is in
+    let read = parent_read g at.After-index_mut-parent a.at a.here.held (parent_place g at.After-len a.at a.place) a.here.is in
     let own = bear_own events i.present actor pid k.asked in
-    let same = own_is g at.After-own_at-own k.asked k.due_is now (ready_is g at.After-setting-at) in
+    let same = own_is g at.After-own_at-own k.asked k.due_is now (setting g at.After-len).ready in
     let paid = c.in_ok-pay_with_room.ensures.paid in
     let index = c.len-2.ensures ∙ ap (λ (l : List Kept). length l) c.in_ok-pay_with_room.ensures.same in
     let served = was_served i.actors.items s events i.present actor a.at a.parent a.here a.is x z read.1 paid.follows paid.awaits
@@ -319,13 +300,13 @@ invariant_of-self-2 g c =
     let items = c.in_ok-room_for_one.ensures.actors in
     let pushed = rw c.unwrap.ensures at c.push.ensures.items in
     let stood = set i.actors.items a.at y in
-    let actors : c.push.new.self.items ≡ stood ++ b ∷ [] = pushed ∙ ap (λ (l : List Held). set l c.unwrap-parent_at.result y ++ b ∷ []) items ∙ ap (λ (j : ℕ). set i.actors.items j y ++ b ∷ []) read.0 in
+    let actors : c.push.new.self.items ≡ stood ++ b ∷ [] = pushed ∙ ap (λ (l : List Held). set l c.args.at.place y ++ b ∷ []) items ∙ ap (λ (j : ℕ). set i.actors.items j y ++ b ∷ []) read.0 in
     let wire = wire_at g at.After-unwrap-wire k.wire a.here.held k.wire_is read.1 in
     let slot = slot_is g at.After-due_slot-number k.asked k.due_is in
     let made = c.new-child.ensures in
     let named : b.name ≡ name = made.name ∙ c.copy-2.ensures in
     let begun = begins_is g at.After-new-child k.asked asked now born in
-    let fresh = bear_new told i.crew places next i.actors.items i.mouths.items events i.present i.next_pid before actor a.at a.parent c.self.invariant.0 c.self.invariant.3 a.is a.alive a.here k.asked k.actor k.starts name program pid born due in
+    let fresh = bear_new told i.crew places next i.actors.items i.mouths.items events i.present i.next_pid before actor a.at a.parent c.self.invariant.world c.self.invariant.piped a.is a.alive a.here k.asked k.actor k.starts name program pid born due in
     let counts : counted c.counts_with-counts.result.0 c.counts_with-counts.result.1 ≡ counts_with before k.asked = c.counts_with-counts.ensures ∙ ap (counts_with before) asked in
     let within = k.within in
     let many : c.len.result ≡ length i.actors.items = c.len.ensures ∙ i.actors.ok.0 in
@@ -339,23 +320,24 @@ invariant_of-self-2 g c =
     let entries : c.enter-entry.new.self.entries.items ≡ i.books.entries.items ++ entry_by name (injection_of program) =
     c.enter-entry.ensures.entered ∙ ap (λ (l : List Entry). l ++ entry_by name (injection_of program)) c.in_ok-room_for_one.ensures.books in
     let entry : b.entry ≡ entry_after (length i.books.entries.items) program =
-    made.entry ∙ c.enter-entry.ensures.place ∙ ap (λ (l : List Entry). entry_after (length l) program) c.in_ok-room_for_one.ensures.books in (
-      rw (actors, event) (subst (IsWorld told (among_all i.crew next) (stood ++ b ∷ []) (known (events ++ kept.Child actor own name program ∷ [])) (events ++ kept.Child actor own name program ∷ []) i.present c.saturating_add-self-inside.result) (sym counts)
-          (bear_keeps told i.crew places next i.actors.items i.mouths.items events i.present i.next_pid before actor a.at a.parent c.self.invariant.0 c.self.invariant.3 a.is a.alive a.here k.asked k.actor k.starts name program pid born due
-          y b served.0 named made.ended made.owed made.status made.descriptors begun.follows begun.awaits c.saturating_add-self-inside.result c.saturating_add-self-inside.ensures placed)),
-      rw (actors) (c.put.ensures.room (living (stood ++ b ∷ [])) (room_less c.pay_with_room.new.history (c.len-events.result + 2) (living (stood ++ b ∷ []) + 1) (omega (arith, len, bound, wide)) c.in_ok-pay_with_room.ensures.holds)),
-      rw (actors, event, entries) (bear_booked told i.crew places next i.actors.items i.mouths.items events i.present i.next_pid before actor a.at a.parent c.self.invariant.0 c.self.invariant.3 a.is a.alive a.here k.asked k.actor k.starts name program pid born due
-          y b served.0 named made.ended made.owed made.status made.descriptors begun.follows begun.awaits i.books.entries.items c.self.invariant.2 entry),
-      rw (actors, event) (bear_piped told i.crew places next i.actors.items i.mouths.items events i.present i.next_pid before actor a.at a.parent c.self.invariant.0 c.self.invariant.3 a.is a.alive a.here k.asked k.actor k.starts name program pid born due
+    made.entry ∙ c.enter-entry.ensures.place ∙ ap (λ (l : List Entry). entry_after (length l) program) c.in_ok-room_for_one.ensures.books in record {
+      world = rw (actors, event) (subst (IsWorld told (among_all i.crew next) (stood ++ b ∷ []) (known (events ++ kept.Child actor own name program ∷ [])) (events ++ kept.Child actor own name program ∷ []) i.present c.saturating_add-self-inside.result) (sym counts)
+          (bear_keeps told i.crew places next i.actors.items i.mouths.items events i.present i.next_pid before actor a.at a.parent c.self.invariant.world c.self.invariant.piped a.is a.alive a.here k.asked k.actor k.starts name program pid born due
+          y b served.0 named made.ended made.owed made.status made.descriptors begun.follows begun.awaits c.saturating_add-self-inside.result c.saturating_add-self-inside.ensures placed));
+      room = rw (actors) (c.put.ensures.room (living (stood ++ b ∷ [])) (room_less c.pay_with_room.new.history (c.len-events.result + 2) (living (stood ++ b ∷ []) + 1) (omega (arith, len, bound, wide)) c.in_ok-pay_with_room.ensures.holds));
+      booked = rw (actors, event, entries) (bear_booked told i.crew places next i.actors.items i.mouths.items events i.present i.next_pid before actor a.at a.parent c.self.invariant.world c.self.invariant.piped a.is a.alive a.here k.asked k.actor k.starts name program pid born due
+          y b served.0 named made.ended made.owed made.status made.descriptors begun.follows begun.awaits i.books.entries.items c.self.invariant.booked entry);
+      piped = rw (actors, event) (bear_piped told i.crew places next i.actors.items i.mouths.items events i.present i.next_pid before actor a.at a.parent c.self.invariant.world c.self.invariant.piped a.is a.alive a.here k.asked k.actor k.starts name program pid born due
           y b served.0 named made.ended made.owed made.status made.descriptors begun.follows begun.awaits
           k.wire c.index_mut.result.now c.start_actor.new.self k.wire_is (mouth_is g at.After-index_mut k.wire wire k.low) k.four k.runs_in (began_is g at.After-start_actor (slot_of k.asked) slot)
           c.in_ok-own_pipes.own_pipes c.add_pipes-pipes.new.mouths.items (subst (λ (asked : ChildData). HasPipesFor asked c.in_ok-own_pipes.own_pipes) asked c.in_ok-own_pipes.ensures)
-          (placed_is g at.After-new-child k.wire wire) (slot_at c.unwrap-wire.result k.wire c.due_slot-number.result (slot_of k.asked) b.slot made.slot wire slot)),
-      rw (event) (subst (AreStarts c.add_other.new.self i.crew next) (sym (starts_push events (kept.Child actor own name program)))
+          (placed_is g at.After-new-child k.wire wire) (slot_at c.unwrap-wire.result k.wire c.due_slot-number.result (slot_of k.asked) b.slot made.slot wire slot));
+      started = rw (event) (subst (AreStarts c.add_other.new.self i.crew next) (sym (starts_push events (kept.Child actor own name program)))
           (mail_starts c.room_for_one.new.starts c.add_other.new.self i.crew (length i.actors.items) places next (starts_of (reverse events)) name within
           (c.add_other.ensures.order ∙ ap (λ (n : ℕ). c.room_for_one.new.starts.order.items ++ n ∷ []) last) c.add_other.ensures.newest fresh.new placed
-          (same_starts i.starts c.room_for_one.new.starts i.crew places (starts_of (reverse events)) c.in_ok-room_for_one.ensures.starts c.self.invariant.4))),
-    )
+          (same_starts i.starts c.room_for_one.new.starts i.crew places (starts_of (reverse events)) c.in_ok-room_for_one.ensures.starts c.self.invariant.started)
+          fresh.named put (so_many i.starts i.crew places (starts_of (reverse events)) i.actors.items s events i.present c.self.invariant.started c.self.invariant.world.kept within)));
+    }
 
 pub returns-clause-served : goal.returns-clause-served
 returns-clause-served g c =
@@ -365,21 +347,21 @@ returns-clause-served g c =
     let actor = c.args.actor.now in
     let places = place_of i.places in
     let events = i.history.events.items in
-    let k = due_here g at.After-setting-at in
+    let k = due_here g at.After-len in
     let a = k.asks in
-    let pid = c.setting-at.result.pid in
-    let now = now_is g at.After-setting-at in
+    let pid = c.args.at.pid in
+    let now = (setting g at.After-len).now in
     let born = born_is g at.In_ok-born k.asked (asked_is g at.In_ok-born k.asked k.due_is) now in
     let z = c.pay_with_room.new.actor in
     let y = c.take_in-did.new.actor in
-    let read = parent_read g at.After-index_mut-parent a.at a.here.held a.place a.here.is in
+    let read = parent_read g at.After-index_mut-parent a.at a.here.held (parent_place g at.After-len a.at a.place) a.here.is in
     let own = bear_own events i.present actor pid k.asked in
-    let same = own_is g at.After-own_at-own k.asked k.due_is now (ready_is g at.After-setting-at) in
+    let same = own_is g at.After-own_at-own k.asked k.due_is now (setting g at.After-len).ready in
     let paid = c.in_ok-pay_with_room.ensures.paid in
     let index = c.len-2.ensures ∙ ap (λ (l : List Kept). length l) c.in_ok-pay_with_room.ensures.same in
     let served = was_served i.actors.items (known events) events i.present actor a.at a.parent a.here a.is c.index_mut-parent.result.now z read.1 paid.follows paid.awaits
     y own c.take_in-did.result.idle paid.name paid.descriptors paid.ended paid.status paid.stays (taken_at z y c.own_at-own.result own _ (length events) c.take_in-did.result.idle same index c.take_in-did.ensures.taken) in
     let did = c.take_in-did.ensures.did in
     rw (← c.self.view_is, put_is g at.After-put own same) (bear_serves told i.crew places (place_of c.add.new.self) i.actors.items i.mouths.items events i.present i.next_pid (counted i.bounces i.deliveries) actor a.at a.parent
-    c.self.invariant.0 c.self.invariant.3 a.is a.alive a.here k.asked k.actor k.starts c.in_ok-born.born.name c.in_ok-born.born.program pid born (a.next ∙ k.due_is)
-    g.D.CallFs.disk i.disk refl (c.setting-at.ensures.pid ∙ ap (λ (w : Seen _). next_pid w.events) (sym c.self.view_is)) c.take_in-did.result (did.0 ∙ index) did.1 served.1)
+    c.self.invariant.world c.self.invariant.piped a.is a.alive a.here k.asked k.actor k.starts c.in_ok-born.born.name c.in_ok-born.born.program pid born (a.next ∙ k.due_is)
+    g.D.CallFs.disk i.disk refl (c.requires.at.pid ∙ ap (λ (w : Seen _). next_pid w.events) (sym c.self.view_is)) c.take_in-did.result (did.0 ∙ index) did.1 served.1)

@@ -1,4 +1,4 @@
-use Rattle.std.proofs.Common.{◌≡◌, ℕ, ◌+◌, ◌-◌, ◌^◌, ◌<◌, min, List, [], ◌∷◌, ◌++◌, length, set, arith, Bool, true, false, Option, Some, None, IsSomeAnd, Ok, Err, is_some, refl, sym, ap, ◌∙◌, subst}
+use Rattle.std.proofs.Common.{◌≡◌, ℕ, ◌+◌, ◌-◌, ◌^◌, ◌<◌, min, List, [], ◌∷◌, ◌++◌, length, reverse, set, arith, Bool, true, false, Option, Some, None, IsSomeAnd, Ok, Err, is_some, refl, sym, ap, ◌∙◌, subst}
 use Rattle.std.specs.Prelude.{IsNone, IfSome, IfOk, IfErr}
 use Rattle.std.proofs.lemmas.List.{length-set}
 use Rattle.std.proofs.lemmas.Result.{err_from_is_err_and}
@@ -15,9 +15,9 @@ use Rattle.world_events.specs.declared.event.History.{History}
 use Rattle.world_pipes.specs.declared.mouths.Mouths.{Mouths}
 use Rattle.mail_world.specs.Books.{entries_of}
 use Rattle.mail_world.specs.ByKind.{Follows, awaits_of}
-use Rattle.mail_world.specs.Children.{IsDueOfChild, Serves, child_place, HasLeftIf}
+use Rattle.mail_world.specs.Children.{IsDueOfChild, IsSetting, Serves, child_place, HasLeftIf}
 use Rattle.mail_world.specs.Crew.{IsFoundAt}
-use Rattle.mail_world.specs.Generations.{Waits, has_idled}
+use Rattle.mail_world.specs.Generations.{Waits, has_idled, starts_of}
 use Rattle.mail_world.specs.History.{next_of}
 use Rattle.mail_world.specs.Places.{place_of}
 use Rattle.mail_world.specs.Inside.{among_all, known, living, StandsFor, Owes}
@@ -26,6 +26,7 @@ use Rattle.mail_world.specs.World.{IsStep, GoesOn, GoesByPlan, counted}
 use Rattle.mail_world.proofs.Starting.{acted_starts}
 use Rattle.mail_world.proofs.Booked.{entry_within}
 use Rattle.mail_world.proofs.Leaving.{child_at}
+use Rattle.mail_world.proofs.Placing.{stands_in}
 use Rattle.mail_world.proofs.Serving.{pipes_within}
 use Rattle.mail_world.proofs.Worlds.{StandsAt, stands_at, in_range, may_end}
 use Rattle.mail_world.proofs.Histories.{goes_on}
@@ -33,7 +34,7 @@ use Rattle.mail_world.proofs.Living.{living_still, living_within, left_many_if, 
 use Rattle.mail_world.proofs.Lists.{written_back}
 use Rattle.mail_world.proofs.Refusals.{no_end, not_gone, gone_exactly, memory_other, ok_other}
 use Rattle.mail_world.proofs.Served.{other_error, if_ok, if_err, either_way, waits_or, step_waits, step_planned}
-use Rattle.mail_world.proofs.Steps.{AreKept, StandsReady, paid_stands, looked_stands, next_by, asks_child, is_seated, paid_turned, looked_turned, turned_keeps, may_find, may_step, acted_leads, acted_keeps, acted_step, acted_waits, waited_waits, acted_idle, no_living_waits}
+use Rattle.mail_world.proofs.Steps.{AreKept, StandsReady, paid_stands, looked_stands, ready_found, next_by, asks_child, is_seated, paid_turned, looked_turned, turned_keeps, may_find, may_step, acted_leads, acted_keeps, acted_step, acted_waits, waited_waits, acted_idle, no_living_waits}
 use Rattle.mail_world.proofs.world.World.step.Goals as goal
 use Rattle.mail_world.proofs.world.World.step.Goals.{After-index_mut-acting, After-child_at-child, After-ready_at, In_ok-due, In-Some, In_default, After-serve-did, In_ok-did}
 
@@ -41,7 +42,7 @@ use Rattle.mail_world.proofs.world.World.step.Goals.{After-index_mut-acting, Aft
 keeps : (g : _) (c : After-index_mut-acting g) →
     AreKept (g.D.CallFs.disk c.self.inside.disk) c.self.inside.crew (place_of c.self.inside.places) c.self.inside.actors.items c.self.inside.mouths.items c.self.inside.books.entries.items
     c.self.inside.history.events.items c.self.inside.present c.self.inside.next_pid (counted c.self.inside.bounces c.self.inside.deliveries)
-keeps g c = record { world = c.self.invariant.0; booked = c.self.invariant.2; piped = c.self.invariant.3 }
+keeps g c = record { world = c.self.invariant.world; booked = c.self.invariant.booked; piped = c.self.invariant.piped }
 
 -- the actor that steps
 acting : (g : _) (c : After-index_mut-acting g) →
@@ -52,7 +53,7 @@ acting g c =
     let place = c.in_ok-place.place in
     let ok = c.in_ok-place.ensures.ok in
     stands_at (g.D.CallFs.disk i.disk) (among_all i.crew (place_of i.places)) i.actors.items (known i.history.events.items) i.history.events.items i.present i.next_pid (counted i.bounces i.deliveries) place c.args.actor.now c.index_mut-acting.result.now
-    c.self.invariant.0 ok.0 (subst (λ (l : List Held). IsSomeAnd (slice_get l place) (λ x. x.ended ≡ None)) c.deref.ensures.value ok.1) c.index_mut-acting.ensures.value
+    c.self.invariant.world ok.0 (subst (λ (l : List Held). IsSomeAnd (slice_get l place) (λ x. x.ended ≡ None)) c.deref.ensures.value ok.1) c.index_mut-acting.ensures.value
 
 -- the place of its child, if there is one
 placed : (g : _) (c : After-child_at-child g) → c.child_at-child.result ≡ child_place c.self.inside.mouths.items c.index_mut-acting.result.now.wire 0 c.self.inside.crew (place_of c.self.inside.places)
@@ -66,8 +67,8 @@ within : (g : _) (c : After-index_mut-acting g) (k : ℕ) → slice_get c.self.i
 within g c k is lives at =
     let i = c.self.inside in
     let x = c.index_mut-acting.result.now in
-    let there = child_at i.crew (place_of i.places) i.mouths.items i.actors.items (known i.history.events.items) i.history.events.items x.name x.wire c.self.invariant.3 (c.self.invariant.3.places c.in_ok-place.place x is lives) k at in
-    in_range (g.D.CallFs.disk i.disk) (among_all i.crew (place_of i.places)) i.actors.items (known i.history.events.items) i.history.events.items i.present i.next_pid (counted i.bounces i.deliveries) there.name c.self.invariant.0 k there.at
+    let there = child_at i.crew (place_of i.places) i.mouths.items i.actors.items (known i.history.events.items) i.history.events.items x.name x.wire c.self.invariant.piped (c.self.invariant.piped.places c.in_ok-place.place x is lives) k at in
+    in_range (g.D.CallFs.disk i.disk) (among_all i.crew (place_of i.places)) i.actors.items (known i.history.events.items) i.history.events.items i.present i.next_pid (counted i.bounces i.deliveries) there.name c.self.invariant.world k there.at
 
 -- it was paid, and finds this ready
 abbrev Ready_at : (g : _) (c : After-ready_at g) → Held → Type 0
@@ -111,7 +112,7 @@ pub living-requires : goal.living-requires
 living-requires g c =
     let i = c.self.inside in
     λ k place. subst (λ (l : List Held). k < length l) (sym c.deref.ensures.value)
-    (in_range (g.D.CallFs.disk i.disk) (among_all i.crew (place_of i.places)) i.actors.items (known i.history.events.items) i.history.events.items i.present i.next_pid (counted i.bounces i.deliveries) c.args.actor.now c.self.invariant.0 k place)
+    (in_range (g.D.CallFs.disk i.disk) (among_all i.crew (place_of i.places)) i.actors.items (known i.history.events.items) i.history.events.items i.present i.next_pid (counted i.bounces i.deliveries) c.args.actor.now c.self.invariant.world k place)
 
 pub returns-in_err-place-clause-gone : goal.returns-in_err-place-clause-gone
 returns-in_err-place-clause-gone g c =
@@ -120,7 +121,7 @@ returns-in_err-place-clause-gone g c =
     let why = c.in_err-place.field-0.0 in
     let none : IsNoLiving (among_all i.crew (place_of i.places)) i.actors.items c.args.actor.now why =
     subst (λ (l : List Held). IsNoLiving (among_all i.crew (place_of i.places)) l c.args.actor.now why) c.deref.ensures.value c.in_err-place.ensures.err in
-    rw (p.1, p.2, ← c.self.view_is) (gone_exactly (among_all i.crew (place_of i.places)) i.actors.items (known i.history.events.items) i.history.events.items i.present c.args.actor.now why c.self.invariant.0.kept none)
+    rw (p.1, p.2, ← c.self.view_is) (gone_exactly (among_all i.crew (place_of i.places)) i.actors.items (known i.history.events.items) i.history.events.items i.present c.args.actor.now why c.self.invariant.world.kept none)
 
 pub returns-in_err-place-clause-waiting : goal.returns-in_err-place-clause-waiting
 returns-in_err-place-clause-waiting g c =
@@ -128,16 +129,16 @@ returns-in_err-place-clause-waiting g c =
     let why = c.in_err-place.field-0.0 in
     let none : IsNoLiving (among_all i.crew (place_of i.places)) i.actors.items c.args.actor.now why =
     subst (λ (l : List Held). IsNoLiving (among_all i.crew (place_of i.places)) l c.args.actor.now why) c.deref.ensures.value c.in_err-place.ensures.err in
-    rw (← c.self.view_is) (λ waits. absurd (no_living_waits (among_all i.crew (place_of i.places)) i.actors.items (known i.history.events.items) i.history.events.items i.present c.args.actor.now why c.self.invariant.0.kept none waits))
+    rw (← c.self.view_is) (λ waits. absurd (no_living_waits (among_all i.crew (place_of i.places)) i.actors.items (known i.history.events.items) i.history.events.items i.present c.args.actor.now why c.self.invariant.world.kept none waits))
 
 pub invariant_of-self : goal.invariant_of-self
-invariant_of-self g c = (
-  rw (c.in_err-reserve.ensures.same) c.self.invariant.0,
-  c.in_err-reserve.ensures.stays (living c.self.inside.actors.items) c.self.invariant.1,
-  rw (c.in_err-reserve.ensures.same) c.self.invariant.2,
-  rw (c.in_err-reserve.ensures.same) c.self.invariant.3,
-  rw (c.in_err-reserve.ensures.same) c.self.invariant.4,
-)
+invariant_of-self g c = record {
+  world = rw (c.in_err-reserve.ensures.same) c.self.invariant.world;
+  room = c.in_err-reserve.ensures.stays (living c.self.inside.actors.items) c.self.invariant.room;
+  booked = rw (c.in_err-reserve.ensures.same) c.self.invariant.booked;
+  piped = rw (c.in_err-reserve.ensures.same) c.self.invariant.piped;
+  started = rw (c.in_err-reserve.ensures.same) c.self.invariant.started;
+}
 
 pub returns-in_err-reserve-clause-gone : goal.returns-in_err-reserve-clause-gone
 returns-in_err-reserve-clause-gone g c =
@@ -146,7 +147,7 @@ returns-in_err-reserve-clause-gone g c =
     let ok = c.in_ok-place.ensures.ok in
     let lives = subst (λ (l : List Held). IsSomeAnd (slice_get l c.in_ok-place.place) (λ x. x.ended ≡ None)) c.deref.ensures.value ok.1 in
     rw (← c.self.view_is) (not_gone c.from_residual-in_err-reserve.result i.history.events.items c.args.actor.now (memory_other c.from_residual-in_err-reserve.result (p.1 ∙ ap (λ (why : WorldError). Err why) p.2))
-    (no_end (among_all i.crew (place_of i.places)) i.actors.items (known i.history.events.items) i.history.events.items i.present c.args.actor.now c.in_ok-place.place c.self.invariant.0.kept ok.0 lives))
+    (no_end (among_all i.crew (place_of i.places)) i.actors.items (known i.history.events.items) i.history.events.items i.present c.args.actor.now c.in_ok-place.place c.self.invariant.world.kept ok.0 lives))
 
 pub child_at-child-requires : goal.child_at-child-requires
 child_at-child-requires g c =
@@ -159,7 +160,7 @@ child_at-child-requires g c =
 pub index_mut-acting-requires : goal.index_mut-acting-requires
 index_mut-acting-requires g c =
     let i = c.self.inside in
-    let within = in_range (g.D.CallFs.disk i.disk) (among_all i.crew (place_of i.places)) i.actors.items (known i.history.events.items) i.history.events.items i.present i.next_pid (counted i.bounces i.deliveries) c.args.actor.now c.self.invariant.0 c.in_ok-place.place c.in_ok-place.ensures.ok.0 in
+    let within = in_range (g.D.CallFs.disk i.disk) (among_all i.crew (place_of i.places)) i.actors.items (known i.history.events.items) i.history.events.items i.present i.next_pid (counted i.bounces i.deliveries) c.args.actor.now c.self.invariant.world c.in_ok-place.place c.in_ok-place.ensures.ok.0 in
     omega (arith, i.actors.ok.0)
 
 pub pay-requires : goal.pay-requires
@@ -177,7 +178,7 @@ returns-in_err-pay-clause-gone g c =
     let ok = c.in_ok-place.ensures.ok in
     let lives = subst (λ (l : List Held). IsSomeAnd (slice_get l c.in_ok-place.place) (λ x. x.ended ≡ None)) c.deref.ensures.value ok.1 in
     rw (← c.self.view_is) (not_gone c.from_residual-in_err-pay.result i.history.events.items c.args.actor.now (memory_other c.from_residual-in_err-pay.result (p.1 ∙ ap (λ (why : WorldError). Err why) p.2))
-    (no_end (among_all i.crew (place_of i.places)) i.actors.items (known i.history.events.items) i.history.events.items i.present c.args.actor.now c.in_ok-place.place c.self.invariant.0.kept ok.0 lives))
+    (no_end (among_all i.crew (place_of i.places)) i.actors.items (known i.history.events.items) i.history.events.items i.present c.args.actor.now c.in_ok-place.place c.self.invariant.world.kept ok.0 lives))
 
 -- its pipes are among those that are kept
 has_pipes : (g : _) (c : After-index_mut-acting g) (k : ℕ) → slice_get c.self.inside.actors.items c.in_ok-place.place ≡ Some c.index_mut-acting.result.now → c.index_mut-acting.result.now.ended ≡ None
@@ -185,7 +186,7 @@ has_pipes : (g : _) (c : After-index_mut-acting g) (k : ℕ) → slice_get c.sel
 has_pipes g c k is lives wire =
     let i = c.self.inside in
     (pipes_within i.crew (place_of i.places) i.mouths.items i.actors.items (known i.history.events.items) i.history.events.items i.present c.in_ok-place.place c.index_mut-acting.result.now
-    c.self.invariant.0.kept c.self.invariant.3 is lives k wire).1
+    c.self.invariant.world.kept c.self.invariant.piped is lives k wire).1
 
 pub ready_at-requires : goal.ready_at-requires
 ready_at-requires g c =
@@ -214,13 +215,13 @@ invariant_of-self-in_err-due g c =
     c.pay.new.self c.asks.new.self r looked in
     let same = c.in_ok-reserve.ensures.same in
     let w = subst (λ (l : List Held). AreKept told i.crew (place_of i.places) l i.mouths.items i.books.entries.items i.history.events.items i.present i.next_pid (counted i.bounces i.deliveries)) q.here q.world in
-    let room = c.in_ok-reserve.ensures.stays (living i.actors.items) c.self.invariant.1 in (
-      rw (same) w.world,
-      rw (living_still i.actors.items place c.index_mut-acting.result.now v at.0.is (looked.ended ∙ c.in_ok-pay.ensures.ended)) room,
-      rw (same) w.booked,
-      rw (same) w.piped,
-      rw (same) c.self.invariant.4,
-    )
+    let room = c.in_ok-reserve.ensures.stays (living i.actors.items) c.self.invariant.room in record {
+      world = rw (same) w.world;
+      room = rw (living_still i.actors.items place c.index_mut-acting.result.now v at.0.is (looked.ended ∙ c.in_ok-pay.ensures.ended)) room;
+      booked = rw (same) w.booked;
+      piped = rw (same) w.piped;
+      started = rw (same) c.self.invariant.started;
+    }
 
 pub returns-in_err-due-clause-gone : goal.returns-in_err-due-clause-gone
 returns-in_err-due-clause-gone g c =
@@ -229,7 +230,7 @@ returns-in_err-due-clause-gone g c =
     let ok = c.in_ok-place.ensures.ok in
     let lives = subst (λ (l : List Held). IsSomeAnd (slice_get l c.in_ok-place.place) (λ x. x.ended ≡ None)) c.deref.ensures.value ok.1 in
     rw (← c.self.view_is) (not_gone c.from_residual-in_err-due.result i.history.events.items c.args.actor.now (memory_other c.from_residual-in_err-due.result (p.1 ∙ ap (λ (why : WorldError). Err why) p.2))
-    (no_end (among_all i.crew (place_of i.places)) i.actors.items (known i.history.events.items) i.history.events.items i.present c.args.actor.now c.in_ok-place.place c.self.invariant.0.kept ok.0 lives))
+    (no_end (among_all i.crew (place_of i.places)) i.actors.items (known i.history.events.items) i.history.events.items i.present c.args.actor.now c.in_ok-place.place c.self.invariant.world.kept ok.0 lives))
 
 pub invariant_of-self-in-Some : goal.invariant_of-self-in-Some
 invariant_of-self-in-Some g c =
@@ -245,13 +246,13 @@ invariant_of-self-in-Some g c =
     c.pay.new.self c.asks.new.self r looked in
     let same = c.in_ok-reserve.ensures.same in
     let w = subst (λ (l : List Held). AreKept told i.crew (place_of i.places) l i.mouths.items i.books.entries.items i.history.events.items i.present i.next_pid (counted i.bounces i.deliveries)) q.here q.world in
-    let room = c.in_ok-reserve.ensures.stays (living i.actors.items) c.self.invariant.1 in (
-      rw (same) w.world,
-      rw (living_still i.actors.items place c.index_mut-acting.result.now v at.0.is (looked.ended ∙ c.in_ok-pay.ensures.ended)) room,
-      rw (same) w.booked,
-      rw (same) w.piped,
-      rw (same) c.self.invariant.4,
-    )
+    let room = c.in_ok-reserve.ensures.stays (living i.actors.items) c.self.invariant.room in record {
+      world = rw (same) w.world;
+      room = rw (living_still i.actors.items place c.index_mut-acting.result.now v at.0.is (looked.ended ∙ c.in_ok-pay.ensures.ended)) room;
+      booked = rw (same) w.booked;
+      piped = rw (same) w.piped;
+      started = rw (same) c.self.invariant.started;
+    }
 
 -- what of its child is due
 due_of_child : (g : _) (c : In-Some g) →
@@ -278,14 +279,25 @@ due_of_child g c r q =
     (next_by (g.D.CallFs.disk i.disk) i.crew (place_of i.places) i.actors.items i.mouths.items i.books.entries.items events i.present i.next_pid (counted i.bounces i.deliveries) place c.args.actor.now c.ready_at.result
     (λ d. d ≡ due) z v r q c.in_ok-due.ensures.looked.name next))
 
-pub serve-did-requires : goal.serve-did-requires
-serve-did-requires g c =
+pub serve-did-requires-clause-due : goal.serve-did-requires-clause-due
+serve-did-requires-clause-due g c =
     let i = c.self.inside in
-    let here = (goal.at.serve-did-requires g c).After-index_mut-acting in
-    let r = ready g (goal.at.serve-did-requires g c).After-ready_at (keeps g here) (acting g here) in
-    let q = asked g (goal.at.serve-did-requires g c).In_ok-due r in
+    let here = (goal.at.serve-did-requires-clause-due g c).After-index_mut-acting in
+    let r = ready g (goal.at.serve-did-requires-clause-due g c).After-ready_at (keeps g here) (acting g here) in
+    let q = asked g (goal.at.serve-did-requires-clause-due g c).In_ok-due r in
     subst (λ (l : List Kept). IsDueOfChild (record { disk = i.disk; events = l; present = i.present }) c.args.actor.now c.in-Some.due) (sym c.in_ok-reserve.ensures.same)
-    (due_of_child g (goal.at.serve-did-requires g c).In-Some r q)
+    (due_of_child g (goal.at.serve-did-requires-clause-due g c).In-Some r q)
+
+pub serve-did-requires-clause-at : goal.serve-did-requires-clause-at
+serve-did-requires-clause-at g c =
+    let i = c.self.inside in
+    let events = i.history.events.items in
+    let here = (goal.at.serve-did-requires-clause-at g c).After-index_mut-acting in
+    let r = ready g (goal.at.serve-did-requires-clause-at g c).After-ready_at (keeps g here) (acting g here) in
+    let found = ready_found (g.D.CallFs.disk i.disk) i.crew (place_of i.places) i.actors.items i.mouths.items i.books.entries.items events i.present i.next_pid (counted i.bounces i.deliveries) c.in_ok-place.place c.args.actor.now c.ready_at.result
+    c.pay.new.self r in
+    subst (λ (l : List Kept). IsSetting (record { disk = i.disk; events = l; present = i.present }) c.args.actor.now (record { now = i.present; ready = c.ready_at.result; pid = i.next_pid; place = c.in_ok-place.place })) (sym c.in_ok-reserve.ensures.same)
+    (record { now = refl; ready = found; pid = c.self.invariant.world.pid; place = sym (stands_in i.starts i.crew (place_of i.places) (starts_of (reverse events)) c.args.actor.now c.self.invariant.started) ∙ c.in_ok-place.ensures.ok.0 })
 
 -- what the world did for it
 served : (g : _) (c : After-serve-did g) →
@@ -348,7 +360,7 @@ returns-in-Some-clause-unknown g c =
     let i = c.self.inside in
     let events = i.history.events.items in
     let is = served g (goal.at.returns-in-Some-clause-unknown g c).After-serve-did in
-    let started = c.self.invariant.0.kept.started c.args.actor.now ∙ ap is_some c.in_ok-place.ensures.ok.0 in
+    let started = c.self.invariant.world.kept.started c.args.actor.now ∙ ap is_some c.in_ok-place.ensures.ok.0 in
     rw (← c.self.view_is) (
       (λ e. absurd (other_error c.serve-did.result c.args.actor.now why.Unknown c.serve-did.ensures.others (λ f. cc) (λ f. cc) e)),
       (λ f. let both : true ≡ false = sym started ∙ f in absurd (cc)),
@@ -362,7 +374,7 @@ returns-in-Some-clause-gone g c =
     let ok = c.in_ok-place.ensures.ok in
     let lives = subst (λ (l : List Held). IsSomeAnd (slice_get l c.in_ok-place.place) (λ x. x.ended ≡ None)) c.deref.ensures.value ok.1 in
     rw (← c.self.view_is) (not_gone c.serve-did.result events c.args.actor.now (λ name at. other_error c.serve-did.result c.args.actor.now (why.Gone name at) c.serve-did.ensures.others (λ f. cc) (λ f. cc))
-    (no_end (among_all i.crew (place_of i.places)) i.actors.items (known events) events i.present c.args.actor.now c.in_ok-place.place c.self.invariant.0.kept ok.0 lives))
+    (no_end (among_all i.crew (place_of i.places)) i.actors.items (known events) events i.present c.args.actor.now c.in_ok-place.place c.self.invariant.world.kept ok.0 lives))
 
 pub returns-in-Some-clause-waits : goal.returns-in-Some-clause-waits
 returns-in-Some-clause-waits g c =
@@ -456,6 +468,9 @@ act-requires-clause-paid g c =
     let v = c.asks.new.self in
     q.paid
 
+pub act-requires-clause-read : goal.act-requires-clause-read
+act-requires-clause-read g c = c.in_ok-due.ensures.read
+
 pub act-requires-clause-opens : goal.act-requires-clause-opens
 act-requires-clause-opens g c =
     let i = c.self.inside in
@@ -501,13 +516,13 @@ invariant_of-self-in_err-did g c =
     let w = subst (λ (l : List Held). AreKept told i.crew (place_of i.places) l c.act.new.mouths.items i.books.entries.items events i.present i.next_pid (counted i.bounces i.deliveries)) (q.same y)
     (turned_keeps told i.crew (place_of i.places) q.actors i.mouths.items c.act.new.mouths.items i.books.entries.items events i.present i.next_pid (counted i.bounces i.deliveries) place v y q.world q.at
     (looked_turned (known events) events i.present v y q.at.member q.at.lives q.paid looked) c.in_err-did.ensures.pipes) in
-    let room = c.in_ok-reserve.ensures.stays (living i.actors.items) c.self.invariant.1 in (
-      rw (same, disk) w.world,
-      rw (living_still i.actors.items place c.index_mut-acting.result.now y at.0.is (looked.ended ∙ c.in_ok-due.ensures.looked.ended ∙ c.in_ok-pay.ensures.ended), c.in_err-did.ensures.same) room,
-      rw (same) w.booked,
-      rw (same) w.piped,
-      rw (same) c.self.invariant.4,
-    )
+    let room = c.in_ok-reserve.ensures.stays (living i.actors.items) c.self.invariant.room in record {
+      world = rw (same, disk) w.world;
+      room = rw (living_still i.actors.items place c.index_mut-acting.result.now y at.0.is (looked.ended ∙ c.in_ok-due.ensures.looked.ended ∙ c.in_ok-pay.ensures.ended), c.in_err-did.ensures.same) room;
+      booked = rw (same) w.booked;
+      piped = rw (same) w.piped;
+      started = rw (same) c.self.invariant.started;
+    }
 
 pub returns-in_err-did-clause-gone : goal.returns-in_err-did-clause-gone
 returns-in_err-did-clause-gone g c =
@@ -516,7 +531,7 @@ returns-in_err-did-clause-gone g c =
     let ok = c.in_ok-place.ensures.ok in
     let lives = subst (λ (l : List Held). IsSomeAnd (slice_get l c.in_ok-place.place) (λ x. x.ended ≡ None)) c.deref.ensures.value ok.1 in
     rw (← c.self.view_is) (not_gone c.from_residual-in_err-did.result i.history.events.items c.args.actor.now (memory_other c.from_residual-in_err-did.result (p.1 ∙ ap (λ (why : WorldError). Err why) p.2))
-    (no_end (among_all i.crew (place_of i.places)) i.actors.items (known i.history.events.items) i.history.events.items i.present c.args.actor.now c.in_ok-place.place c.self.invariant.0.kept ok.0 lives))
+    (no_end (among_all i.crew (place_of i.places)) i.actors.items (known i.history.events.items) i.history.events.items i.present c.args.actor.now c.in_ok-place.place c.self.invariant.world.kept ok.0 lives))
 
 none_of : (o : Option Did) → ((d : Did) → o ≡ Some d → ⊥) → o ≡ None
 none_of None other = refl
@@ -545,13 +560,13 @@ invariant_of-self-in_default-did g c =
     let w = subst (λ (l : List Held). AreKept told i.crew (place_of i.places) l c.act.new.mouths.items i.books.entries.items events i.present i.next_pid (counted i.bounces i.deliveries)) (q.same y)
     (turned_keeps told i.crew (place_of i.places) q.actors i.mouths.items c.act.new.mouths.items i.books.entries.items events i.present i.next_pid (counted i.bounces i.deliveries) place v y q.world q.at
     (looked_turned (known events) events i.present v y q.at.member q.at.lives q.paid waited.looked) waited.same) in
-    let room = c.in_ok-reserve.ensures.stays (living i.actors.items) c.self.invariant.1 in (
-      rw (same, still.0) w.world,
-      rw (living_still i.actors.items place c.index_mut-acting.result.now y at.0.is (waited.looked.ended ∙ c.in_ok-due.ensures.looked.ended ∙ c.in_ok-pay.ensures.ended), still.1) room,
-      rw (same) w.booked,
-      rw (same) w.piped,
-      rw (same) c.self.invariant.4,
-    )
+    let room = c.in_ok-reserve.ensures.stays (living i.actors.items) c.self.invariant.room in record {
+      world = rw (same, still.0) w.world;
+      room = rw (living_still i.actors.items place c.index_mut-acting.result.now y at.0.is (waited.looked.ended ∙ c.in_ok-due.ensures.looked.ended ∙ c.in_ok-pay.ensures.ended), still.1) room;
+      booked = rw (same) w.booked;
+      piped = rw (same) w.piped;
+      started = rw (same) c.self.invariant.started;
+    }
 
 pub returns-in_default-did-clause-gone : goal.returns-in_default-did-clause-gone
 returns-in_default-did-clause-gone g c =
@@ -559,7 +574,7 @@ returns-in_default-did-clause-gone g c =
     let ok = c.in_ok-place.ensures.ok in
     let lives = subst (λ (l : List Held). IsSomeAnd (slice_get l c.in_ok-place.place) (λ x. x.ended ≡ None)) c.deref.ensures.value ok.1 in
     rw (← c.self.view_is) (not_gone _ i.history.events.items c.args.actor.now (λ name at e. absurd (cc))
-    (no_end (among_all i.crew (place_of i.places)) i.actors.items (known i.history.events.items) i.history.events.items i.present c.args.actor.now c.in_ok-place.place c.self.invariant.0.kept ok.0 lives))
+    (no_end (among_all i.crew (place_of i.places)) i.actors.items (known i.history.events.items) i.history.events.items i.present c.args.actor.now c.in_ok-place.place c.self.invariant.world.kept ok.0 lives))
 
 pub returns-in_default-did-clause-waits : goal.returns-in_default-did-clause-waits
 returns-in_default-did-clause-waits g c =
@@ -586,7 +601,7 @@ pub note-requires : goal.note-requires
 note-requires g c =
     let i = c.self.inside in
     let here = (goal.at.note-requires g c).After-index_mut-acting in
-    λ k own. entry_within i.crew i.books.entries.items i.actors.items i.history.events.items c.in_ok-place.place k c.index_mut-acting.result.now c.self.invariant.2 (acting g here).0.is own
+    λ k own. entry_within i.crew i.books.entries.items i.actors.items i.history.events.items c.in_ok-place.place k c.index_mut-acting.result.now c.self.invariant.booked (acting g here).0.is own
 
 -- what a step left, of the events that there were before room was made
 acted_of : (g : _) (c : In_ok-did g) (did : Did) → c.in_ok-did.did ≡ Some did
@@ -641,14 +656,14 @@ invariant_of-self-2 g c =
     (subst (λ (l : List Held). HasLeftIf (is_some did.ended) c.child_at-child.result l stood) (sym (q.same y)) left) in
     let len : c.len.result ≡ length i.actors.items = c.len.ensures ∙ i.actors.ok.0 in
     let grown = length-set i.actors.items place y in
-    let bound = living_within stood in (
-      rw (items) w.world,
-      rw (items) (c.in_ok-did.ensures.room (living stood) (room_less c.reserve.new.self (c.len.result + 1) (living stood + 1)
-          (omega (arith, len, bound, many, grown)) c.in_ok-reserve.ensures.room)),
-      rw (items) w.booked,
-      rw (items) w.piped,
-      acted_starts i.starts i.crew (place_of i.places) did.ended told (g.D.CallFs.disk c.act.new.disk) i.mouths.items c.act.new.mouths.items i.next_pid v y events c.act.new.history.events.items i.present c.ready_at.result acted c.self.invariant.4,
-    )
+    let bound = living_within stood in record {
+      world = rw (items) w.world;
+      room = rw (items) (c.in_ok-did.ensures.room (living stood) (room_less c.reserve.new.self (c.len.result + 1) (living stood + 1)
+          (omega (arith, len, bound, many, grown)) c.in_ok-reserve.ensures.room));
+      booked = rw (items) w.booked;
+      piped = rw (items) w.piped;
+      started = acted_starts i.starts i.crew (place_of i.places) did.ended told (g.D.CallFs.disk c.act.new.disk) i.mouths.items c.act.new.mouths.items i.next_pid v y events c.act.new.history.events.items i.present c.ready_at.result acted c.self.invariant.started;
+    }
 
 pub returns-clause-event : goal.returns-clause-event
 returns-clause-event g c =
@@ -669,7 +684,7 @@ returns-clause-event g c =
     i.present i.next_pid (counted i.bounces i.deliveries) place v y c.ready_at.result q.world q.at q.paid q.finds own
     i.disk c.act.new.disk c.args.actor.now did.ended q.name
     (subst (λ (pid : ℕ). HasActed did.ended told (g.D.CallFs.disk c.act.new.disk) i.mouths.items c.act.new.mouths.items pid v y events c.act.new.history.events.items i.present c.ready_at.result)
-    c.self.invariant.0.pid acted))
+    c.self.invariant.world.pid acted))
 
 pub returns-clause-idle : goal.returns-clause-idle
 returns-clause-idle g c =
@@ -717,7 +732,7 @@ returns-clause-gone g c =
     let ok = c.in_ok-place.ensures.ok in
     let lives = subst (λ (l : List Held). IsSomeAnd (slice_get l c.in_ok-place.place) (λ x. x.ended ≡ None)) c.deref.ensures.value ok.1 in
     rw (← c.self.view_is) (not_gone (Ok c.in-Some-did.did) i.history.events.items c.args.actor.now (ok_other c.in-Some-did.did)
-    (no_end (among_all i.crew (place_of i.places)) i.actors.items (known i.history.events.items) i.history.events.items i.present c.args.actor.now c.in_ok-place.place c.self.invariant.0.kept ok.0 lives))
+    (no_end (among_all i.crew (place_of i.places)) i.actors.items (known i.history.events.items) i.history.events.items i.present c.args.actor.now c.in_ok-place.place c.self.invariant.world.kept ok.0 lives))
 
 pub returns-clause-waiting : goal.returns-clause-waiting
 returns-clause-waiting g c =

@@ -34,7 +34,7 @@ pub living-requires : goal.living-requires
 living-requires g c =
     let i = c.self.inside in
     λ k place. subst (λ (l : List Held). k < length l) (sym c.deref.ensures.value)
-    (in_range (g.D.CallFs.disk i.disk) (among_all i.crew (place_of i.places)) i.actors.items (known i.history.events.items) i.history.events.items i.present i.next_pid (counted i.bounces i.deliveries) c.args.actor.now c.self.invariant.0 k place)
+    (in_range (g.D.CallFs.disk i.disk) (among_all i.crew (place_of i.places)) i.actors.items (known i.history.events.items) i.history.events.items i.present i.next_pid (counted i.bounces i.deliveries) c.args.actor.now c.self.invariant.world k place)
 
 pub returns-in_err-place-clause-gone : goal.returns-in_err-place-clause-gone
 returns-in_err-place-clause-gone g c =
@@ -43,12 +43,12 @@ returns-in_err-place-clause-gone g c =
     let why = c.in_err-place.field-0.0 in
     let none : IsNoLiving (among_all i.crew (place_of i.places)) i.actors.items c.args.actor.now why =
     subst (λ (l : List Held). IsNoLiving (among_all i.crew (place_of i.places)) l c.args.actor.now why) c.deref.ensures.value c.in_err-place.ensures.err in
-    rw (p.1, p.2, ← c.self.view_is) (gone_exactly (among_all i.crew (place_of i.places)) i.actors.items (known i.history.events.items) i.history.events.items i.present c.args.actor.now why c.self.invariant.0.kept none)
+    rw (p.1, p.2, ← c.self.view_is) (gone_exactly (among_all i.crew (place_of i.places)) i.actors.items (known i.history.events.items) i.history.events.items i.present c.args.actor.now why c.self.invariant.world.kept none)
 
 pub index_mut-stopped-requires : goal.index_mut-stopped-requires
 index_mut-stopped-requires g c =
     let i = c.self.inside in
-    let within = in_range (g.D.CallFs.disk i.disk) (among_all i.crew (place_of i.places)) i.actors.items (known i.history.events.items) i.history.events.items i.present i.next_pid (counted i.bounces i.deliveries) c.args.actor.now c.self.invariant.0 c.in_ok-place.place c.in_ok-place.ensures.ok.0 in
+    let within = in_range (g.D.CallFs.disk i.disk) (among_all i.crew (place_of i.places)) i.actors.items (known i.history.events.items) i.history.events.items i.present i.next_pid (counted i.bounces i.deliveries) c.args.actor.now c.self.invariant.world c.in_ok-place.place c.in_ok-place.ensures.ok.0 in
     omega (arith, i.actors.ok.0)
 
 -- the actor that is stopped
@@ -60,25 +60,25 @@ standing g c =
     let place = c.in_ok-place.place in
     let ok = c.in_ok-place.ensures.ok in
     stands_at (g.D.CallFs.disk i.disk) (among_all i.crew (place_of i.places)) i.actors.items (known i.history.events.items) i.history.events.items i.present i.next_pid (counted i.bounces i.deliveries) place c.args.actor.now c.index_mut-stopped.result.now
-    c.self.invariant.0 ok.0 (subst (λ (l : List Held). IsSomeAnd (slice_get l place) (λ x. x.ended ≡ None)) c.deref.ensures.value ok.1) c.index_mut-stopped.ensures.value
+    c.self.invariant.world ok.0 (subst (λ (l : List Held). IsSomeAnd (slice_get l place) (λ x. x.ended ≡ None)) c.deref.ensures.value ok.1) c.index_mut-stopped.ensures.value
 
 pub stop-requires-clause-opens : goal.stop-requires-clause-opens
 stop-requires-clause-opens g c =
     let i = c.self.inside in
     let at = standing g (goal.at.stop-requires-clause-opens g c).After-index_mut-stopped in
-    may_end (g.D.CallFs.disk i.disk) (among_all i.crew (place_of i.places)) i.actors.items (known i.history.events.items) i.history.events.items i.present i.next_pid (counted i.bounces i.deliveries) c.in_ok-place.place c.index_mut-stopped.result.now c.self.invariant.0 at.0
+    may_end (g.D.CallFs.disk i.disk) (among_all i.crew (place_of i.places)) i.actors.items (known i.history.events.items) i.history.events.items i.present i.next_pid (counted i.bounces i.deliveries) c.in_ok-place.place c.index_mut-stopped.result.now c.self.invariant.world at.0
 
 pub stop-requires-clause-room : goal.stop-requires-clause-room
 stop-requires-clause-room g c =
     let i = c.self.inside in
     let at = standing g (goal.at.stop-requires-clause-room g c).After-index_mut-stopped in
-    room_less i.history (living i.actors.items) 1 (living_some i.actors.items c.in_ok-place.place c.index_mut-stopped.result.now at.0.is at.0.lives) c.self.invariant.1
+    room_less i.history (living i.actors.items) 1 (living_some i.actors.items c.in_ok-place.place c.index_mut-stopped.result.now at.0.is at.0.lives) c.self.invariant.room
 
 -- what the world keeps
 keeps : (g : _) (c : After-index_mut-stopped g) →
     AreKept (g.D.CallFs.disk c.self.inside.disk) c.self.inside.crew (place_of c.self.inside.places) c.self.inside.actors.items c.self.inside.mouths.items c.self.inside.books.entries.items
     c.self.inside.history.events.items c.self.inside.present c.self.inside.next_pid (counted c.self.inside.bounces c.self.inside.deliveries)
-keeps g c = record { world = c.self.invariant.0; booked = c.self.invariant.2; piped = c.self.invariant.3 }
+keeps g c = record { world = c.self.invariant.world; booked = c.self.invariant.booked; piped = c.self.invariant.piped }
 
 pub stop-requires-clause-seat : goal.stop-requires-clause-seat
 stop-requires-clause-seat g c =
@@ -92,7 +92,7 @@ pub note-requires : goal.note-requires
 note-requires g c =
     let i = c.self.inside in
     let at = standing g (goal.at.note-requires g c).After-index_mut-stopped in
-    λ k own. entry_within i.crew i.books.entries.items i.actors.items i.history.events.items c.in_ok-place.place k c.index_mut-stopped.result.now c.self.invariant.2 at.0.is own
+    λ k own. entry_within i.crew i.books.entries.items i.actors.items i.history.events.items c.in_ok-place.place k c.index_mut-stopped.result.now c.self.invariant.booked at.0.is own
 
 -- the place of its child, if there is one
 placed : (g : _) (c : After-child_at-child g) → c.child_at-child.result ≡ child_place c.self.inside.mouths.items c.index_mut-stopped.result.now.wire 0 c.self.inside.crew (place_of c.self.inside.places)
@@ -106,8 +106,8 @@ within : (g : _) (c : After-index_mut-stopped g) (k : ℕ) → slice_get c.self.
 within g c k is lives at =
     let i = c.self.inside in
     let x = c.index_mut-stopped.result.now in
-    let there = child_at i.crew (place_of i.places) i.mouths.items i.actors.items (known i.history.events.items) i.history.events.items x.name x.wire c.self.invariant.3 (c.self.invariant.3.places c.in_ok-place.place x is lives) k at in
-    in_range (g.D.CallFs.disk i.disk) (among_all i.crew (place_of i.places)) i.actors.items (known i.history.events.items) i.history.events.items i.present i.next_pid (counted i.bounces i.deliveries) there.name c.self.invariant.0 k there.at
+    let there = child_at i.crew (place_of i.places) i.mouths.items i.actors.items (known i.history.events.items) i.history.events.items x.name x.wire c.self.invariant.piped (c.self.invariant.piped.places c.in_ok-place.place x is lives) k at in
+    in_range (g.D.CallFs.disk i.disk) (among_all i.crew (place_of i.places)) i.actors.items (known i.history.events.items) i.history.events.items i.present i.next_pid (counted i.bounces i.deliveries) there.name c.self.invariant.world k there.at
 
 pub child_at-child-requires : goal.child_at-child-requires
 child_at-child-requires g c =
@@ -151,22 +151,22 @@ invariant_of-self g c =
     let items = written_back i.actors.len stands c.leave.new.actors many (i.actors.ok.0 ∙ sym (length-set i.actors.items place y)) in
     let m = at.0.member in
     let t = finished (known events) x.name Stopped (Some m.actor) in
-    let leave = leaves i.crew (place_of i.places) i.mouths.items i.actors.items c.leave.new.actors (known events) events i.present x y x.wire Stopped m.actor c.self.invariant.0.kept c.self.invariant.3
-    (c.self.invariant.3.places place x at.0.is at.0.lives) place c.child_at-child.result at.0.is (placed g (goal.at.invariant_of-self g c).After-child_at-child) left in
-    let room = c.self.invariant.1 in (
-      rw (items) (stopped_keeps (g.D.CallFs.disk i.disk) (g.D.CallFs.disk c.stop.new.disk) (among_all i.crew (place_of i.places)) i.actors.items c.leave.new.actors i.mouths.items c.stop.new.mouths.items events later
-          i.present i.next_pid (counted i.bounces i.deliveries) place x y c.self.invariant.0 at.0 over leave),
-      rw (items) (c.stop.ensures.room (living c.leave.new.actors) (omega (arith, fewer, still, room))),
-      rw (items) (left_booked i.crew i.actors.items c.leave.new.actors (known events) t later place x y c.note.new.books.entries.items leave
+    let leave = leaves i.crew (place_of i.places) i.mouths.items i.actors.items c.leave.new.actors (known events) events i.present x y x.wire Stopped m.actor c.self.invariant.world.kept c.self.invariant.piped
+    (c.self.invariant.piped.places place x at.0.is at.0.lives) place c.child_at-child.result at.0.is (placed g (goal.at.invariant_of-self g c).After-child_at-child) left in
+    let room = c.self.invariant.room in record {
+      world = rw (items) (stopped_keeps (g.D.CallFs.disk i.disk) (g.D.CallFs.disk c.stop.new.disk) (among_all i.crew (place_of i.places)) i.actors.items c.leave.new.actors i.mouths.items c.stop.new.mouths.items events later
+          i.present i.next_pid (counted i.bounces i.deliveries) place x y c.self.invariant.world at.0 over leave);
+      room = rw (items) (c.stop.ensures.room (living c.leave.new.actors) (omega (arith, fewer, still, room)));
+      booked = rw (items) (left_booked i.crew i.actors.items c.leave.new.actors (known events) t later place x y c.note.new.books.entries.items leave
           (one_booked (among_all i.crew (place_of i.places)) i.crew i.actors.items events later place
-          x y i.books.entries.items c.note.new.books.entries.items (kept.Stop x.name) c.newest.result.now c.self.invariant.0.kept.placed c.self.invariant.2 at.0.is over.name over.stays.entry refl over.event c.newest.ensures
-          (λ none. ap entries_of (c.note.ensures.none none)) c.note.ensures.own)),
-      rw (items) (left_piped i.crew c.stop.new.mouths.items i.actors.items c.leave.new.actors (known events) t (known later) later place x y leave
+          x y i.books.entries.items c.note.new.books.entries.items (kept.Stop x.name) c.newest.result.now c.self.invariant.world.kept.placed c.self.invariant.booked at.0.is over.name over.stays.entry refl over.event c.newest.ensures
+          (λ none. ap entries_of (c.note.ensures.none none)) c.note.ensures.own));
+      piped = rw (items) (left_piped i.crew c.stop.new.mouths.items i.actors.items c.leave.new.actors (known events) t (known later) later place x y leave
           (finish_piped i.crew (among_all i.crew (place_of i.places)) (g.D.CallFs.disk i.disk) (g.D.CallFs.disk c.stop.new.disk) i.mouths.items c.stop.new.mouths.items i.actors.items events later i.present place x y
-          (kept.Stop x.name) Stopped None c.self.invariant.0.kept c.self.invariant.3 at.0.is at.0.lives m (stop_finishes x.name) tt (λ parent b z there mail other awaits. tt) over)),
-      subst (λ (l : List Kept). AreStarts i.starts i.crew (place_of i.places) (starts_of (reverse l))) (sym over.event)
-          (still_starts i.starts i.crew (place_of i.places) events (kept.Stop x.name) refl c.self.invariant.4),
-    )
+          (kept.Stop x.name) Stopped None c.self.invariant.world.kept c.self.invariant.piped at.0.is at.0.lives m (stop_finishes x.name) tt (λ parent b z there mail other awaits. tt) over));
+      started = subst (λ (l : List Kept). AreStarts i.starts i.crew (place_of i.places) (starts_of (reverse l))) (sym over.event)
+          (still_starts i.starts i.crew (place_of i.places) events (kept.Stop x.name) refl c.self.invariant.started);
+    }
 
 pub returns-clause-event : goal.returns-clause-event
 returns-clause-event g c =
@@ -184,7 +184,7 @@ returns-clause-goes_on g c =
     let now_kept = c.stop.new.history.events.items in
     rw (← c.self.view_is) (goes_on old new before now_kept i.present i.present
     (stopped_leads_on old new (among_all i.crew (place_of i.places)) i.actors.items i.mouths.items c.stop.new.mouths.items before now_kept i.present i.next_pid (counted i.bounces i.deliveries)
-    c.in_ok-place.place c.index_mut-stopped.result.now c.stop.new.self c.self.invariant.0 at.0 c.stop.ensures.stopped))
+    c.in_ok-place.place c.index_mut-stopped.result.now c.stop.new.self c.self.invariant.world at.0 c.stop.ensures.stopped))
 
 pub returns-clause-gone : goal.returns-clause-gone
 returns-clause-gone g c =
@@ -192,4 +192,4 @@ returns-clause-gone g c =
     let ok = c.in_ok-place.ensures.ok in
     let lives = subst (λ (l : List Held). IsSomeAnd (slice_get l c.in_ok-place.place) (λ x. x.ended ≡ None)) c.deref.ensures.value ok.1 in
     rw (← c.self.view_is) (not_gone (Ok tt) i.history.events.items c.args.actor.now (ok_other tt)
-    (no_end (among_all i.crew (place_of i.places)) i.actors.items (known i.history.events.items) i.history.events.items i.present c.args.actor.now c.in_ok-place.place c.self.invariant.0.kept ok.0 lives))
+    (no_end (among_all i.crew (place_of i.places)) i.actors.items (known i.history.events.items) i.history.events.items i.present c.args.actor.now c.in_ok-place.place c.self.invariant.world.kept ok.0 lives))

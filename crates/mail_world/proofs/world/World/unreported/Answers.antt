@@ -15,7 +15,7 @@ pub first_unreported-requires : goal.first_unreported-requires
 first_unreported-requires g c =
     let i = c.self.inside in
     λ lives. subst (λ (l : List Mouths). 3 < length l) (sym c.deref-2.ensures.value)
-    (spawner_piped i.crew i.mouths.items i.actors.items (known i.history.events.items) i.history.events.items c.self.invariant.3
+    (spawner_piped i.crew i.mouths.items i.actors.items (known i.history.events.items) i.history.events.items c.self.invariant.piped
     (subst (λ (l : List Held). lasts (slice_get (take i.crew l) 3) ≡ true) c.deref.ensures.value (sym c.spawner_lives-lives.ensures ∙ lives)))
 
 pub returns : goal.returns
@@ -27,4 +27,4 @@ returns g c =
     let low = subst (λ (l : List Mouths). IsLowest (λ d. lasts (slice_get (take i.crew i.actors.items) 3) && is_remote false (tenant_in (slice_get l 3) d)) c.args.from c.first_unreported.result)
     c.deref-2.ensures.value here in
     rw (← c.self.view_is) (lowest_told i.crew (place_of i.places) i.mouths.items i.actors.items (known i.history.events.items) i.history.events.items i.present c.args.from c.first_unreported.result
-    c.self.invariant.0.kept c.self.invariant.3 low)
+    c.self.invariant.world.kept c.self.invariant.piped low)

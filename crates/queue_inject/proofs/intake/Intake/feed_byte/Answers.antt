@@ -1,6 +1,6 @@
 use Rattle.std.proofs.Common.{ℕ, ◌+◌, ◌++◌, ◌∷◌, [], refl, sym, ◌∙◌, subst, true, false}
 use Rattle.queue_inject.specs.declared.intake.Intake.TheInside.{Inside}
-use Rattle.queue_inject.specs.Inside.{heard_of}
+use Rattle.queue_inject.specs.inside.Fields.{heard_of}
 use Rattle.queue_inject.specs.Stands.{Reads}
 use Rattle.queue_inject.proofs.Feeding.{reads_open, reads_closed}
 use Rattle.queue_inject.proofs.intake.Intake.feed_byte.Goals as goal

@@ -4,7 +4,8 @@ use Rattle.std.proofs.lemmas.Option.{get_or_from_slice_get}
 use Rattle.queue_law.specs.Books.{Books}
 use Rattle.send_jobs.specs.declared.attempts.Mark.{Mark}
 use Rattle.scenario.specs.declared.fates.Fates.{Fates}
-use Rattle.scenario.specs.Fates.{AreFates, entered_of}
+use Rattle.scenario.specs.Fates.{AreFates}
+use Rattle.scenario.specs.inside.Fates.{entered_of}
 use Rattle.scenario.proofs.Takings.{entered_more, not_past}
 use Rattle.scenario.proofs.fates.Fates.enter.Goals as goal
 use Rattle.scenario.proofs.fates.Fates.enter.Goals.{in-Some+in_ok-enter_mark, in_default}

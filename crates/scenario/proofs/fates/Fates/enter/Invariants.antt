@@ -1,6 +1,7 @@
 use Rattle.std.proofs.Common.{drop, take}
 use Rattle.queue_law.specs.Books.{Books}
-use Rattle.scenario.specs.Fates.{AreFates, entered_of}
+use Rattle.scenario.specs.Fates.{AreFates}
+use Rattle.scenario.specs.inside.Fates.{entered_of}
 use Rattle.scenario.proofs.fates.Fates.enter.Given as goal
 
 -- the recipients of the marks so far are entered

@@ -2,7 +2,7 @@ use Rattle.std.proofs.Common.{List, reverse, sym, subst}
 use Rattle.std.specs.List.{AllZip}
 use Rattle.std.proofs.lemmas.List.{take_all}
 use Rattle.world_events.specs.declared.event.Event.{Event as Kept}
-use Rattle.scenario.specs.Fates.{TellsRead}
+use Rattle.scenario.specs.inside.Fates.{TellsRead}
 use Rattle.scenario.proofs.Followed.{next_follows}
 use Rattle.scenario.proofs.ReadEvents.{inputs_read}
 use Rattle.scenario.proofs.fates.Following.of.Goals as goal

@@ -1,0 +1,13 @@
+-- A number of the command line.
+use Rattle.std.specs.Prelude.{◌^◌, ℕ, Option, Some, None, if◌then◌else◌, nat_lt, option_and_then}
+use Rattle.mail_bytes.specs.Decimal.{number_of}
+use Rattle.clap.specs.Words.{Text}
+
+-- the number, if a u32 holds it
+abbrev pub as_u32 : ℕ → Option ℕ
+as_u32 n = if nat_lt n (2 ^ 32) then Some n else None
+
+-- the user of a decimal text; 0 if there is no text
+abbrev pub uid_of : Option Text → Option ℕ
+uid_of None = Some 0
+uid_of (Some text) = option_and_then as_u32 (number_of text)

@@ -1,0 +1,4 @@
+-- the head of an input
+pub mod Heads
+-- how a header is searched
+pub mod Scanning

@@ -1,0 +1,138 @@
+// What the program and the threads of a child share besides its process and what it is fed.
+ghost use Rattle.std.specs.Prelude.{◌≡◌, ◌%◌, ◌^◌};
+
+use crate::shared::Reader;
+use crate::system::Process;
+use child_input::Writer;
+use std::io::{self, Write};
+use std::sync::atomic::{AtomicU64, Ordering};
+use std::sync::{Mutex, Wait};
+use std::time::Duration;
+
+/// How long a watcher sleeps at most before it looks again, in milliseconds.
+const LOOK: u64 = 1000;
+
+/// A child's reader, until that reads; whether it is through; whether the child's input was ended; and a count of what is done.
+#[derive(Drop)]
+pub(crate) struct Line {
+    pub(crate) reader: Mutex<Option<Reader>>,
+    over: AtomicU64,
+    ended: AtomicU64,
+    moves: AtomicU64,
+}
+
+impl Line {
+    /// No reader yet. Takes no memory.
+    pub(crate) fn new() -> Self {
+        Line {
+            reader: Mutex::new(None),
+            over: AtomicU64::new(0),
+            ended: AtomicU64::new(0),
+            moves: AtomicU64::new(0),
+        }
+    }
+
+    fn tell(&self) {
+        self.moves.fetch_add(1, Ordering::SeqCst);
+        self.moves.wake_all();
+    }
+
+    /// The child's reader is through, so nobody needs to watch the child.
+    pub(crate) fn let_go(&self) {
+        self.over.store(1, Ordering::SeqCst);
+        self.over.wake_all();
+        self.tell();
+    }
+
+    /// The program has ended the child's input.
+    pub(crate) fn end_input(&self) {
+        self.ended.store(1, Ordering::SeqCst);
+        self.tell();
+    }
+
+    /// Waits until the child's reader is through.
+    pub(crate) fn await_end<R: Wait>(&self, rt: &R) {
+        for _ in rt.forever() {
+            if self.over.load(Ordering::SeqCst) != 0 {
+                return;
+            }
+            self.over.park(rt, 0);
+        }
+    }
+
+    /// Waits until the child has ended, and from the end of its input on at most so many milliseconds after something was
+    /// written there. Answers whether it has ended.
+    fn watch<R: Wait>(&self, rt: &R, most: u64) -> bool {
+        let mut left = most;
+        for _ in rt.forever() {
+            let seen = self.moves.load(Ordering::SeqCst);
+            if self.over.load(Ordering::SeqCst) != 0 {
+                return true;
+            }
+            if self.ended.load(Ordering::SeqCst) == 0 {
+                self.moves.park(rt, low_half(seen));
+            } else if left == 0 {
+                return false;
+            } else {
+                left = self.after_nap(rt, seen, left, most);
+            }
+        }
+        unreachable!()
+    }
+
+    /// Sleeps until something is done, or for a while. Answers what is left of the time.
+    fn after_nap<R: Wait>(&self, rt: &R, seen: u64, left: u64, most: u64) -> u64 {
+        let slice = left.min(LOOK);
+        self.moves
+            .park_timeout(rt, low_half(seen), Duration::from_millis(slice));
+        if self.moves.load(Ordering::SeqCst) == seen {
+            left - slice
+        } else {
+            most
+        }
+    }
+}
+
+/// An input that tells a line of each write.
+struct Told<'a, I: Write> {
+    input: I,
+    line: &'a Line,
+}
+
+impl<'a, I: Write> Write for Told<'a, I> {
+    ghost contents = { λ t. I.contents t.input };
+
+    fn write(&mut self, buf: &[u8]) -> io::Result<usize> {
+        let count = self.input.write(buf)?;
+        self.line.tell();
+        Ok(count)
+    }
+
+    fn flush(&mut self) -> io::Result<()> {
+        self.input.flush()
+    }
+}
+
+/// What a child's writer does: it writes what is fed, and closes the input.
+pub(crate) fn run_writer<R: Wait, I: Write + Drop>(rt: &R, line: &Line, writer: Writer, input: I) {
+    let mut told = Told { input, line };
+    let _ = writer.write(rt, &mut told);
+    let Told { input, line } = told;
+    drop(input);
+    line.tell();
+}
+
+/// What a child's watcher does: it ends the child if it runs on for longer than this after its input was ended, in
+/// milliseconds, also if it reads no more of it.
+pub(crate) fn watch_child<R: Wait, P: Process>(rt: &R, line: &Line, process: &P, drain: u64) {
+    if !line.watch(rt, drain) {
+        process.kill();
+    }
+}
+
+/// The low 32 bits of a count.
+pub(crate) fn low_half(count: u64) -> u32
+    ensures { result ≡ count % 2 ^ 32 }
+{
+    (count % (1 << 32)) as u32
+}

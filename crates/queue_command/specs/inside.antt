@@ -1,0 +1,2 @@
+-- the parts of a netstring
+pub mod Reading

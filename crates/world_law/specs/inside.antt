@@ -1,0 +1,2 @@
+-- what lies between the sender and the local spawner
+pub mod Posts
