@@ -11,16 +11,7 @@ program=${QMAIL:-$top/qmail}
 work=$(mktemp -d)
 trap 'rm -rf "$work"' EXIT
 queue=$work/queue
-bad=0
-
-check() { # WHAT GOT EXPECTED
-  if [ "$2" = "$3" ]; then
-    echo "ok: $1"
-  else
-    echo "differs: $1: $2, and not $3"
-    bad=1
-  fi
-}
+. "$top/bench/check.sh"
 
 states() { # STATE ..: the lines of the numbers in these states
   "$program" audit "$queue" | grep -E "^[1-9][0-9]* ($(IFS='|' && echo "$*"))$" || true

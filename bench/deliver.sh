@@ -13,16 +13,7 @@ program=$(realpath "$program")
 work=$(mktemp -d)
 trap 'rm -rf "$work"' EXIT
 cd "$work"
-bad=0
-
-check() { # WHAT GOT EXPECTED
-  if [ "$2" = "$3" ]; then
-    echo "ok: $1"
-  else
-    echo "differs: $1: $2, and not $3"
-    bad=1
-  fi
-}
+. "$top/bench/check.sh"
 
 bytes() { od -An -v -tx1 | tr -d '\n' | sed 's/^ //'; } # what was printed, as hexadecimal digits
 
