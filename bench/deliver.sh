@@ -50,9 +50,11 @@ check "a crash" "$(tell 'kill -9 $$')" "$(printf 'Zqmail-remote crashed.\n.')"
 check "no such program" "$(request 7 1/1 a@x b@y | queue rspawn q ./nosuch | tail -c +3 | tr '\0' '.')" "$(printf 'Zqmail-remote crashed.\n.')"
 check "its group, and no other, ends" "$(tell 'kill 0; sleep 5')" "$(printf 'Zqmail-remote crashed.\n.')"
 check "its standard error goes nowhere" "$(tell "echo forged >&2; printf 'r\\0Kok\\0'" 2>&1)" "Kok."
-printf '#!/bin/sh\nhead -c 3000000 /dev/zero\n' > told
+crashed=$(printf 'Zqmail-remote crashed.\n.')
+check "a byte over a mebibyte of output, and status 0" "$(tell 'exec head -c 1048577 /dev/zero')" "$crashed"
+check "output without end" "$(tell 'exec cat /dev/zero')" "$crashed"
 request 7 1/1 a@x b@y | queue rspawn q ./told > out
-check "over a mebibyte of output: status" "$?" 54
+check "and the spawner ends well" "$?" 0
 check "no message" "$(request 0 2/25 a@x b@y | queue rspawn q ./program | tr '\0' '.')" "x.ZUnable to open the message. (#4.3.0)."
 check "no message file's name" "$(request 0 1/2 a@x b@y | queue rspawn q ./program | tr '\0' '.')" "x.ZBad request. (#4.3.0)."
 check "no such slot" "$(request 120 1/1 a@x b@y | queue rspawn q ./program | tail -c +3 | tr '\0' '.')" "ZBad request. (#4.3.0)."

@@ -89,6 +89,11 @@ after_feeding false bytes f = record f { is_open = false }
 abbrev pub after_end : Feeding → Feeding
 after_end f = record f { is_open = false }
 
+-- One end more was fed, or none if there was no memory for it; and none if nothing more might be fed.
+abbrev pub EndsOnce : Bool → Bool → Feed → Feed → Type 0
+EndsOnce result true before after = after ≡ fed_if result before fed.End
+EndsOnce result false before after = (result ≡ true) × (after ≡ before)
+
 -- These bytes were written, or if that failed the first of them.
 abbrev pub WritesText : Bool → Option (List ℕ) → Option (List ℕ) → List ℕ → Type 0
 WritesText is_whole before after text = (bytes : List ℕ) × (rest : List ℕ) × Appends before after bytes × (text ≡ bytes ++ rest) × (is_whole ≡ true → rest ≡ [])

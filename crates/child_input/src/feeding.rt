@@ -2,7 +2,7 @@
 ghost use Rattle.std.specs.Prelude.{◌≡◌, [], true, None, IfOk, IfSome, IfNone};
 ghost use Rattle.std.specs.Arc.{arc_value};
 ghost use Rattle.crossbeam_queue.specs.SegTies.{IsSeatOf, IsSegPassOf};
-ghost use Rattle.child_input.specs.Feedings.{IsPrefixOf, Steps, WritesFed, after_end, after_feeding, fed_if, feeder, feeding_of, nothing_fed, taken_on, writer};
+ghost use Rattle.child_input.specs.Feedings.{EndsOnce, IsPrefixOf, Steps, WritesFed, after_end, after_feeding, fed_if, feeder, feeding_of, nothing_fed, taken_on, writer};
 
 use crate::feed_rule::{Ends, Fed, Feed, Feeds, InTurn, Step, Takes};
 use crate::writing::{low_half, write_text};
@@ -204,6 +204,7 @@ impl Feeder {
     /// Ends the input: it is closed once all is written. Answers whether that was taken: not if there is no memory for it. Then
     /// what wasn't written yet needn't be.
     pub fn end<R: Wait>(&mut self, rt: &R) -> bool
+        ensures once { EndsOnce result self.old.is_open self.old.pass.me.view.client self.new.pass.me.view.client }
         ensures fed { feeding_of self.new.pass.me.view.client self.new.is_open ≡ after_end (feeding_of self.old.pass.me.view.client self.old.is_open) }
         ensures queue { arc_value self.new.inlet ≡ arc_value self.old.inlet }
     {

@@ -126,7 +126,8 @@ pub seated_apart : (i : ℕ) (program : Program) → RunsAt (Some i) program →
 seated_apart zero (Injector args) runs alone = runs
 seated_apart (suc zero) (Injector args) runs alone = runs
 seated_apart (suc (suc zero)) (Injector args) runs alone = runs
-seated_apart (suc (suc (suc i))) (Injector args) runs alone = runs
+seated_apart (suc (suc (suc zero))) (Injector args) runs alone = runs
+seated_apart (suc (suc (suc (suc i)))) (Injector args) runs alone = runs
 seated_apart i other runs alone = absurd alone
 
 -- each member of the generation before is over, or there was none

@@ -82,7 +82,8 @@ spawner_is a program runs spawns = by_name (whether (is_member a)) where
   no_other zero (LocalSpawner start) far runs spawns = runs
   no_other (suc zero) (LocalSpawner start) far runs spawns = runs
   no_other (suc (suc zero)) (LocalSpawner start) far runs spawns = far refl
-  no_other (suc (suc (suc at))) (LocalSpawner start) far runs spawns = runs
+  no_other (suc (suc (suc zero))) (LocalSpawner start) far runs spawns = runs
+  no_other (suc (suc (suc (suc at)))) (LocalSpawner start) far runs spawns = runs
   no_other at other far runs spawns = spawns
 
   by_four : IsOneOfFour a → a ≡ codes "lspawn"

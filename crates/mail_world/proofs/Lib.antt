@@ -124,3 +124,9 @@ pub mod Bearing
 pub mod Filling
 -- the names of the injectors of bounces
 pub mod Bounces
+-- a step of a parent: where it and its child stand, and what it is handed
+pub mod Parents
+-- what a world keeps after an event of a parent
+pub mod Wholes
+-- a step of an actor that lives
+pub mod Stepping

@@ -7,7 +7,7 @@ use Rattle.std.proofs.lemmas.Bool.{ltb-true, ltb-false}
 use Rattle.std.proofs.lemmas.List.Folds.{list_any-append}
 use Rattle.std.proofs.lemmas.Option.{slice_get_within}
 use Rattle.actor_names.specs.MailNames.{members}
-use Rattle.queue_law.proofs.Tests.{same_text, other_text}
+use Rattle.queue_law.proofs.Tests.{same_text}
 use Rattle.world_events.specs.declared.event.Event.{Event as Kept}
 use Rattle.world_events.specs.declared.starts.Starts.{Starts}
 use Rattle.mail_world.specs.declared.actor.Actor.{Actor as Held}

@@ -34,9 +34,9 @@ use Rattle.mail_world.specs.ByKind.{BearsIn, IsMail, Follows, CanFind, present_o
 use Rattle.mail_world.specs.declared.world.Did.{Did}
 use Rattle.mail_world.specs.Children.{IsDueOfChild, IsStart, IsGive, IsTake, MayTakeIn, HasTakenIn, Serves, place_by_name, child_place}
 use Rattle.mail_world.specs.Crew.{IsFoundAt}
-use Rattle.mail_world.specs.Generations.{idled_in, idled_by, has_idled, lives_in}
+use Rattle.mail_world.specs.Generations.{idled_in, idled_by, has_idled}
 use Rattle.mail_world.specs.History.{Actor, Life, State, latest, newborn, next_of, start_of, MayFind}
-use Rattle.mail_world.specs.History.Life.{Alive, Over, Stopped}
+use Rattle.mail_world.specs.History.Life.{Alive}
 use Rattle.mail_world.specs.Inside.{known, HasBorneLast, IsAwaited, Owes, RunsAt, RunsBy, unowed, StandsFor, span_by, life_by, IsMember, IsStranger, AreActors, has, is_by, AreApart, Owns, HasOpen, IsOpenTo, IsWorld, ArePiped, place_by, among_all}
 use Rattle.mail_world.specs.Readiness.{is_awaiting, found_at, found_by, found_in}
 use Rattle.mail_world.specs.Pipework.{Slot, Tenant, is_member}

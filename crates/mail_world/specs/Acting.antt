@@ -1,6 +1,7 @@
 -- One step of an actor: what it needs, and what it does to the disk, to the actor and to the history.
 use Rattle.std.specs.Prelude.{◌≡◌, ◌<◌, ◌≤◌, ◌⊎◌, ℕ, List, [], ◌∷◌, ◌++◌, length, Bool, true, false, Option, Some, None, IsTrue, IsSomeAnd}
 use Rattle.std.specs.List.{slice_get}
+use Rattle.actor_names.specs.MailNames.{members}
 use Rattle.call_fs.specs.Disk.{Disk}
 use Rattle.mail_bytes.specs.Told.{OnTold, Meets}
 use Rattle.call_fs.specs.Plan.{Plan}
@@ -84,7 +85,7 @@ pub record MayAct (disk : Option Disk) (machine : AnyMachine) (wire : Option ℕ
 -- the place of an actor's pipes, if it has some: then it is one of these, and each member has pipes
 pub record IsSeated (wire : Option ℕ) (mouths : List Mouths) : Type 0 where
   pub slots : HaveSlots mouths
-  pub four : (i : ℕ) → wire ≡ Some i → 4 ≤ length mouths
+  pub four : (i : ℕ) → wire ≡ Some i → length members ≤ length mouths
   pub within : (i : ℕ) → wire ≡ Some i → i < length mouths
 
 -- an actor keeps its pipes, its slot and its entry

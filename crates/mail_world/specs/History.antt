@@ -75,7 +75,7 @@ abbrev pub started_by : Event → ℕ
 started_by (Start a program) = 1
 started_by (Act a own wrote) = if starts_program own.due own.came then 1 else 0
 started_by (Child parent own a program) = 1
-started_by (Generation sender clean lspawn rspawn) = 4
+started_by (Generation sender clean lspawn rspawn) = length members
 started_by (Report slot output) = 0
 started_by (End a read ready status) = 0
 started_by (Stop a) = 0

@@ -1,5 +1,5 @@
 -- What the fields of a world mean, and what they keep.
-use Rattle.std.specs.Prelude.{◌≡◌, ◌≢◌, ◌⊎◌, ℕ, zero, suc, ◌+◌, ◌≤◌, ◌<◌, List, [], ◌∷◌, ◌++◌, All, length, reverse, drop, count_by, nat_lt, Bool, true, false, if◌then◌else◌, option_map, Option, Some, None, IsSome, IsSomeAnd, is_some, is_none, bytes_eq}
+use Rattle.std.specs.Prelude.{◌≡◌, ◌≢◌, ◌⊎◌, ℕ, ◌+◌, ◌≤◌, ◌<◌, List, [], ◌∷◌, ◌++◌, All, length, reverse, drop, count_by, nat_lt, Bool, true, false, if◌then◌else◌, option_map, Option, Some, None, IsSome, IsSomeAnd, is_some, is_none, bytes_eq}
 use Rattle.std.specs.List.{slice_get}
 use Rattle.call_fs.specs.Disk.{Disk}
 use Rattle.call_fs.specs.declared.modes.Mode.{Mode}
@@ -29,6 +29,10 @@ use Rattle.mail_world.specs.History.Life.{Alive, Over, Stopped}
 use Rattle.world_events.specs.Inputs.{own_in, with_inputs}
 use Rattle.mail_world.specs.Readiness.{is_awaiting, is_gone}
 use Rattle.actor_names.specs.ChildNames.{bounce_name, delivery_name, forward_of}
+use Rattle.actor_names.specs.MailNames.{members}
+use Rattle.actor_names.specs.Members.{member_at}
+use Rattle.actor_names.specs.declared.member.Member.{Member}
+use Rattle.actor_names.specs.declared.member.Member.TheVariants as member
 use Rattle.mail_world.specs.World.{Leads, Span, Counts, span_of, was_started, next_pid, counts_in}
 use Rattle.mail_world.specs.World.Span.{Unborn, Lasting, OverAt}
 -- lists of open descriptors
@@ -47,22 +51,32 @@ life_by None status = Alive
 life_by (Some at) (Some status) = Over status
 life_by (Some at) None = Stopped
 
+-- which program a member runs
+abbrev pub RunsAs : Member → Program → Type 0
+RunsAs member.Sender program = IsSender program
+RunsAs member.Cleaner program = IsCleaner program
+RunsAs member.LocalSpawner program = IsLocalSpawner program
+RunsAs member.RemoteSpawner program = IsRemoteSpawner program
+
+-- which one runs there if this member has its seat there; nobody else has one
+abbrev pub RunsSeated : Option Member → Program → Type 0
+RunsSeated None program = ⊥
+RunsSeated (Some seated) program = RunsAs seated program
+
+-- which one has its pipes there if this member has them there; and a delivery may, if no member has
+abbrev pub RunsPiped : Option Member → Program → Type 0
+RunsPiped None program = IsDelivery program
+RunsPiped (Some piped) program = RunsAs piped program
+
 -- which program runs at a seat, and which ones at none
 abbrev pub RunsAt : Option ℕ → Program → Type 0
 RunsAt None program = IsAlone program
-RunsAt (Some zero) program = IsSender program
-RunsAt (Some (suc zero)) program = IsCleaner program
-RunsAt (Some (suc (suc zero))) program = IsLocalSpawner program
-RunsAt (Some other) program = IsRemoteSpawner program
+RunsAt (Some seat) program = RunsSeated (member_at seat) program
 
--- which program has its pipes at a place: the members at the first four, and a delivery at any other; and who has none
+-- which program has its pipes at a place, and which ones have none
 abbrev pub RunsBy : Option ℕ → Program → Type 0
 RunsBy None program = IsMail program
-RunsBy (Some zero) program = IsSender program
-RunsBy (Some (suc zero)) program = IsCleaner program
-RunsBy (Some (suc (suc zero))) program = IsLocalSpawner program
-RunsBy (Some (suc (suc (suc zero)))) program = IsRemoteSpawner program
-RunsBy (Some other) program = IsDelivery program
+RunsBy (Some place) program = RunsPiped (member_at place) program
 
 -- what a machine has taken in of a past: not its newest event, if that is owed
 abbrev pub unowed : Option ℕ → List Own → List Own
@@ -232,7 +246,7 @@ pub record IsBorne (wires : List ℕ → Option ℕ) (s : State) (a : List ℕ) 
 pub record IsUnwired (wires : List ℕ → Option ℕ) (w : Pipework) (a : List ℕ) : Type 0 where
   pub place : wires a ≡ None
   pub slot : w.slots a ≡ None
-  pub pipes : (port : Port) → IsOwnPort 4 port → w.pipes a port ≡ fresh
+  pub pipes : (port : Port) → IsOwnPort (length members) port → w.pipes a port ≡ fresh
 
 -- What a world keeps of its pipes: those of the members, while one of them lives, then those of deliveries, and by `wires` at which place
 -- an actor has its own. No giving failed. Who lives has its pipes by its program, and so has who runs in a slot. Who has just started an
@@ -252,10 +266,10 @@ pub record ArePiped (crew : ℕ) (mouths : List Mouths) (actors : List Held) (s 
   pub fresh : (a : List ℕ) → s.actors a ≡ None → is_member a ≡ false → IsUnwired wires s.pipework a
   pub fed : (a : List ℕ) (x : Actor) → s.actors a ≡ Some x → x.life ≡ Alive → HasBorneLast x.past → MayFeed s events a
   pub awaited : (c : List ℕ) (x : Actor) → s.actors c ≡ Some x → IsMail x.program → is_awaiting s c ≡ true → IsAwaited s c
-  pub count : (length mouths ≡ 0) ⊎ ((4 ≤ length mouths) × (crew ≡ 4))
-  pub few : (crew ≡ 0) ⊎ (crew ≡ 4)
+  pub count : (length mouths ≡ 0) ⊎ ((length members ≤ length mouths) × (crew ≡ length members))
+  pub few : (crew ≡ 0) ⊎ (crew ≡ length members)
   pub many : crew ≤ length actors
-  pub seated : (i : ℕ) (x : Held) → i < crew → slice_get actors i ≡ Some x → x.ended ≡ None → 4 ≤ length mouths
+  pub seated : (i : ℕ) (x : Held) → i < crew → slice_get actors i ≡ Some x → x.ended ≡ None → length members ≤ length mouths
 
 -- not ended
 abbrev pub lives : Held → Bool

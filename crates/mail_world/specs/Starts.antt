@@ -1,6 +1,7 @@
 -- Who started, as a world keeps it.
 use Rattle.std.specs.Prelude.{◌≡◌, ℕ, suc, ◌+◌, ◌≤◌, ◌<◌, List, [], ◌∷◌, length, drop, true, not, Option, Some, None, if◌then◌else◌, is_some, is_none, bytes_eq}
 use Rattle.std.specs.List.{slice_get, list_any}
+use Rattle.actor_names.specs.MailNames.{members}
 use Rattle.mail_world.specs.Pipework.{is_member}
 use Rattle.mail_world.specs.Wired.{seat}
 use Rattle.mail_world.specs.Inside.{place_by, among_all}
@@ -39,7 +40,7 @@ number_from n (b ∷ later) a = if is_member b then number_from n later a else (
 
 -- how many members there are, and the place of an actor among all
 abbrev pub crew_in : List (List ℕ) → ℕ
-crew_in names = if list_any is_member names then 4 else 0
+crew_in names = if list_any is_member names then length members else 0
 
 abbrev pub place_in : List (List ℕ) → List ℕ → Option ℕ
 place_in names a = place_by (crew_in names) (seat a) (number_from 0 names a)
@@ -49,7 +50,7 @@ place_in names a = place_by (crew_in names) (seat a) (number_from 0 names a)
 pub record AreStarts (starts : Starts) (crew : ℕ) (places : List ℕ → Option ℕ) (names : List (List ℕ)) : Type 0 where
   pub many : length starts.order.items ≡ length names
   pub known : (at : ℕ) (a : List ℕ) → slice_get names at ≡ Some a → is_some (among_all crew places a) ≡ true
-  pub seats : (at entry : ℕ) (a : List ℕ) → slice_get starts.order.items at ≡ Some entry → slice_get names at ≡ Some a → entry < 4 → is_member a ≡ true
+  pub seats : (at entry : ℕ) (a : List ℕ) → slice_get starts.order.items at ≡ Some entry → slice_get names at ≡ Some a → entry < length members → is_member a ≡ true
   pub placed : (at entry i : ℕ) (a : List ℕ) → slice_get starts.order.items at ≡ Some entry → slice_get names at ≡ Some a
       → place_by_entry crew starts.newest at (Some entry) ≡ Some i → among_all crew places a ≡ Some i
   pub last : (at entry : ℕ) (a : List ℕ) → slice_get starts.order.items at ≡ Some entry → slice_get names at ≡ Some a

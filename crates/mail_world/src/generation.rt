@@ -1,6 +1,8 @@
 // The members of a generation, and their start.
 ghost use Rattle.std.specs.Prelude.{◌≡◌, IfOk};
 ghost use Rattle.std.specs.List.{slice_get};
+ghost use Rattle.actor_names.specs.Members.{seat_of};
+ghost use Rattle.actor_names.specs.declared.member.Member.TheVariants as member;
 ghost use Rattle.mail_world.specs.Crew.{IsFirst, IsSeatedNew, AreNew, lasts};
 
 use crate::ActorName;
@@ -28,7 +30,7 @@ pub fn first_alive(crew: &[Actor]) -> Option<ActorName>
 
 /// Whether the remote spawner of these members lives.
 pub fn spawner_lives(crew: &[Actor]) -> bool
-    ensures { result ≡ lasts (slice_get crew.now 3) }
+    ensures { result ≡ lasts (slice_get crew.now (seat_of member.RemoteSpawner)) }
 {
     match crew.get(Member::RemoteSpawner.seat()) {
         Some(actor) => actor.ended.is_none(),

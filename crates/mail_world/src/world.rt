@@ -259,17 +259,18 @@ impl<D: CallFs> World<D> {
         let fresh = pipes_for(alloc, &self.mouths)?;
         actors.reserve(self.actors.len())?;
         // for its event, and for the stop of each actor, of these too
-        self.history.reserve(self.actors.len() + 5)?;
-        self.starts.make_room(4)?;
+        self.history
+            .reserve(self.actors.len() + (Member::COUNT + 1))?;
+        self.starts.make_room(Member::COUNT)?;
         let mut mails = self.actors.split_off(self.crew)?;
         actors.append(&mut mails).unwrap();
         self.actors = actors;
-        self.crew = 4;
+        self.crew = Member::COUNT;
         renew(&mut self.mouths, fresh);
         self.history.put(Event::Generation {
             start: self.present,
         });
-        self.next_pid = self.next_pid.saturating_add(4);
+        self.next_pid = self.next_pid.saturating_add(Member::COUNT as u32);
         self.starts.add_members();
         Ok(())
     }

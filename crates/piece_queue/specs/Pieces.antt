@@ -17,19 +17,21 @@ of_channel chan pieces = filter (is_of chan) pieces
 abbrev pub ends : Brought → Bool
 ends (came.Bytes count) = false
 ends came.End = true
+ends came.Cut = true
 ends came.Failed = true
 
 -- some bytes, which fit
 abbrev pub FitsRoom : Brought → Type 0
 FitsRoom (came.Bytes count) = (0 < count) × (count ≤ ROOM)
 FitsRoom came.End = Unit {0}
+FitsRoom came.Cut = Unit {0}
 FitsRoom came.Failed = Unit {0}
 
 -- each of these has some bytes, which fit, if it has any
 abbrev pub AllFit : List Piece → Type 0
 AllFit pieces = (k : ℕ) (x : Piece) → slice_get pieces k ≡ Some x → FitsRoom x.brought
 
--- it tells the end of its channel, or a failure
+-- it tells the end of its channel, that it was cut off, or a failure
 abbrev pub is_last : Piece → Bool
 is_last piece = ends piece.brought
 

@@ -16,6 +16,7 @@ pub record Reading : Type 0 where
 abbrev pub bytes_in : Brought → List ℕ → List ℕ
 bytes_in (came.Bytes count) bytes = take count bytes
 bytes_in came.End bytes = []
+bytes_in came.Cut bytes = []
 bytes_in came.Failed bytes = []
 
 abbrev pub read_as : Brought → List ℕ → Reading

@@ -11,7 +11,7 @@ impl Brought {
     {
         match self {
             Brought::Bytes(_) => false,
-            Brought::End | Brought::Failed => true,
+            Brought::End | Brought::Cut | Brought::Failed => true,
         }
     }
 }

@@ -10,6 +10,8 @@ pub enum Brought {
     Bytes(usize),
     /// The end of the channel.
     End,
+    /// More came than may come: the channel is cut off there, and the rest isn't told.
+    Cut,
     /// The channel couldn't be read.
     Failed,
 }

@@ -1,10 +1,12 @@
 -- What a channel's reader reads.
-use Rattle.std.specs.Prelude.{◌≡◌, ℕ, ◌-◌, ◌≤◌, List, [], take, Option, None, Some}
+use Rattle.std.specs.Prelude.{◌≡◌, ◌≢◌, ◌⊎◌, ℕ, ◌-◌, ◌≤◌, List, [], take, Option, None, Some}
 use Rattle.std.specs.Io.KnownBytes.{Consumes, IsAtEnd}
+use Rattle.std.specs.IoError.{error_kind}
+use Rattle.std.specs.declared.io.Error.{Error}
+use Rattle.std.specs.declared.io.ErrorKind.TheVariants.{Interrupted}
 use Rattle.piece_queue.specs.declared.piece.Brought.{Brought}
 use Rattle.piece_queue.specs.declared.piece.Brought.TheVariants as came
 use Rattle.piece_queue.specs.declared.piece.TheConstants.{ROOM}
-use Rattle.proc_runner.specs.declared.system.Exit.{Exit}
 
 -- So many bytes came, and lie at the start of `into`: what was to be read before it, and what is left. None came only at the end.
 pub record Comes (count : ℕ) (into : List ℕ) (before after : Option (List ℕ)) : Type 0 where
@@ -12,16 +14,24 @@ pub record Comes (count : ℕ) (into : List ℕ) (before after : Option (List �
   pub bytes : Consumes before after (take count into)
   pub end : count ≡ 0 → IsAtEnd after
 
--- what a reading brought is what was to be read
+-- What a reading brought is what was to be read. What came when it was cut off isn't brought.
 abbrev pub ReadsBytes : Brought → List ℕ → Option (List ℕ) → Option (List ℕ) → Type 0
 ReadsBytes (came.Bytes count) into before after = Consumes before after (take count into)
 ReadsBytes came.End into before after = Consumes before after [] × IsAtEnd after
-ReadsBytes came.Failed into before after = Unit {0}
+ReadsBytes other into before after = Unit {0}
 
--- the end is told only of a process that has ended
-abbrev pub EndsAfter : (Exit → Type 0) → Brought → Type 0
-EndsAfter ended came.End = (exit : Exit) × ended exit
-EndsAfter ended other = Unit {0}
+-- one of these errors came, and not only an interruption
+abbrev pub Breaks : (Error → Type 0) → Type 0
+Breaks may = (why : Error) × may why × (error_kind why ≢ Interrupted)
+
+-- the system told one of these errors in place of an end
+abbrev pub IsUntold : (Error → Type 0) → Type 0
+IsUntold errs = (why : Error) × errs why
+
+-- a failure is brought only for such a cause
+abbrev pub FailsFor : Type 0 → Brought → Type 0
+FailsFor Cause came.Failed = Cause
+FailsFor Cause other = Unit {0}
 
 -- so many bytes more may be printed
 abbrev pub MayPrint : Option ℕ → ℕ → Type 0
@@ -36,3 +46,8 @@ after_printing (Some left) count = Some (left - count)
 abbrev pub CountsPrinted : Brought → Option ℕ → Option ℕ → Type 0
 CountsPrinted (came.Bytes count) before after = MayPrint before count × (after ≡ after_printing before count)
 CountsPrinted other before after = after ≡ before
+
+-- it is cut off only where more came than may be printed
+abbrev pub CutsOff : Brought → Option ℕ → List ℕ → Option (List ℕ) → Option (List ℕ) → Type 0
+CutsOff came.Cut left into before after = (count : ℕ) × Comes count into before after × ¬ (MayPrint left count)
+CutsOff other left into before after = Unit {0}

@@ -1,5 +1,6 @@
 -- What posts tell of the pieces that were taken.
 use Rattle.std.specs.Prelude.{◌≡◌, ℕ, ◌+◌, ◌<◌, ◌≤◌, List, [], ◌∷◌, ◌++◌, take, drop, Option, Some, None}
+use Rattle.mail_bytes.specs.Told.{raised}
 use Rattle.outside.specs.declared.posts.Post.{Post}
 use Rattle.outside.specs.declared.posts.Post.TheVariants as post
 use Rattle.piece_queue.specs.declared.piece.Piece.{Piece}
@@ -33,11 +34,13 @@ abbrev pub HasRest : Option Rest → Type 0
 HasRest None = Unit {0}
 HasRest (Some r) = (r.from < r.count) × (r.count ≤ ROOM)
 
--- posts: of which queue, the pieces that were taken, what is left of the last one of them, and how many failures were told
+-- posts: of which queue, the pieces that were taken, what is left of the last one of them, how many cuts were among them, and how
+-- many failures were told
 pub record PostState : Type 0 where
   pub queue : PieceQueue
   pub got : List Piece
   pub left : Option Left
+  pub cuts : ℕ
   pub faults : ℕ
 
 -- what is left is kept if it has any bytes
@@ -57,16 +60,23 @@ IsGiven x from count answer into left = GivesLeft (left_from x from count) answe
 abbrev pub TellsPiece : Piece → Brought → Post → List ℕ → Option Left → Type 0
 TellsPiece x (came.Bytes count) answer into left = IsGiven x 0 count answer into left
 TellsPiece x came.End answer into left = (answer ≡ post.End x.chan) × (left ≡ None)
+TellsPiece x came.Cut answer into left = (answer ≡ post.End x.chan) × (left ≡ None)
 TellsPiece x came.Failed answer into left = (answer ≡ post.Failed x.chan) × (left ≡ None)
+
+-- a cut is counted, though its post is that of an end
+abbrev pub cuts_after : Brought → ℕ → ℕ
+cuts_after came.Cut cuts = raised cuts
+cuts_after other cuts = cuts
 
 -- Nothing was waiting; or a piece was taken, the next one of its channel, and this is its post.
 abbrev pub TellsNext : Post → List ℕ → PostState → PostState → Type 0
 TellsNext post.Turn into old new = new ≡ old
 TellsNext answer into old new = (x : Piece) × IsNext old.got x × (new.got ≡ old.got ++ x ∷ []) × TellsPiece x x.brought answer into new.left
+    × (new.cuts ≡ cuts_after x.brought old.cuts)
 
 -- The rest of a piece comes before the next one.
 abbrev pub TellsFrom : Option Left → Post → List ℕ → PostState → PostState → Type 0
-TellsFrom (Some l) answer into old new = (new.got ≡ old.got) × GivesLeft l answer into new.left
+TellsFrom (Some l) answer into old new = (new.got ≡ old.got) × (new.cuts ≡ old.cuts) × GivesLeft l answer into new.left
 TellsFrom None answer into old new = TellsNext answer into old new
 
 abbrev pub IsPostOf : Post → List ℕ → PostState → PostState → Type 0

@@ -6,6 +6,7 @@ ghost use Rattle.outside.specs.Children.{Starts};
 ghost use Rattle.outside.specs.Forms.{channels};
 ghost use Rattle.outside.specs.Streams.{CountsFailures};
 ghost use Rattle.child_input.specs.Feedings.{feeding_of, nothing_fed};
+ghost use Rattle.proc_runner.specs.Ends.{IsTold};
 ghost use Rattle.proc_runner.specs.Running.{EndsInput, Feeds, RunsMore, TellsStatus, child};
 
 use crate::desk::{Desk, ToRead, Work, run_desk};
@@ -182,16 +183,14 @@ impl<R: Wait + Drop, S: System> Children<R, S> {
             }
         };
         let number = born.number;
-        let Some(child) = adopt(&self.rt, &self.desk, made, reader, start.kind, born) else {
-            return Err(AllocError);
-        };
+        let child = adopt(&self.rt, &self.desk, made, reader, start.kind, born)?;
         self.running.push(child).unwrap();
         self.count = chan;
         Ok(Started::Chan { chan, pid: number })
     }
 }
 
-/// A child of this process, whose output is read from now on. None if there is no memory for that: the process was ended.
+/// A child of this process, whose output is read from now on. The error: out of memory; the process was ended.
 fn adopt<R: Wait, S: System>(
     rt: &R,
     desk: &Desk<S::Process, S::Input, S::Output>,
@@ -199,10 +198,10 @@ fn adopt<R: Wait, S: System>(
     reader: Reader,
     kind: Kind,
     born: Born<S::Process, S::Input, S::Output>,
-) -> Option<Running<S>>
-    ensures chan { IfSome result (λ child. child.chan ≡ reader.chan) }
-    ensures process { IfSome result (λ child. arc_value child.process ≡ arc_value born.process) }
-    ensures feeder { IfSome result (λ child. child.feeder ≡ made.feeder) }
+) -> Result<Running<S>, Memory>
+    ensures chan { IfOk result (λ child. child.chan ≡ reader.chan) }
+    ensures process { IfOk result (λ child. arc_value child.process ≡ arc_value born.process) }
+    ensures feeder { IfOk result (λ child. child.feeder ≡ made.feeder) }
 {
     let Made {
         line,
@@ -220,8 +219,8 @@ fn adopt<R: Wait, S: System>(
     let chan = reader.chan();
     *line.reader.lock(rt) = Some(reader);
     let Ok((shared, kept)) = twice(&process) else {
-        end_process(process.as_ref());
-        return None;
+        end_process(rt, process.as_ref());
+        return Err(AllocError);
     };
     let work = ToRead {
         line: theirs,
@@ -232,10 +231,10 @@ fn adopt<R: Wait, S: System>(
         left: most_printed(kind),
     };
     if desk.put(rt, Work::Read(work)).is_err() {
-        end_process(process.as_ref());
-        return None;
+        end_process(rt, process.as_ref());
+        return Err(AllocError);
     }
-    Some(Running {
+    Ok(Running {
         chan,
         process,
         line,
@@ -326,7 +325,7 @@ impl<R: Wait + Drop, S: System> Spawner for Children<R, S> {
     fn status(&mut self, chan: u32) -> Status
         ensures same { channels self.new.count ≡ channels self.old.count }
         ensures cause { CountsFailures self.old.faults self.new.faults (result ≡ Status.Failed) }
-        ensures told { TellsStatus S.Process.ends chan result
+        ensures told { TellsStatus (λ p. IsTold (S.Process.ends p) (S.Process.fate p)) chan result
             (map (λ r. child r.chan (arc_value r.process) (feeding_of r.feeder.pass.me.view.client r.feeder.is_open)) self.old.running.items) (map (λ r. child r.chan (arc_value r.process) (feeding_of r.feeder.pass.me.view.client r.feeder.is_open)) self.new.running.items) }
     {
         let Some(place) = self.place_of(chan) else {

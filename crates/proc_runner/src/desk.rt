@@ -3,12 +3,12 @@
 use crate::line::{Line, low_half, run_writer, watch_child};
 use crate::outflow::{Outflow, end_process};
 use crate::shared::Reader;
-use crate::system::Process;
+use crate::system::{Process, Readable};
 use child_input::Writer;
 use mail_bytes::Memory;
 use std::alloc::Global;
 use std::collections::VecDeque;
-use std::io::{Read, Write};
+use std::io::Write;
 use std::sync::atomic::{AtomicU64, Ordering};
 use std::sync::{Arc, Mutex, Wait};
 use std::thread::{self, Threads};
@@ -19,7 +19,7 @@ const NAP: u64 = 10;
 
 /// A process whose output is to be read; `also` and `kept` are for the case that this can't begin.
 #[derive(Drop)]
-pub(crate) struct ToRead<P: Process, O: Read + Drop> {
+pub(crate) struct ToRead<P: Process, O: Readable> {
     pub(crate) line: Arc<Line, Global>,
     pub(crate) also: Arc<Line, Global>,
     pub(crate) process: Arc<P, Global>,
@@ -41,7 +41,7 @@ pub(crate) struct ToWrite<P: Process, I: Write + Drop> {
 
 /// What a thread is to be started for.
 #[derive(Drop)]
-pub(crate) enum Work<P: Process, I: Write + Drop, O: Read + Drop> {
+pub(crate) enum Work<P: Process, I: Write + Drop, O: Readable> {
     /// A reader.
     Read(ToRead<P, O>),
     /// A writer.
@@ -50,12 +50,12 @@ pub(crate) enum Work<P: Process, I: Write + Drop, O: Read + Drop> {
 
 /// What threads are to be started for, oldest first.
 #[derive(Drop)]
-pub(crate) struct Desk<P: Process, I: Write + Drop, O: Read + Drop> {
+pub(crate) struct Desk<P: Process, I: Write + Drop, O: Readable> {
     works: Mutex<VecDeque<Work<P, I, O>>>,
     changes: AtomicU64,
 }
 
-impl<P: Process, I: Write + Drop, O: Read + Drop> Desk<P, I, O> {
+impl<P: Process, I: Write + Drop, O: Readable> Desk<P, I, O> {
     /// Nothing is to be started yet. Takes no memory.
     pub(crate) fn new(alloc: Global) -> Self {
         Desk {
@@ -91,7 +91,7 @@ pub(crate) fn run_desk<
     R: Threads + Wait + Copy + Send + Drop + 'static,
     P: Process + Send + Sync + 'static,
     I: Write + Send + Drop + 'static,
-    O: Read + Send + Drop + 'static,
+    O: Readable + Send + 'static,
 >(rt: R, desk: &Desk<P, I, O>, drain: u64) {
     for _ in rt.forever() {
         let seen = desk.changes.load(Ordering::SeqCst);
@@ -107,7 +107,7 @@ pub(crate) fn run_desk<
 fn begin_reader<
     R: Threads + Wait + Copy + Send + Drop + 'static,
     P: Process + Send + Sync + 'static,
-    O: Read + Send + Drop + 'static,
+    O: Readable + Send + 'static,
 >(rt: R, work: ToRead<P, O>) {
     let ToRead {
         line,
@@ -123,7 +123,7 @@ fn begin_reader<
     if begun.is_ok() {
         return;
     }
-    end_process(kept.as_ref());
+    end_process(&rt, kept.as_ref());
     let reader = also.reader.lock(&rt).take();
     if let Some(reader) = reader {
         fail(&rt, reader);
@@ -159,7 +159,7 @@ fn begin_writer<
 }
 
 /// What a child's reader does: it reads the output to its end, and pushes what came.
-fn read_child<R: Wait, P: Process, O: Read + Drop>(
+fn read_child<R: Wait, P: Process, O: Readable>(
     rt: &R,
     line: &Line,
     process: &P,
@@ -168,7 +168,7 @@ fn read_child<R: Wait, P: Process, O: Read + Drop>(
 ) {
     let taken = line.reader.lock(rt).take();
     if let Some(reader) = taken {
-        let mut flow = Outflow::new(process, output, left);
+        let mut flow = Outflow::new(rt, process, output, left);
         let _ = reader.read(rt, &mut flow);
     }
     line.let_go();

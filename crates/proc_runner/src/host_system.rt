@@ -1,10 +1,10 @@
 // The processes of the real system: the trusted edge, whose lines over std no contract can judge.
 ghost use Rattle.std.specs.Prelude.{◌≡◌};
 
-use crate::start::{Kind, Start};
-use crate::system::{Born, Exit, Process, System};
+use crate::{Born, Exit, Kind, Process, Readable, Start, System};
+use piece_queue::ROOM;
 use std::alloc::Global;
-use std::io::{self, ErrorKind};
+use std::io::{self, ErrorKind, Read};
 use std::os::unix::process::CommandExt;
 use std::process::{Child, Command, OpenProcess, Processes, Stdio};
 use std::sync::{Arc, Mutex, Wait};
@@ -27,21 +27,47 @@ const NEW_GROUP: &str = "/usr/bin/setsid";
 /// no message is returned for a program that couldn't be run.
 const NOT_RUN: [i32; 2] = [126, 127];
 
-/// A process of the system, once it was started.
+/// A process of the system, once it was started, and whether its end is told as that of a signal, whatever it was.
+#[derive(Drop)]
+struct Held<C: Drop> {
+    child: Option<C>,
+    is_condemned: bool,
+}
+
+/// A process of the system.
 #[derive(Drop)]
 pub struct HostProcess<R: Processes + Wait + Clock + Drop> {
     rt: R,
-    child: Mutex<Option<Child<R::Started>>>,
+    held: Mutex<Held<Child<R::Started>>>,
     is_grouped: bool,
 }
 
+impl<R: Processes + Wait + Clock + Drop> HostProcess<R> {
+    /// Ends it; from then on its end is told as that of a signal, or as it was before.
+    fn end(&self, condemns: bool) {
+        let mut held = self.held.lock(&self.rt);
+        held.is_condemned = held.is_condemned || condemns;
+        if let Some(child) = &mut held.child {
+            let _ = child.kill();
+        }
+    }
+}
+
 impl<R: Processes + Wait + Clock + Drop> Process for HostProcess<R> {
+    ghost use Rattle.std.specs.Prelude.{None};
+
     ghost ends = { λ _ _. Unit {0} };
 
+    ghost fate = { λ _. None };
+
+    ghost errs = { λ _ _. Unit {0} };
+
     fn ask(&self) -> io::Result<Option<Exit>> {
-        let mut child = self.child.lock(&self.rt);
-        match &mut *child {
+        let mut held = self.held.lock(&self.rt);
+        let is_condemned = held.is_condemned;
+        match &mut held.child {
             Some(child) => match child.try_wait()? {
+                Some(_) if is_condemned => Ok(Some(Exit::Signal)),
                 Some(status) => Ok(Some(exit_of(status.code(), self.is_grouped))),
                 None => Ok(None),
             },
@@ -50,10 +76,11 @@ impl<R: Processes + Wait + Clock + Drop> Process for HostProcess<R> {
     }
 
     fn kill(&self) {
-        let mut child = self.child.lock(&self.rt);
-        if let Some(child) = &mut *child {
-            let _ = child.kill();
-        }
+        self.end(false);
+    }
+
+    fn condemn(&self) {
+        self.end(true);
     }
 
     fn nap(&self, time: Duration) {
@@ -67,6 +94,31 @@ fn exit_of(code: Option<i32>, is_grouped: bool) -> Exit {
         Some(code) if is_grouped && NOT_RUN.contains(&code) => Exit::Signal,
         Some(code) => Exit::Code(u8::try_from(code).unwrap_or(u8::MAX)),
         None => Exit::Signal,
+    }
+}
+
+/// A reader of std, whose errors no contract knows.
+#[derive(Drop)]
+pub struct StdReader<I: Read + Drop> {
+    input: I,
+}
+
+impl<I: Read + Drop> StdReader<I> {
+    /// Reads this.
+    pub fn new(input: I) -> Self
+        ensures { result.input ≡ input }
+    {
+        StdReader { input }
+    }
+}
+
+impl<I: Read + Drop> Readable for StdReader<I> {
+    ghost remaining = { λ r. I.remaining r.input };
+
+    ghost breaks = { λ _ _. Unit {0} };
+
+    fn read(&mut self, into: &mut [u8; ROOM]) -> io::Result<usize> {
+        self.input.read(into)
     }
 }
 
@@ -134,7 +186,7 @@ where
 
     type Input = <R::Started as OpenProcess>::Stdin;
 
-    type Output = <R::Started as OpenProcess>::Stdout;
+    type Output = StdReader<<R::Started as OpenProcess>::Stdout>;
 
     ghost gives = { λ _ _ _ _. Unit {0} };
 
@@ -146,7 +198,10 @@ where
         let rt = self.rt;
         let process = HostProcess {
             rt,
-            child: Mutex::new(None),
+            held: Mutex::new(Held {
+                child: None,
+                is_condemned: false,
+            }),
             is_grouped: matches!(start.kind, Kind::Delivery | Kind::Remote),
         };
         let process = Arc::new(alloc, process)?;
@@ -158,12 +213,12 @@ where
             let _ = child.wait();
             return Err(io::Error::from(ErrorKind::BrokenPipe));
         };
-        *process.child.lock(&rt) = Some(child);
+        process.held.lock(&rt).child = Some(child);
         Ok(Born {
             process,
             number,
             input,
-            output,
+            output: StdReader::new(output),
         })
     }
 }

@@ -18,9 +18,10 @@
 //!   waits for the child. A child whose feeding fails is killed, since it would take a part for the whole.
 //!
 //! What is bounded: the room of the queue; what a local delivery or a remote program may print (1 MiB, which its
-//! spawner keeps; at one byte more it is killed, and its channel fails and is counted). What lies before a writer is what the program fed, copied once. Room for a child, its reader and its
-//! pass are taken before it is started, so that no child runs that isn't known. Nobody spins: the program's thread rests in
-//! `RestingGate`, until a piece is pushed or a limit is over.
+//! spawner keeps). At one byte more it is killed: its channel is cut off, which is told as its end and counted
+//! (`ChildPosts::cuts`), and its status is that of a signal, also if it exited with 0 before. What lies before a writer is what the
+//! program fed, copied once. Room for a child, its reader and its pass are taken before it is started, so that no child runs that
+//! isn't known. Nobody spins: the program's thread rests in `RestingGate`, until a piece is pushed or a limit is over.
 //!
 //! What a child may touch: descriptors 0 and 1, and no other of ours; descriptor 2 is ours for this same program, and
 //! /dev/null for the programs of others. A local delivery and a remote program have a session, and so a process group, of
@@ -31,7 +32,9 @@
 //! - Each post is what the piece that was taken holds, and the rest of a piece comes before the next one. The pieces of a
 //!   channel come in order, each once, with `End` or a failure as the last: `ChildPosts` (by `IsPostOf`).
 //! - What was taken of a channel is a prefix of what its reader has pushed: `ChildPosts::compare`. What it pushes is what its
-//!   reading brought (`ReadsBytes`), with the end only once the process has ended (`EndsAfter`).
+//!   reading brought (`ReadsBytes`), with the end only once the process has ended. A channel is cut off only if more came than may be
+//!   printed (`CutsOff`), and then all who ask are told that a signal ended its process (`EndsAfter`). It fails only if a read did, or
+//!   the system didn't tell how the process ended (`FailsFor`).
 //! - A start, a feeding and a status of `Children` are those of the child of this channel and no other (by `RunsMore`, `Feeds`,
 //!   `EndsInput`, `TellsStatus`). All bytes of a feeding that was done stand behind what the child was fed before; after one
 //!   that failed each fails, and is counted.
@@ -56,10 +59,10 @@ mod system;
 
 pub use children::{Children, MOST_PRINTED};
 pub use drain::{DRAIN, LONGEST_DRAIN, drain_limit};
-pub use host_system::{HostProcess, HostSystem};
-pub use own_input::read_own_input;
+pub use host_system::{HostProcess, HostSystem, StdReader};
+pub use own_input::{OwnReading, read_own_input};
 pub use posts::ChildPosts;
 pub use resting::RestingGate;
 pub use shared::{Opener, Reader, Shared, Taker, Through, share};
 pub use start::{Kind, Start};
-pub use system::{Born, Exit, Process, System};
+pub use system::{Born, Exit, Process, Readable, System};

@@ -28,6 +28,7 @@ pub struct ChildPosts<R: Wait + Drop> {
     rt: R,
     taker: Taker,
     rest: Option<Rest>,
+    cuts: u64,
     faults: u64,
 }
 
@@ -42,6 +43,7 @@ impl<R: Wait + Drop> Model for ChildPosts<R> {
       queue = arc_value p.taker.queue;
       got = got_by p.taker.pass;
       left = option_map left_of p.rest;
+      cuts = p.cuts;
       faults = p.faults;
     } };
 
@@ -54,14 +56,24 @@ impl<R: Wait + Drop> ChildPosts<R> {
         ensures queue { result.queue ≡ arc_value taker.queue }
         ensures got { result.got ≡ got_by taker.pass }
         ensures left { result.left ≡ None }
+        ensures cuts { result.cuts ≡ 0 }
         ensures faults { result.faults ≡ 0 }
     {
         ChildPosts {
             rt,
             taker,
             rest: None,
+            cuts: 0,
             faults: 0,
         }
+    }
+
+    /// Of how many channels the end was told though they were cut off, since more came than may come; it stands still at u64's
+    /// last value. The status of such a child is that of a signal.
+    pub fn cuts(&self) -> u64
+        ensures { result ≡ self.now.cuts }
+    {
+        self.cuts
     }
 
     /// What was taken of a channel is a prefix of what its reader has pushed, and all of it once its last piece was taken
@@ -106,6 +118,10 @@ impl<R: Wait + Drop> Posts for ChildPosts<R> {
         match piece.brought {
             Brought::Bytes(count) => self.give(piece, 0, count, into),
             Brought::End => Post::End { chan: piece.chan },
+            Brought::Cut => {
+                self.cuts = self.cuts.saturating_add(1);
+                Post::End { chan: piece.chan }
+            }
             Brought::Failed => {
                 self.faults = self.faults.saturating_add(1);
                 Post::Failed { chan: piece.chan }
@@ -122,7 +138,7 @@ impl<R: Wait + Drop> ChildPosts<R> {
         requires within { (from < count) × (count ≤ ROOM) }
         ensures given { IsGiven piece from count result into.new self.new.left }
         ensures fits { FillsFront result (length into.old) }
-        ensures same { (self.new.got ≡ self.old.got) × (self.new.faults ≡ self.old.faults) × (self.new.queue ≡ self.old.queue) }
+        ensures same { (self.new.got ≡ self.old.got) × (self.new.cuts ≡ self.old.cuts) × (self.new.faults ≡ self.old.faults) × (self.new.queue ≡ self.old.queue) }
     {
         let len = into.len().min(count - from);
         into[..len].copy_from_slice(&piece.bytes[from..from + len]);

@@ -2,6 +2,7 @@
 ghost use Rattle.std.specs.Prelude.{◌≡◌, true};
 ghost use Rattle.std.specs.Arc.{arc_value};
 ghost use Rattle.child_input.specs.Feedings.{after_end, after_feeding, feeding_of};
+ghost use Rattle.proc_runner.specs.Ends.{IsTold};
 ghost use Rattle.proc_runner.specs.Running.{IsStatus};
 
 use crate::desk::{Desk, ToWrite, Work};
@@ -116,7 +117,7 @@ impl<S: System> Running<S> {
     /// How it ended. It waits for its reader, and not for its writer: one that is stuck, since something else holds the input
     /// open, is left behind.
     pub(crate) fn status<R: Wait>(self, rt: &R) -> Status
-        ensures { IsStatus (S.Process.ends (arc_value self.process)) result }
+        ensures { IsStatus (IsTold (S.Process.ends (arc_value self.process)) (S.Process.fate (arc_value self.process))) result }
     {
         let mut child = self;
         child.feeder.end(rt);

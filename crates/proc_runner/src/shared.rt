@@ -1,5 +1,5 @@
 // What the program's thread and its readers hold of the shared queue.
-ghost use Rattle.std.specs.Prelude.{◌≡◌, ◌+◌, ◌++◌, ◌∷◌, [], true, IfOk, IfErr, IfSome, IfNone};
+ghost use Rattle.std.specs.Prelude.{◌≡◌, ◌≤◌, ◌+◌, ◌^◌, ◌++◌, ◌∷◌, [], true, IfOk, IfErr, IfSome, IfNone};
 ghost use Rattle.std.specs.Arc.{arc_value};
 ghost use Rattle.crossbeam_queue.specs.Passes.{view, IsPassOf};
 ghost use Rattle.piece_queue.specs.Pieces.{Agree, HasLast, IsNext};
@@ -72,6 +72,7 @@ impl Opener {
     /// A reader of the next channel, from 0; None if no number is left for it. After an `Err` none was opened.
     pub fn open(&mut self) -> Result<Option<Reader>, Memory>
         ensures next { IfOk result (λ opened. IfSome opened (λ r. (r.chan ≡ self.old.next) × (self.new.next ≡ self.old.next + 1))) }
+        ensures none { IfOk result (λ opened. IfNone opened (2 ^ 32 ≤ self.old.next + 1)) }
         ensures queue { IfOk result (λ opened. IfSome opened (λ r. arc_value r.queue ≡ arc_value self.old.queue)) }
         ensures kept { arc_value self.new.queue ≡ arc_value self.old.queue }
     {

@@ -21,7 +21,7 @@ use Rattle.program_runner.specs.Outside.{AreKept, Outside, Does, Looks}
 use Rattle.program_runner.specs.Runs.{Change}
 use Rattle.program_runner.specs.Lines.{LineState, HasToWait, Serves, ready_of}
 use Rattle.program_runner.specs.Serving.{ByDone, IsGathered, IsPossible, IsServed, BringsSome, MayServe, PutsOut, Serving, SpawnerTold, Spawns, is_done}
-use Rattle.program_runner.specs.Members.{Acts, Asks, Beside, Idles, IsCarried, IsNoEnd, LeadsToNone, MayAct, Tends, Waits, uncounted}
+use Rattle.program_runner.specs.Members.{Acts, Asks, Beside, Idles, IsCarried, IsNoEnd, LeadsToNone, Look, MayAct, Tends, Waits, uncounted}
 use Rattle.program_runner.specs.Members.Step.{Acted, Looked}
 use Rattle.program_runner.proofs.Deeds.{kept_none, kept_one}
 use Rattle.program_runner.proofs.Serves.{asked_nothing}
@@ -187,10 +187,11 @@ module _ (words : ChildData → List (List ℕ)) (old new : Beside) (mid : LineS
       due_by : (args : A) (past : List Own) → looked args past → next args past now ready ≡ asked
       due_by args past l = sym (says args past l ∙ ap (λ (n : ℕ). next args past n found) present_is ∙ ap (λ (r : Ready). next args past now r) found_is)
 
-    pub waits : (due : NeedData) (o n : Outside) → asked ≡ due → Looks now o n → new.spawner ≡ old.spawner → HasToWait due mid → new.lines ≡ mid
-        → Waits next words before looked o n old new
-    waits due o n is outside spawner quiet lines =
-        record { due = due; on = no_end due mid quiet; idles = idles due o n is outside spawner (leads_to_none due mid quiet) lines; stands = looks }
+    pub waits : (look : Look) → look now ready → (due : NeedData) (o n : Outside) → asked ≡ due → Looks now o n → new.spawner ≡ old.spawner → HasToWait due mid → new.lines ≡ mid
+        → Waits next words before looked look o n old new
+    unfolding idles
+    waits look became due o n is outside spawner quiet lines =
+        record { due = due; on = no_end due mid quiet; idles = idles due o n is outside spawner (leads_to_none due mid quiet) lines; stands = looks; became = became }
 
 -- a look at the clock
 pub looks_so : (old new : Outside) (read : ℕ) → IsMoment read → old.last ≤ read → Records old.moments new.moments read → new.last ≡ read

@@ -17,7 +17,7 @@ use Rattle.program_runner.specs.Outside.{Outside, AreKept, Looks}
 use Rattle.program_runner.specs.Runs.{Change, Did}
 use Rattle.program_runner.specs.Lines.{Fosters, HasOne, IsFailedAnswer, IsFailedCall, brought, piece_of}
 use Rattle.program_runner.specs.Serving.{PostsTold, Answers, SpawnerTold, Spawns, BringsSome, HasBytes}
-use Rattle.program_runner.specs.Members.{Beside, Step, Acts, Idles, Waits, Asks, IsCarried, IsCut, IsRunOf, IsTurnOf, DidBeside, GoesOnStill, HasEndedSo, MayAct, Tends, WasCut, all_asked, all_calls, all_read, asked_in, calls_in, events_of, read_in}
+use Rattle.program_runner.specs.Members.{Beside, Look, Step, Acts, Idles, Waits, Asks, IsCarried, IsCut, IsRunOf, IsTurnOf, DidBeside, GoesOnStill, HasEndedSo, MayAct, Tends, WasCut, all_asked, all_calls, all_read, asked_in, calls_in, events_of, read_in}
 use Rattle.program_runner.specs.Members.Step.{Acted, Looked}
 use Rattle.program_runner.proofs.Deeds.{did_nothing, did_more, kept_more, kept_none, kept_one, meets_then, open_after}
 use Rattle.program_runner.proofs.Serves.{asked_nothing}
@@ -86,7 +86,7 @@ spawned_then a b old mid new d e = record {
 
 -- One turn more
 
-nothing_beside : (words : ChildData → List (List ℕ)) (b : Beside) → DidBeside words [] b b
+pub nothing_beside : (words : ChildData → List (List ℕ)) (b : Beside) → DidBeside words [] b b
 nothing_beside words b = record { moments = kept_none b.moments; posts = answered_nothing b.posts; none = tt; spawner = asked_nothing b.spawner; lines = refl }
 
 more_beside : (words : ChildData → List (List ℕ)) (turns : List Step) (step : Step) (old mid new : Beside) → DidBeside words turns old mid → Tends words step mid new
@@ -147,7 +147,7 @@ module _ {A : Type 0} (next : A → Table) (words : ChildData → List (List ℕ
     ran = record { run = λ args is. tt; due = λ args is. tt; some = λ h. tt; did = did_nothing start o later; did_beside = nothing_beside words b };
   }
 
-  acted : (room : ℕ) → (roomy → 0 < room) → (before after : A → List Own → Type 0) (change : Change) (turns : List Step) (old mid new : Outside) (b m n : Beside)
+  pub acted : (room : ℕ) → (roomy → 0 < room) → (before after : A → List Own → Type 0) (change : Change) (turns : List Step) (old mid new : Outside) (b m n : Beside)
       → ((args : A) → possible args → before args (events_of turns)) → IsRunOf next words roomy possible turns start old mid b m
       → (a : Acts next words room before after change mid new m n) → IsRunOf next words roomy possible (Acted a.asked a.on.event a.calls ∷ turns) start old new b n
   acted room has before after change turns old mid new b m n holds r a = record {
@@ -158,7 +158,7 @@ module _ {A : Type 0} (next : A → Table) (words : ChildData → List (List ℕ
     did_beside = more_beside words turns (Acted a.asked a.on.event a.calls) b m n r.did_beside a.tends;
   }
 
-  looked : (before : A → List Own → Type 0) (due : NeedData) (turns : List Step) (old mid new : Outside) (b m n : Beside) → new.moments ≡ None
+  pub looked : (before : A → List Own → Type 0) (due : NeedData) (turns : List Step) (old mid new : Outside) (b m n : Beside) → new.moments ≡ None
       → ((args : A) → possible args → before args (events_of turns)) → IsRunOf next words roomy possible turns start old mid b m
       → (i : Idles next words before due mid new m n) → IsRunOf next words roomy possible (Looked i.asked i.read i.ready due ∷ turns) start old new b n
   looked before due turns old mid new b m n none holds r i = record {
@@ -186,7 +186,7 @@ module _ {A : Type 0} (next : A → Table) (words : ChildData → List (List ℕ
     backed = open_after (events_of r.turns) old.disk now.disk r.ran.did.disk;
   }
 
-  module _ (before after : A → List Own → Type 0) (change : Change) (room : ℕ) (has : roomy → 0 < room) (count : ℕ) (old mid new : Outside) (b m n : Beside) (none : new.moments ≡ None)
+  module _ (before after : A → List Own → Type 0) (change : Change) (look : Look) (room : ℕ) (has : roomy → 0 < room) (count : ℕ) (old mid new : Outside) (b m n : Beside) (none : new.moments ≡ None)
       (r : GoesOnStill next words roomy before possible start count old mid b m) where
     on_acting : Acts next words room before after change mid new m n → GoesOnStill next words roomy after possible start (count + 1) old new b n
     on_acting a = record {
@@ -197,7 +197,7 @@ module _ {A : Type 0} (next : A → Table) (words : ChildData → List (List ℕ
       ran = acted room has before after change r.turns old mid new b m n r.holds r.ran a;
     }
 
-    on_waiting : Waits next words before after mid new m n → GoesOnStill next words roomy after possible start (count + 1) old new b n
+    on_waiting : Waits next words before after look mid new m n → GoesOnStill next words roomy after possible start (count + 1) old new b n
     on_waiting w = record {
       turns = Looked w.idles.asked w.idles.read w.idles.ready w.due ∷ r.turns;
       long = let long = r.long in omega arith;
@@ -206,9 +206,9 @@ module _ {A : Type 0} (next : A → Table) (words : ChildData → List (List ℕ
       ran = looked before w.due r.turns old mid new b m n none r.holds r.ran w.idles;
     }
 
-    pub turned_on : (result : Result (Option ℕ) AllocError) → result ≡ Ok None → IsTurnOf next words room before after change result mid new m n
+    pub turned_on : (result : Result (Option ℕ) AllocError) → result ≡ Ok None → IsTurnOf next words room before after change look result mid new m n
         → GoesOnStill next words roomy after possible start (count + 1) old new b n
-    turned_on result is t = ⊎_elim on_acting on_waiting (subst (λ o. IsTurnOf next words room before after change o mid new m n) is t)
+    turned_on result is t = ⊎_elim on_acting on_waiting (subst (λ o. IsTurnOf next words room before after change look o mid new m n) is t)
 
     on_ending : (status : ℕ) → Idles next words before (Ended status) mid new m n → HasEndedSo next words roomy possible start status old new b n
     on_ending status i = record {
@@ -220,9 +220,9 @@ module _ {A : Type 0} (next : A → Table) (words : ChildData → List (List ℕ
       ran = looked before (Ended status) r.turns old mid new b m n none r.holds r.ran i;
     }
 
-    pub turned_to_end : (result : Result (Option ℕ) AllocError) (status : ℕ) → result ≡ Ok (Some status) → IsTurnOf next words room before after change result mid new m n
+    pub turned_to_end : (result : Result (Option ℕ) AllocError) (status : ℕ) → result ≡ Ok (Some status) → IsTurnOf next words room before after change look result mid new m n
         → HasEndedSo next words roomy possible start status old new b n
-    turned_to_end result status is t = on_ending status (subst (λ o. IsTurnOf next words room before after change o mid new m n) is t)
+    turned_to_end result status is t = on_ending status (subst (λ o. IsTurnOf next words room before after change look o mid new m n) is t)
 
     cut_acting : Acts next words room before (λ args past. Unit {0}) (λ read ready came. Unit {0}) mid new m n → WasCut next words roomy possible start old new b n
     cut_acting a = record {
@@ -237,13 +237,13 @@ module _ {A : Type 0} (next : A → Table) (words : ChildData → List (List ℕ
     cut_asking : Asks mid new m n → WasCut next words roomy possible start old new b n
     cut_asking a = record { turns = r.turns; mid = mid; mid_beside = m; on = r.on; ran = r.ran; rest = inr a }
 
-    pub was_cut : (result : Result (Option ℕ) AllocError) (why : AllocError) → result ≡ Err why → IsTurnOf next words room before after change result mid new m n
+    pub was_cut : (result : Result (Option ℕ) AllocError) (why : AllocError) → result ≡ Err why → IsTurnOf next words room before after change look result mid new m n
         → WasCut next words roomy possible start old new b n
-    was_cut result why is t = ⊎_elim cut_acting cut_asking (subst (λ o. IsTurnOf next words room before after change o mid new m n) is t)
+    was_cut result why is t = ⊎_elim cut_acting cut_asking (subst (λ o. IsTurnOf next words room before after change look o mid new m n) is t)
 
 -- a turn that answered out of memory
-pub turn_cut : {A : Type 0} (next : A → Table) (words : ChildData → List (List ℕ)) (room : ℕ) (before after : A → List Own → Type 0) (change : Change) (result : Result (Option ℕ) AllocError)
-    (old new : Outside) (b n : Beside) → IsErr result → IsCut next words room before old new b n → IsTurnOf next words room before after change result old new b n
-turn_cut next words room before after change (Err why) old new b n e h = h
-turn_cut next words room before after change (Ok None) old new b n e h = absurd (cc)
-turn_cut next words room before after change (Ok (Some status)) old new b n e h = absurd (cc)
+pub turn_cut : {A : Type 0} (next : A → Table) (words : ChildData → List (List ℕ)) (room : ℕ) (before after : A → List Own → Type 0) (change : Change) (look : Look) (result : Result (Option ℕ) AllocError)
+    (old new : Outside) (b n : Beside) → IsErr result → IsCut next words room before old new b n → IsTurnOf next words room before after change look result old new b n
+turn_cut next words room before after change look (Err why) old new b n e h = h
+turn_cut next words room before after change look (Ok None) old new b n e h = absurd (cc)
+turn_cut next words room before after change look (Ok (Some status)) old new b n e h = absurd (cc)

@@ -81,6 +81,10 @@ pub record Tends (words : ChildData → List (List ℕ)) (step : Step) (old new 
 
 -- One turn
 
+-- what a machine became by a look, at a moment and with what was ready
+abbrev pub Look : Type 1
+Look = ℕ → Ready → Type 0
+
 -- what a program may do that is run so: all but the commands of a user
 abbrev pub IsCarried : NeedData → Type 0
 IsCarried (Command bytes) = ⊥
@@ -115,12 +119,13 @@ pub record Idles {A : Type 0} (next : A → Table) (words : ChildData → List (
   pub looks : Looks read old new
   pub tends : Tends words (Looked asked read ready due) beside now
 
--- It has to wait, so it hasn't ended, and stands for the same pasts as before.
-pub record Waits {A : Type 0} (next : A → Table) (words : ChildData → List (List ℕ)) (before after : A → List Own → Type 0) (old new : Outside) (beside now : Beside) : Type 0 where
+-- It has to wait, so it hasn't ended, and stands for the same pasts as before; and what it became by that look.
+pub record Waits {A : Type 0} (next : A → Table) (words : ChildData → List (List ℕ)) (before after : A → List Own → Type 0) (look : Look) (old new : Outside) (beside now : Beside) : Type 0 where
   pub due : NeedData
   pub on : IsNoEnd due
   pub idles : Idles next words before due old new beside now
   pub stands : (args : A) (past : List Own) → before args past → after args past
+  pub became : look idles.read idles.ready
 
 -- Nothing was done but to ask the posts and the clock.
 pub record Asks (old new : Outside) (beside now : Beside) : Type 0 where
@@ -138,12 +143,12 @@ IsCut next words room before old new beside now =
     Acts next words room before (λ args past. Unit {0}) (λ read ready came. Unit {0}) old new beside now ⊎ Asks old new beside now
 
 -- A turn, with room for so many bytes of a taking. It answers a status exactly if it finds the program at its end.
-abbrev pub IsTurnOf : {A : Type 0} → (A → Table) → (ChildData → List (List ℕ)) → ℕ → (A → List Own → Type 0) → (A → List Own → Type 0) → Change → Result (Option ℕ) AllocError → Outside → Outside → Beside → Beside → Type 0
-IsTurnOf next words room before after change (Ok None) old new beside now =
+abbrev pub IsTurnOf : {A : Type 0} → (A → Table) → (ChildData → List (List ℕ)) → ℕ → (A → List Own → Type 0) → (A → List Own → Type 0) → Change → Look → Result (Option ℕ) AllocError → Outside → Outside → Beside → Beside → Type 0
+IsTurnOf next words room before after change look (Ok None) old new beside now =
     Acts next words room before after change old new beside now
-    ⊎ Waits next words before after old new beside now
-IsTurnOf next words room before after change (Ok (Some status)) old new beside now = Idles next words before (Ended status) old new beside now
-IsTurnOf next words room before after change (Err why) old new beside now = IsCut next words room before old new beside now
+    ⊎ Waits next words before after look old new beside now
+IsTurnOf next words room before after change look (Ok (Some status)) old new beside now = Idles next words before (Ended status) old new beside now
+IsTurnOf next words room before after change look (Err why) old new beside now = IsCut next words room before old new beside now
 
 -- Whole runs
 

@@ -32,7 +32,8 @@ pub fn member_turn<M: Machine, D: CallFs, K: Clock, C: ChildWords, P: Posts, S: 
     requires finds { (m : M) (ready : Found) → M.can_find m ready }
     requires may { MayAct M.next (M.stands machine.old) (D.disk disk.old) }
     ensures { IsTurnOf M.next (C.words words.now) (M.takes_at_most machine.old) (M.stands machine.old) (M.stands machine.new)
-        (λ read found came. (mid : M) × M.looks machine.old read found mid × M.goes mid came machine.new) result
+        (λ read found came. (mid : M) × M.looks machine.old read found mid × M.goes mid came machine.new)
+        (λ read found. M.looks machine.old read found machine.new) result
         (record { disk = D.disk disk.old; calls = D.calls disk.old; disk_faults = D.faults disk.old; moments = None; last = K.last clock.old; left = None; input_faults = uncounted; taken = O.taken output.old; output_faults = O.faults output.old })
         (record { disk = D.disk disk.new; calls = D.calls disk.new; disk_faults = D.faults disk.new; moments = None; last = K.last clock.new; left = None; input_faults = uncounted; taken = O.taken output.new; output_faults = O.faults output.new })
         (record { moments = K.calls clock.old; posts = record { waiting = P.waiting posts.old; asked = P.calls posts.old; faults = P.faults posts.old }; spawner = record { children = S.children spawner.old; calls = S.calls spawner.old; faults = S.faults spawner.old }; lines = lines.old })

@@ -1,8 +1,8 @@
 -- The commands that a cleaner takes (qmail-clean(8)). `foop/7` and a NUL ask it to remove intd/7 and mess/7/7; `todo/7`
 -- and a NUL, intd/7 and todo/7.
 use Rattle.std.specs.Prelude.{◌≡◌, ◌↔◌, ℕ, ◌+◌, ◌^◌, ◌<◌, ◌≤◌, List, [], ◌∷◌, ◌++◌, length, take, drop, All, Option, Some, None, Bool, ◌&&◌, if◌then◌else◌, ◌==◌, nat_le, bytes_eq, codes, flat_map}
-use Rattle.mail_bytes.specs.Decimal.{digits, number_of}
-use Rattle.queue_paths.specs.Names.{Name}
+use Rattle.mail_bytes.specs.Decimal.{number_of}
+use Rattle.queue_paths.specs.Names.{Name, foop_command, todo_command}
 use Rattle.queue_paths.specs.Names.Name.{Of}
 use Rattle.queue_paths.specs.Names.Part.{Mess, Intd, Todo as TodoPart}
 use Rattle.queue_clean.specs.declared.command.Command.{Command}
@@ -14,8 +14,8 @@ use Rattle.mail_bytes.specs.Texts.{HasNoNul}
 
 -- its text, without its NUL
 abbrev pub text_of : Command → List ℕ
-text_of (Foop n) = codes "foop/" ++ digits n
-text_of (Todo n) = codes "todo/" ++ digits n
+text_of (Foop n) = foop_command n
+text_of (Todo n) = todo_command n
 
 -- the message that it is about
 abbrev pub message_of : Command → ℕ

@@ -639,7 +639,8 @@ seated_sender a None (Sender start) at runs sends = absurd runs
 seated_sender a (Some zero) program at runs sends = same_seat (codes "sender") a 0 refl at
 seated_sender a (Some (suc zero)) (Sender start) at runs sends = absurd runs
 seated_sender a (Some (suc (suc zero))) (Sender start) at runs sends = absurd runs
-seated_sender a (Some (suc (suc (suc i)))) (Sender start) at runs sends = absurd runs
+seated_sender a (Some (suc (suc (suc zero)))) (Sender start) at runs sends = absurd runs
+seated_sender a (Some (suc (suc (suc (suc i))))) (Sender start) at runs sends = absurd runs
 seated_sender a o other at runs sends = absurd sends
 
 pub sender_named : (a : List ℕ) (program : Program) → RunsAt (seat a) program → IsSender program → a ≡ codes "sender"
@@ -651,7 +652,8 @@ seated_spawner a None (LocalSpawner start) at runs spawns = absurd runs
 seated_spawner a (Some zero) (LocalSpawner start) at runs spawns = absurd runs
 seated_spawner a (Some (suc zero)) (LocalSpawner start) at runs spawns = absurd runs
 seated_spawner a (Some (suc (suc zero))) program at runs spawns = same_seat (codes "lspawn") a 2 refl at
-seated_spawner a (Some (suc (suc (suc i)))) (LocalSpawner start) at runs spawns = absurd runs
+seated_spawner a (Some (suc (suc (suc zero)))) (LocalSpawner start) at runs spawns = absurd runs
+seated_spawner a (Some (suc (suc (suc (suc i))))) (LocalSpawner start) at runs spawns = absurd runs
 seated_spawner a o other at runs spawns = absurd spawns
 
 pub spawner_named : (a : List ℕ) (program : Program) → RunsAt (seat a) program → IsLocalSpawner program → a ≡ codes "lspawn"

@@ -6,12 +6,10 @@ ghost use Rattle.send_core.specs.Log.{lines_at};
 ghost use Rattle.send_core.specs.Table.{act, moved_by, takes_memory};
 
 use crate::finish::{act_finish, act_sweep};
-use crate::marks::act_mark;
 use crate::passes::{file_read, requested};
 use crate::reports::{took, unlinked};
-use crate::start::started;
 use crate::todo::{in_todo, todo_named};
-use crate::{Desk, Row};
+use crate::{Desk, Row, marks, start};
 use call_fs::Got;
 use mail_bytes::Memory;
 use send_log::Log;
@@ -58,12 +56,12 @@ fn act(
 {
     let reply = reply_of(got);
     match row {
-        Row::Start(row) => started(desk, log, alloc, row, &reply)?,
+        Row::Start(row) => start::started(desk, log, alloc, row, &reply)?,
         Row::TakeLink(channel) => {
             took(desk, log, alloc, channel, &reply)?;
             desk.busy = true;
         }
-        Row::Mark(row, marked) => act_mark(desk, alloc, row, marked, got)?,
+        Row::Mark(row, marked) => marks::act_mark(desk, alloc, row, marked, got)?,
         Row::UnlinkFile { channel, n, point } => {
             unlinked(desk, reply.way, channel, n, point, now);
         }

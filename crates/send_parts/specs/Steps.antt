@@ -9,7 +9,7 @@ use Rattle.call_fs.specs.declared.past.NeedData.{NeedData}
 use Rattle.call_fs.specs.declared.past.NeedData.TheVariants as needs
 use Rattle.call_fs.specs.declared.program.Port.TheVariants as port
 use Rattle.mail_bytes.specs.Decimal.{digits}
-use Rattle.queue_paths.specs.Names.{name_of, path}
+use Rattle.queue_paths.specs.Names.{foop_command, name_of, path}
 use Rattle.send_parts.specs.declared.dir.Dir.{Dir}
 use Rattle.send_parts.specs.declared.dir.Dir.TheVariants as dir
 use Rattle.send_parts.specs.declared.step.Step.{Step}
@@ -26,7 +26,7 @@ dir_text dir.Todo = codes "todo"
 
 -- the command by which the cleaner removes a message: `foop/N`, NUL
 abbrev pub remove_text : ℕ → List ℕ
-remove_text n = codes "foop/" ++ (digits n ++ 0 ∷ [])
+remove_text n = foop_command n ++ 0 ∷ []
 
 -- what is due at a step, with the bytes that are told beside it
 abbrev pub due_by : Step → List ℕ → NeedData

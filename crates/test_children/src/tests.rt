@@ -2,5 +2,8 @@ mod channels;
 mod feedings;
 mod large;
 mod many;
+mod orders;
+mod real;
 mod scripted;
 mod shells;
+mod yard;

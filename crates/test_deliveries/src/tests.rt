@@ -1,4 +1,3 @@
-// Programs of the system that every system has: printf, false and sh.
+// What can't be made shows in the answer.
 mod places;
-mod real_deliveries;
-mod real_reports;
+mod real_commands;

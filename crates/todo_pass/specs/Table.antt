@@ -15,7 +15,7 @@ use Rattle.call_fs.specs.declared.past.NeedData.TheVariants as needs
 use Rattle.call_fs.specs.declared.past.Own.{Own}
 use Rattle.call_fs.specs.declared.program.Port.TheVariants.{Clean}
 use Rattle.call_fs.specs.declared.program.Ready.{Ready}
-use Rattle.mail_bytes.specs.Decimal.{digits}
+use Rattle.queue_paths.specs.Names.{todo_command}
 use Rattle.todo_pass.specs.declared.arguments.Arguments.{Arguments}
 use Rattle.todo_pass.specs.declared.part.Part.{Part}
 use Rattle.todo_pass.specs.declared.part.Part.TheVariants as part
@@ -174,7 +174,7 @@ moved controls p now got = moved_at controls p.row p now got
 
 -- the command to the cleaner: `todo/N`, NUL
 abbrev pub command_text : ℕ → List ℕ
-command_text n = codes "todo/" ++ (digits n ++ 0 ∷ [])
+command_text n = todo_command n ++ 0 ∷ []
 
 -- the next piece of a text
 abbrev pub piece : List ℕ → ℕ → List ℕ

@@ -1,5 +1,6 @@
 -- How many programs an event starts.
-use Rattle.std.specs.Prelude.{ℕ, Bool, true, false, if◌then◌else◌}
+use Rattle.std.specs.Prelude.{ℕ, length, Bool, true, false, if◌then◌else◌}
+use Rattle.actor_names.specs.MailNames.{members}
 use Rattle.call_fs.specs.declared.past.GotData.{GotData}
 use Rattle.call_fs.specs.declared.past.GotData.TheVariants.{Started}
 use Rattle.call_fs.specs.declared.past.NeedData.{NeedData}
@@ -18,7 +19,7 @@ starts_in (kept.Start b program) = 1
 starts_in (kept.Act b own) = if starts_program own.due own.came then 1 else 0
 starts_in (kept.Child b own c program) = 1
 starts_in (kept.Feed b own c message envelope) = if starts_program own.due own.came then 1 else 0
-starts_in (kept.Generation start) = 4
+starts_in (kept.Generation start) = length members
 starts_in (kept.Report slot letter text) = 0
 starts_in (kept.End b read ready status) = 0
 starts_in (kept.Stop b) = 0

@@ -2,7 +2,7 @@
 ghost use Rattle.std.specs.Prelude.{◌≡◌, ◌∷◌, ◌++◌, ◌+◌, ◌-◌, ◌≤◌, [], List, ℕ, length, get_or, OnOk, if◌then◌else◌};
 ghost use Rattle.world_events.specs.Starting.{starts_in, starts_program};
 
-use actor_names::ActorName;
+use actor_names::{ActorName, Member};
 use call_fs::{GotData, NeedData, Own, Ready, Survival};
 use local_parts::LocalArgs;
 use mail_bytes::{ByteText, Memory};
@@ -223,7 +223,7 @@ pub fn started_by(event: &Event) -> u32
 {
     match event {
         Event::Start { .. } | Event::Child { .. } => 1,
-        Event::Generation { .. } => 4,
+        Event::Generation { .. } => Member::COUNT as u32,
         Event::Act { own, .. } | Event::Feed { own, .. } => starts(own),
         _ => 0,
     }

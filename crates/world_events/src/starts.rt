@@ -1,13 +1,16 @@
 // Who started, in the order of starts.
 ghost use Rattle.std.specs.Prelude.{◌≡◌, ◌∷◌, ◌++◌, ◌+◌, ◌-◌, ◌≤◌, ◌^◌, [], OnOk, length};
+ghost use Rattle.actor_names.specs.MailNames.{members};
+ghost use Rattle.actor_names.specs.Members.{seat_of};
+ghost use Rattle.actor_names.specs.declared.member.Member.TheVariants as member;
 ghost use Rattle.world_events.specs.Starts.{IsSameOrder, HasRoomFor, place_at};
 
 use actor_names::Member;
 use mail_bytes::Memory;
 use std::alloc::Global;
 
-/// The actors that started, in order, each as often as it started: a member by its seat, and any other one by four more than its place
-/// among those that are no members.
+/// The actors that started, in order, each as often as it started: a member by its seat, and any other one by its place among those that
+/// are no members, after as many seats as there are.
 #[derive(Drop)]
 pub struct Starts {
     order: Vec<usize>,
@@ -39,8 +42,8 @@ impl Starts {
     /// it.
     pub fn add_other(&mut self, place: usize)
         requires room { HasRoomFor self.old 1 }
-        requires fits { place + 4 ≤ 2 ^ 64 - 1 }
-        ensures order { self.new.order.items ≡ self.old.order.items ++ (place + 4) ∷ [] }
+        requires fits { place + length members ≤ 2 ^ 64 - 1 }
+        ensures order { self.new.order.items ≡ self.old.order.items ++ (place + length members) ∷ [] }
         ensures newest { self.new.newest ≡ self.old.newest }
     {
         self.order.push(place + Member::COUNT).unwrap();
@@ -48,8 +51,8 @@ impl Starts {
 
     /// A generation starts. Takes no memory. The condition: there is room.
     pub fn add_members(&mut self)
-        requires { HasRoomFor self.old 4 }
-        ensures order { self.new.order.items ≡ self.old.order.items ++ 0 ∷ 1 ∷ 2 ∷ 3 ∷ [] }
+        requires { HasRoomFor self.old (length members) }
+        ensures order { self.new.order.items ≡ self.old.order.items ++ seat_of member.Sender ∷ seat_of member.Cleaner ∷ seat_of member.LocalSpawner ∷ seat_of member.RemoteSpawner ∷ [] }
         ensures newest { self.new.newest ≡ length self.old.order.items }
     {
         self.newest = self.order.len();
@@ -70,9 +73,9 @@ impl Starts {
     }
 
     /// The place among all actors of the one that started at this place in the order, if it hasn't started again. So many of them are
-    /// members. The condition: at most four.
+    /// members. The condition: no more than a generation has.
     pub fn place_at(&self, crew: usize, at: usize) -> Option<usize>
-        requires { crew ≤ 4 }
+        requires { crew ≤ length members }
         ensures { result ≡ place_at self.now crew at }
     {
         let seat = *self.order.get(at)?;

@@ -1,9 +1,9 @@
 -- Where the members of a generation stand.
-use Rattle.std.proofs.Common.{◌≡◌, ℕ, zero, suc, ◌<◌, List, Bool, true, false, Option, Some, None, refl, sym, ap, ◌∙◌, subst, ⊎_elim, codes, arith, bytes_eq}
+use Rattle.std.proofs.Common.{◌≡◌, ℕ, ◌<◌, List, [], Bool, true, false, Option, Some, None, refl, sym, ap, ◌∙◌, subst, ⊎_elim, codes, arith, bytes_eq}
 use Rattle.std.specs.Prelude.{if◌then◌else◌, option_map}
 use Rattle.actor_names.specs.declared.member.Member.{Member}
 use Rattle.actor_names.specs.declared.member.Member.TheVariants as member
-use Rattle.actor_names.specs.Members.{seat_of}
+use Rattle.actor_names.specs.Members.{name_of, seat_of, member_at}
 use Rattle.world_pipes.specs.Pipework.{is_member}
 use Rattle.world_pipes.specs.Wired.{seat}
 use Rattle.world_pipes.proofs.Members.{whether, other_than, member_cases}
@@ -75,15 +75,27 @@ by_seat P sender clean lspawn rspawn a i at =
     (⊎_elim (named (codes "clean") 1 refl clean) (⊎_elim (named (codes "lspawn") 2 refl lspawn) (named (codes "rspawn") 3 refl rspawn)))
     (member_cases a (seat_member a i at))
 
+-- who has the seat of a member has its name
+abbrev name_in : Option Member → List ℕ
+name_in (Some member) = name_of member
+name_in None = []
+
+has_name : (a : List ℕ) (i : ℕ) → seat a ≡ Some i → a ≡ name_in (member_at i)
+has_name a i at = by_seat (λ (a : List ℕ) (i : ℕ). a ≡ name_in (member_at i)) refl refl refl refl a i at
+
+pub seated_name : (seated : Member) (a : List ℕ) → seat a ≡ Some (seat_of seated) → a ≡ name_of seated
+seated_name member.Sender a at = has_name a (seat_of member.Sender) at
+seated_name member.Cleaner a at = has_name a (seat_of member.Cleaner) at
+seated_name member.LocalSpawner a at = has_name a (seat_of member.LocalSpawner) at
+seated_name member.RemoteSpawner a at = has_name a (seat_of member.RemoteSpawner) at
+
+-- each seat is one of the first four
+pub seat_within : (seated : Member) → seat_of seated < 4
+seat_within member.Sender = omega arith
+seat_within member.Cleaner = omega arith
+seat_within member.LocalSpawner = omega arith
+seat_within member.RemoteSpawner = omega arith
+
 -- two with one seat are one
-abbrev name_at : ℕ → List ℕ
-name_at zero = codes "sender"
-name_at (suc zero) = codes "clean"
-name_at (suc (suc zero)) = codes "lspawn"
-name_at other = codes "rspawn"
-
-has_name : (a : List ℕ) (i : ℕ) → seat a ≡ Some i → a ≡ name_at i
-has_name a i at = by_seat (λ (a : List ℕ) (i : ℕ). a ≡ name_at i) refl refl refl refl a i at
-
 pub same_seat : (a b : List ℕ) (i : ℕ) → seat a ≡ Some i → seat b ≡ Some i → b ≡ a
 same_seat a b i at other = has_name b i other ∙ sym (has_name a i at)

@@ -6,6 +6,9 @@ use Rattle.std.proofs.lemmas.Bool.{lt-ltb, le-ltb}
 use Rattle.std.proofs.lemmas.Bool.Decides.{eqb_tells}
 use Rattle.std.proofs.lemmas.List.{length-set}
 use Rattle.std.proofs.lemmas.Option.{slice_get_within}
+use Rattle.actor_names.specs.declared.member.Member.{Member}
+use Rattle.actor_names.specs.declared.member.Member.TheVariants as member
+use Rattle.actor_names.specs.Members.{name_of, seat_of}
 use Rattle.call_fs.specs.declared.program.Port.{Port}
 use Rattle.call_fs.specs.declared.program.Port.TheVariants as port
 use Rattle.world_pipes.specs.declared.mouths.Mouths.{Mouths}
@@ -13,23 +16,47 @@ use Rattle.world_pipes.specs.Mouths.{pipe_of, tenant_of, ended_of}
 use Rattle.world_pipes.specs.Pipework.{Pipe, Pipework, Slot, Tenant, closed, is_port, is_member, is_writer, is_by, writer, actor_of, without_writer}
 use Rattle.world_pipes.specs.Pipework.Tenant.{Runs, Remote}
 use Rattle.world_pipes.specs.Wired.{seat, pipe_in, tenant_in, kept_at, slot_in, IsOwnPort, AreWired, IsSlotOf, HasWires, AreOver}
-use Rattle.world_pipes.specs.Exchanges.{is_in, gives_at, HasShut, AreShut, HasOver, SlotIsShut, OwnIsShut, HaveShut, IsGoneToo, ShutsAfter}
+use Rattle.world_pipes.specs.Exchanges.{is_in, gives_input, gives_at, HasShut, AreShut, HasOver, SlotIsShut, OwnIsShut, HaveShut, IsGoneToo, ShutsAfter}
 use Rattle.world_pipes.proofs.Feeds.{own_pipe, own_tenant, tenant_at, stands_at, place_there}
 use Rattle.world_pipes.proofs.Keeps.{slots_set, children_set}
 use Rattle.world_pipes.proofs.Lists.{get_set, some_within}
 use Rattle.world_pipes.proofs.Members.{whether, other_than, other_text, same_text, text_cases}
-use Rattle.world_pipes.proofs.Seats.{by_seat, seat_low, seat_some}
+use Rattle.world_pipes.proofs.Seats.{seated_name, seat_within, seat_low, seat_some}
 use Rattle.world_pipes.proofs.Wires.{wired_pipe, rewired}
 
 -- The writers
 
--- who has which seat
-abbrev HasTests : List ℕ → ℕ → Type 0
-HasTests a i =
-    (bytes_eq a (codes "sender") ≡ (i == 0)) × (bytes_eq a (codes "clean") ≡ (i == 1)) × (bytes_eq a (codes "lspawn") ≡ (i == 2)) × (bytes_eq a (codes "rspawn") ≡ (i == 3))
+-- what each member gives, by its name
+abbrev feeds_by : Bool → List ℕ → Bool
+feeds_by to_member a = if to_member then bytes_eq a (codes "sender") else bytes_eq a (codes "lspawn")
 
-tests : (a : List ℕ) (i : ℕ) → seat a ≡ Some i → HasTests a i
-tests a i at = by_seat HasTests (refl, refl, refl, refl) (refl, refl, refl, refl) (refl, refl, refl, refl) (refl, refl, refl, refl) a i at
+feeds_so : (giver : Member) (to_member : Bool) → feeds_by to_member (name_of giver) ≡ gives_input giver to_member
+feeds_so member.Sender true = refl
+feeds_so member.Sender false = refl
+feeds_so member.Cleaner true = refl
+feeds_so member.Cleaner false = refl
+feeds_so member.LocalSpawner true = refl
+feeds_so member.LocalSpawner false = refl
+feeds_so member.RemoteSpawner true = refl
+feeds_so member.RemoteSpawner false = refl
+
+clean_so : (giver : Member) (j : ℕ) → bytes_eq (name_of giver) (codes "clean") ≡ gives_at giver j port.Clean
+clean_so member.Sender j = refl
+clean_so member.Cleaner j = refl
+clean_so member.LocalSpawner j = refl
+clean_so member.RemoteSpawner j = refl
+
+lspawn_so : (giver : Member) (j : ℕ) → bytes_eq (name_of giver) (codes "lspawn") ≡ gives_at giver j port.Lspawn
+lspawn_so member.Sender j = refl
+lspawn_so member.Cleaner j = refl
+lspawn_so member.LocalSpawner j = refl
+lspawn_so member.RemoteSpawner j = refl
+
+rspawn_so : (giver : Member) (j : ℕ) → bytes_eq (name_of giver) (codes "rspawn") ≡ gives_at giver j port.Rspawn
+rspawn_so member.Sender j = refl
+rspawn_so member.Cleaner j = refl
+rspawn_so member.LocalSpawner j = refl
+rspawn_so member.RemoteSpawner j = refl
 
 runner_other : (a : List ℕ) (o : Option Tenant) → ((c : List ℕ) → o ≡ Some (Runs c) → a ≢ c) → is_writer a (actor_of o) ≡ false
 runner_other a None apart = refl
@@ -43,29 +70,28 @@ by_slot t other = false
 
 module _ (wires : List ℕ → Option ℕ) (mouths : List Mouths) (w : Pipework) (wired : AreWired wires mouths w) where
   -- the input of a member is the sender's to give, that of another one the local spawner's
-  fed_by : (b : List ℕ) (j : ℕ) → wires b ≡ Some j → (a : List ℕ) → is_writer a (writer w b port.Input) ≡ (if nat_lt j 4 then bytes_eq a (codes "sender") else bytes_eq a (codes "lspawn"))
+  fed_by : (b : List ℕ) (j : ℕ) → wires b ≡ Some j → (a : List ℕ) → is_writer a (writer w b port.Input) ≡ feeds_by (nat_lt j 4) a
   fed_by b j of a = ⊎_elim
       (λ member.
       let low = seat_low b j (sym (wired.seats b member) ∙ of) in
       ap (is_writer a) (ap (λ (t : Bool). if t then Some (codes "sender") else option_map (λ slot. slot.parent) (w.slots b)) member)
-      ∙ ap (λ (t : Bool). if t then bytes_eq a (codes "sender") else bytes_eq a (codes "lspawn")) (sym (lt-ltb j 4 low)))
+      ∙ ap (λ (t : Bool). feeds_by t a) (sym (lt-ltb j 4 low)))
       (λ other.
       let own = wired.others b j of other in
       ap (is_writer a) (ap (λ (t : Bool). if t then Some (codes "sender") else option_map (λ slot. slot.parent) (w.slots b)) other ∙ ap (option_map (λ slot. slot.parent)) own.slot)
-      ∙ ap (λ (t : Bool). if t then bytes_eq a (codes "sender") else bytes_eq a (codes "lspawn")) (sym (le-ltb j 4 own.high)))
+      ∙ ap (λ (t : Bool). feeds_by t a) (sym (le-ltb j 4 own.high)))
       (whether (is_member b))
 
-  member_writes : (a : List ℕ) (i : ℕ) → seat a ≡ Some i → (b : List ℕ) (j : ℕ) → wires b ≡ Some j → ((d : ℕ) (c : List ℕ) → w.programs b d ≡ Some (Runs c) → a ≢ c)
-      → (q : Port) → is_writer a (writer w b q) ≡ gives_at i j q
-  member_writes a i at b j of apart port.Input =
-      fed_by b j of a ∙ ap (λ (t : Bool). if nat_lt j 4 then t else bytes_eq a (codes "lspawn")) (tests a i at).0 ∙ ap (λ (t : Bool). if nat_lt j 4 then i == 0 else t) (tests a i at).2
-  member_writes a i at b j of apart port.Output = refl
-  member_writes a i at b j of apart port.Clean = (tests a i at).1
-  member_writes a i at b j of apart port.Lspawn = (tests a i at).2
-  member_writes a i at b j of apart port.Rspawn = (tests a i at).3
-  member_writes a i at b j of apart port.Todo = refl
-  member_writes a i at b j of apart (port.Program d) = runner_other a (w.programs b d) (apart d)
-  member_writes a i at b j of apart (port.Status d) = refl
+  member_writes : (a : List ℕ) (giver : Member) → a ≡ name_of giver → (b : List ℕ) (j : ℕ) → wires b ≡ Some j → ((d : ℕ) (c : List ℕ) → w.programs b d ≡ Some (Runs c) → a ≢ c)
+      → (q : Port) → is_writer a (writer w b q) ≡ gives_at giver j q
+  member_writes a giver named b j of apart port.Input = fed_by b j of a ∙ ap (feeds_by (nat_lt j 4)) named ∙ feeds_so giver (nat_lt j 4)
+  member_writes a giver named b j of apart port.Output = refl
+  member_writes a giver named b j of apart port.Clean = ap (λ (a : List ℕ). bytes_eq a (codes "clean")) named ∙ clean_so giver j
+  member_writes a giver named b j of apart port.Lspawn = ap (λ (a : List ℕ). bytes_eq a (codes "lspawn")) named ∙ lspawn_so giver j
+  member_writes a giver named b j of apart port.Rspawn = ap (λ (a : List ℕ). bytes_eq a (codes "rspawn")) named ∙ rspawn_so giver j
+  member_writes a giver named b j of apart port.Todo = refl
+  member_writes a giver named b j of apart (port.Program d) = runner_other a (w.programs b d) (apart d)
+  member_writes a giver named b j of apart (port.Status d) = refl
 
   -- who is no member gives what its slot's program does
   other_writes : (a : List ℕ) → is_member a ≡ false → (b : List ℕ) (j : ℕ) → wires b ≡ Some j → (t : ℕ → Bool) → ((d : ℕ) → is_writer a (actor_of (w.programs b d)) ≡ t d)
@@ -109,22 +135,22 @@ not_gone a gone now mouths too apart over j m d c is runs = over j m d c is runs
 
 -- A member is over
 
-module _ (mouths later : List Mouths) (a : List ℕ) (i : ℕ) (slot : Option (ℕ × ℕ)) (low : i < 4) (four : 4 ≤ length mouths) (shut : AreShut i mouths later) where
-  was_at : (j : ℕ) (n : Mouths) → slice_get later j ≡ Some n → (m : Mouths) × (slice_get mouths j ≡ Some m) × HasShut (gives_at i j) m n
+module _ (mouths later : List Mouths) (a : List ℕ) (giver : Member) (slot : Option (ℕ × ℕ)) (four : 4 ≤ length mouths) (shut : AreShut giver mouths later) where
+  was_at : (j : ℕ) (n : Mouths) → slice_get later j ≡ Some n → (m : Mouths) × (slice_get mouths j ≡ Some m) × HasShut (gives_at giver j) m n
   was_at j n is =
       let m = some_within mouths j (subst (λ (k : ℕ). j < k) shut.many (slice_get_within later j n is)) in
       (m.0, m.1, shut.each j m.0 n m.1 is)
 
   -- its seat is that place
-  its_seat : (wires : List ℕ → Option ℕ) (w : Pipework) → HasWires wires mouths w a (Some i) slot → (is_member a ≡ true) × (seat a ≡ Some i)
+  its_seat : (wires : List ℕ → Option ℕ) (w : Pipework) → HasWires wires mouths w a (Some (seat_of giver)) slot → (is_member a ≡ true) × (seat a ≡ Some (seat_of giver))
   its_seat wires w has = ⊎_elim
       (λ member. (member, sym (has.wired.seats a member) ∙ has.at))
-      (λ other. let high = (has.wired.others a i has.at other).high in absurd (omega (arith, high, low)))
+      (λ other. let high = (has.wired.others a (seat_of giver) has.at other).high in let low = seat_within giver in absurd (omega (arith, high, low)))
       (whether (is_member a))
 
   -- what is kept before and after at the place of an actor
   pair : (wires : List ℕ → Option ℕ) (w : Pipework) → AreWired wires mouths w → (b : List ℕ) (j : ℕ) → wires b ≡ Some j
-      → (m : Mouths) × (n : Mouths) × (slice_get mouths j ≡ Some m) × (slice_get later j ≡ Some n) × HasShut (gives_at i j) m n
+      → (m : Mouths) × (n : Mouths) × (slice_get mouths j ≡ Some m) × (slice_get later j ≡ Some n) × HasShut (gives_at giver j) m n
   pair wires w wired b j of =
       let there : j < length mouths = ⊎_elim
       (λ member. let seated = seat_low b j (sym (wired.seats b member) ∙ of) in omega (arith, seated, four))
@@ -134,16 +160,16 @@ module _ (mouths later : List Mouths) (a : List ℕ) (i : ℕ) (slot : Option (�
       let n = some_within later j (subst (λ (k : ℕ). j < k) (sym shut.many) there) in
       (m.0, n.0, m.1, n.1, shut.each j m.0 n.0 m.1 n.1)
 
-  member_wired : (wires : List ℕ → Option ℕ) (w : Pipework) → HasWires wires mouths w a (Some i) slot → AreWired wires later (without_writer w a)
+  member_wired : (wires : List ℕ → Option ℕ) (w : Pipework) → HasWires wires mouths w a (Some (seat_of giver)) slot → AreWired wires later (without_writer w a)
   member_wired wires w has = rewired wires mouths later w (without_writer w a) has.wired shut.many pipes (λ b d. programs b d (wires b) refl) (λ b. refl) (λ b d c runs. runs) where
-    own : (is_member a ≡ true) × (seat a ≡ Some i)
+    own : (is_member a ≡ true) × (seat a ≡ Some (seat_of giver))
     own = its_seat wires w has
 
     pipes : (b : List ℕ) (j : ℕ) (q : Port) → wires b ≡ Some j → IsOwnPort j q → (without_writer w a).pipes b q ≡ pipe_in (slice_get later j) q
     pipes b j q of port_own =
         let p = pair wires w has.wired b j of in
-        ap (λ (t : Bool). if t then closed (w.pipes b q) else w.pipes b q) (member_writes wires mouths w has.wired a i own.1 b j of (member_nowhere wires mouths w has.wired a own.0 b) q)
-        ∙ ap (λ (pipe : Pipe). if gives_at i j q then closed pipe else pipe) (own_pipe wires mouths w b j p.0 has.wired of p.2 q port_own)
+        ap (λ (t : Bool). if t then closed (w.pipes b q) else w.pipes b q) (member_writes wires mouths w has.wired a giver (seated_name giver a own.1) b j of (member_nowhere wires mouths w has.wired a own.0 b) q)
+        ∙ ap (λ (pipe : Pipe). if gives_at giver j q then closed pipe else pipe) (own_pipe wires mouths w b j p.0 has.wired of p.2 q port_own)
         ∙ sym (p.4.pipes q) ∙ sym (ap (λ (o : Option Mouths). pipe_in o q) p.3)
 
     programs : (b : List ℕ) (d : ℕ) (o : Option ℕ) → wires b ≡ o → w.programs b d ≡ tenant_in (kept_at (wires b) later) d
@@ -154,7 +180,7 @@ module _ (mouths later : List Mouths) (a : List ℕ) (i : ℕ) (slot : Option (�
         own_tenant wires mouths w b j p.0 has.wired of p.2 d ∙ sym (p.4.tenants d)
         ∙ sym (ap (λ (o : Option ℕ). tenant_in (kept_at o later) d) of ∙ ap (λ (o : Option Mouths). tenant_in o d) p.3)
 
-  member_shuts : ShutsAfter (Some i) slot mouths later a
+  member_shuts : ShutsAfter (Some (seat_of giver)) slot mouths later a
   member_shuts = record {
     many = shut.many;
     slots = λ slots j n is. let m = was_at j n is in m.2.slots ∙ slots j m.0 m.1;
@@ -329,10 +355,10 @@ own_shuts mouths later a wire (Some s) none shut = by_test (is_in mouths s a) re
 pub shuts_after : (mouths later : List Mouths) (a : List ℕ) (wire : Option ℕ) (slot : Option (ℕ × ℕ)) → ((i : ℕ) → wire ≡ Some i → 4 ≤ length mouths) → HaveShut wire slot a mouths later
     → ShutsAfter wire slot mouths later a
 shuts_after mouths later a None slot four shut = own_shuts mouths later a None slot (λ k is. absurd (cc)) shut
-shuts_after mouths later a (Some zero) slot four shut = member_shuts mouths later a 0 slot (omega arith) (four 0 refl) shut
-shuts_after mouths later a (Some (suc zero)) slot four shut = member_shuts mouths later a 1 slot (omega arith) (four 1 refl) shut
-shuts_after mouths later a (Some (suc (suc zero))) slot four shut = member_shuts mouths later a 2 slot (omega arith) (four 2 refl) shut
-shuts_after mouths later a (Some (suc (suc (suc zero)))) slot four shut = member_shuts mouths later a 3 slot (omega arith) (four 3 refl) shut
+shuts_after mouths later a (Some zero) slot four shut = member_shuts mouths later a member.Sender slot (four 0 refl) shut
+shuts_after mouths later a (Some (suc zero)) slot four shut = member_shuts mouths later a member.Cleaner slot (four 1 refl) shut
+shuts_after mouths later a (Some (suc (suc zero))) slot four shut = member_shuts mouths later a member.LocalSpawner slot (four 2 refl) shut
+shuts_after mouths later a (Some (suc (suc (suc zero)))) slot four shut = member_shuts mouths later a member.RemoteSpawner slot (four 3 refl) shut
 shuts_after mouths later a (Some (suc (suc (suc (suc i))))) slot four shut = own_shuts mouths later a (Some (suc (suc (suc (suc i))))) slot high shut where
   high : IsNoSeat (Some (suc (suc (suc (suc i)))))
   high k is = let same : suc (suc (suc (suc i))) ≡ k = cc in subst (λ (k : ℕ). 4 ≤ k) same (omega arith)
@@ -356,17 +382,17 @@ pub slot_out : (mouths : List Mouths) (a : List ℕ) (s : ℕ × ℕ) → is_in 
 slot_out mouths a s out = subst (λ (t : Bool). SlotIsShut t s mouths mouths) (sym out) refl
 
 -- shut by four ports, one after the other
-pub shut_each : (seat place : ℕ) (m n o p q : Mouths) (one two three four : Bool) → HasShut (λ at. is_port at port.Input && one) m n → HasShut (λ at. is_port at port.Clean && two) n o
+pub shut_each : (giver : Member) (place : ℕ) (m n o p q : Mouths) (one two three four : Bool) → HasShut (λ at. is_port at port.Input && one) m n → HasShut (λ at. is_port at port.Clean && two) n o
     → HasShut (λ at. is_port at port.Lspawn && three) o p → HasShut (λ at. is_port at port.Rspawn && four) p q
-    → one ≡ gives_at seat place port.Input → two ≡ gives_at seat place port.Clean → three ≡ gives_at seat place port.Lspawn → four ≡ gives_at seat place port.Rspawn
-    → HasShut (gives_at seat place) m q
-shut_each seat place m n o p q one two three four a b c d e f g h = record {
+    → one ≡ gives_at giver place port.Input → two ≡ gives_at giver place port.Clean → three ≡ gives_at giver place port.Lspawn → four ≡ gives_at giver place port.Rspawn
+    → HasShut (gives_at giver place) m q
+shut_each giver place m n o p q one two three four a b c d e f g h = record {
   pipes = pipes;
   tenants = λ k. d.tenants k ∙ c.tenants k ∙ b.tenants k ∙ a.tenants k;
   ended = λ k. d.ended k ∙ c.ended k ∙ b.ended k ∙ a.ended k;
   slots = d.slots ∙ c.slots ∙ b.slots ∙ a.slots;
 } where
-  pipes : (at : Port) → pipe_of q at ≡ (if gives_at seat place at then closed (pipe_of m at) else pipe_of m at)
+  pipes : (at : Port) → pipe_of q at ≡ (if gives_at giver place at then closed (pipe_of m at) else pipe_of m at)
   pipes port.Input = d.pipes port.Input ∙ c.pipes port.Input ∙ b.pipes port.Input ∙ a.pipes port.Input ∙ ap (λ (t : Bool). if t then closed (pipe_of m port.Input) else pipe_of m port.Input) e
   pipes port.Output = d.pipes port.Output ∙ c.pipes port.Output ∙ b.pipes port.Output ∙ a.pipes port.Output
   pipes port.Clean =

@@ -1,8 +1,9 @@
 -- What an actor does with its pipes and slots, as they are kept and in the model.
-use Rattle.std.specs.Prelude.{◌≡◌, ◌≢◌, ◌<◌, ℕ, ◌==◌, List, length, set, Bool, true, false, if◌then◌else◌, nat_lt, Option, Some, None}
+use Rattle.std.specs.Prelude.{◌≡◌, ◌≢◌, ◌<◌, ℕ, ◌==◌, List, length, set, Bool, true, false, not, if◌then◌else◌, nat_lt, Option, Some, None}
 use Rattle.std.specs.List.{slice_get}
 use Rattle.actor_names.specs.declared.member.Member.{Member}
 use Rattle.actor_names.specs.declared.member.Member.TheVariants as member
+use Rattle.actor_names.specs.MailNames.{members}
 use Rattle.actor_names.specs.Members.{seat_of, member_at}
 use Rattle.call_fs.specs.Program.{IsKind, IsWithin}
 use Rattle.call_fs.specs.declared.program.Port.{Port}
@@ -29,7 +30,7 @@ GivesNoActor mouths at due = Unit {0}
 -- the actor at this place may do this there: it takes by a port of its own; a member alone starts a remote program; and none starts an actor
 abbrev pub SuitsPlace : ℕ → NeedData → Type 0
 SuitsPlace at (needs.Take port) = IsOwnPort at port
-SuitsPlace at (needs.Start (child.Remote slot domain sender recipient)) = at < 4
+SuitsPlace at (needs.Start (child.Remote slot domain sender recipient)) = at < length members
 SuitsPlace at (needs.Start asked) = ⊥
 SuitsPlace at due = Unit {0}
 
@@ -124,9 +125,9 @@ slot_leads mouths (Some slot) a = if is_in mouths slot a then Some (slot.0, port
 -- that of a member is taken by the sender, whose own nobody takes
 abbrev pub member_leads : Member → Option (ℕ × Port)
 member_leads member.Sender = None
-member_leads member.Cleaner = Some (0, port.Clean)
-member_leads member.LocalSpawner = Some (0, port.Lspawn)
-member_leads member.RemoteSpawner = Some (0, port.Rspawn)
+member_leads member.Cleaner = Some (seat_of member.Sender, port.Clean)
+member_leads member.LocalSpawner = Some (seat_of member.Sender, port.Lspawn)
+member_leads member.RemoteSpawner = Some (seat_of member.Sender, port.Rspawn)
 
 abbrev pub output_leads : Option Member → Option (ℕ × Port) → Option (ℕ × Port)
 output_leads (Some member) own = member_leads member
@@ -134,9 +135,9 @@ output_leads None own = own
 
 -- where what the actor at a place gives to a port is taken: at which place, and by which port
 abbrev pub leads : List Mouths → ℕ → Option (ℕ × ℕ) → List ℕ → Port → Option (ℕ × Port)
-leads mouths at slot a port.Clean = Some (1, port.Input)
-leads mouths at slot a port.Lspawn = Some (2, port.Input)
-leads mouths at slot a port.Rspawn = Some (3, port.Input)
+leads mouths at slot a port.Clean = Some (seat_of member.Cleaner, port.Input)
+leads mouths at slot a port.Lspawn = Some (seat_of member.LocalSpawner, port.Input)
+leads mouths at slot a port.Rspawn = Some (seat_of member.RemoteSpawner, port.Input)
 leads mouths at slot a port.Output = output_leads (member_at at) (slot_leads mouths slot a)
 leads mouths at slot a other = None
 
@@ -149,14 +150,19 @@ abbrev pub IsSameAt : Option (ℕ × Port) → List Mouths → List Mouths → T
 IsSameAt None old new = new ≡ old
 IsSameAt (Some to) old new = (m : Mouths) × (n : Mouths) × (slice_get old to.0 ≡ Some m) × (new ≡ set old to.0 n) × IsSame m n
 
--- what the member at a seat gives is taken by this port of the pipes at a place: the input of the members is given by the sender, that of
--- the others by the local spawner, and by the port of each of the other three takes whoever takes there
-abbrev pub gives_at : ℕ → ℕ → Port → Bool
-gives_at seat place port.Input = if nat_lt place 4 then seat == 0 else (seat == 2)
-gives_at seat place port.Clean = seat == 1
-gives_at seat place port.Lspawn = seat == 2
-gives_at seat place port.Rspawn = seat == 3
-gives_at seat place other = false
+-- it gives the input of who is a member, or is none: the sender that of the members, and the local spawner that of the others
+abbrev pub gives_input : Member → Bool → Bool
+gives_input member.Sender to_member = to_member
+gives_input member.LocalSpawner to_member = not to_member
+gives_input other to_member = false
+
+-- what a member gives is taken by this port of the pipes at a place: an input; or the port of its own, by whoever takes there
+abbrev pub gives_at : Member → ℕ → Port → Bool
+gives_at giver place port.Input = gives_input giver (nat_lt place (length members))
+gives_at member.Cleaner place port.Clean = true
+gives_at member.LocalSpawner place port.Lspawn = true
+gives_at member.RemoteSpawner place port.Rspawn = true
+gives_at giver place other = false
 
 -- the pipes by these ports are shut
 pub record HasShut (shuts : Port → Bool) (old new : Mouths) : Type 0 where
@@ -165,9 +171,9 @@ pub record HasShut (shuts : Port → Bool) (old new : Mouths) : Type 0 where
   pub ended : (d : ℕ) → ended_of new d ≡ ended_of old d
   pub slots : length new.slots.items ≡ length old.slots.items
 
-pub record AreShut (seat : ℕ) (old new : List Mouths) : Type 0 where
+pub record AreShut (giver : Member) (old new : List Mouths) : Type 0 where
   pub many : length new ≡ length old
-  pub each : (i : ℕ) (m n : Mouths) → slice_get old i ≡ Some m → slice_get new i ≡ Some n → HasShut (gives_at seat i) m n
+  pub each : (i : ℕ) (m n : Mouths) → slice_get old i ≡ Some m → slice_get new i ≡ Some n → HasShut (gives_at giver i) m n
 
 -- the output of the actor in a slot is shut, and it is marked as over
 pub record HasOver (old new : Mouths) (slot : ℕ) : Type 0 where
@@ -192,7 +198,7 @@ member_with (Some at) = member_at at
 
 -- What an actor gives to is shut: what a member does, and of any other one its output, in its slot.
 abbrev pub ShutsBy : Option Member → Option (ℕ × ℕ) → List ℕ → List Mouths → List Mouths → Type 0
-ShutsBy (Some member) slot a old new = AreShut (seat_of member) old new
+ShutsBy (Some giver) slot a old new = AreShut giver old new
 ShutsBy None slot a old new = OwnIsShut slot a old new
 
 -- so by the place of its pipes

@@ -3,6 +3,7 @@ use Rattle.std.specs.Prelude.{◌≡◌, ◌≤◌, ◌<◌, ℕ, List, [], ◌�
 use Rattle.std.specs.List.{slice_get}
 use Rattle.actor_names.specs.declared.member.Member.{Member}
 use Rattle.actor_names.specs.declared.member.Member.TheVariants as member
+use Rattle.actor_names.specs.MailNames.{members}
 use Rattle.actor_names.specs.Members.{member_at}
 use Rattle.call_fs.specs.declared.past.ChildData.{ChildData}
 use Rattle.call_fs.specs.declared.past.ChildData.TheVariants as child
@@ -23,9 +24,9 @@ pub record IsFresh (m : Mouths) : Type 0 where
   pub tenants : (d : ℕ) → tenant_of m d ≡ None
   pub slots : length m.slots.items ≡ 256
 
--- four such
+-- as many such as there are members
 pub record AreFresh (mouths : List Mouths) : Type 0 where
-  pub many : length mouths ≡ 4
+  pub many : length mouths ≡ length members
   pub each : All IsFresh mouths
 
 -- so it is with the pipes of a delivery that starts, which has one slot
@@ -36,9 +37,9 @@ pub record IsFreshOne (m : Mouths) : Type 0 where
 
 -- the members of a new generation have fresh pipes, and whoever else has some keeps them
 pub record AreRenewed (old new : List Mouths) : Type 0 where
-  pub four : 4 ≤ length new
-  pub members : (i : ℕ) (m : Mouths) → i < 4 → slice_get new i ≡ Some m → IsFresh m
-  pub others : (i : ℕ) → 4 ≤ i → slice_get new i ≡ slice_get old i
+  pub four : length members ≤ length new
+  pub others : (i : ℕ) → length members ≤ i → slice_get new i ≡ slice_get old i
+  pub members : (i : ℕ) (m : Mouths) → i < length members → slice_get new i ≡ Some m → IsFresh m
 
 -- a child that is to start has these pipes of its own: a delivery fresh ones, and an injector none
 abbrev pub HasPipesFor : ChildData → Option Mouths → Type 0

@@ -1,7 +1,10 @@
 -- The pipes that a world keeps, against those of the model.
-use Rattle.std.specs.Prelude.{◌≡◌, ◌<◌, ◌≤◌, ℕ, zero, suc, List, length, Bool, true, false, if◌then◌else◌, Option, Some, None, option_map, codes, nat_lt}
+use Rattle.std.specs.Prelude.{◌≡◌, ◌<◌, ◌≤◌, ℕ, List, length, Bool, true, false, if◌then◌else◌, Option, Some, None, option_map, codes, nat_lt}
 use Rattle.std.specs.List.{slice_get}
-use Rattle.actor_names.specs.Members.{member_of, seat_of}
+use Rattle.actor_names.specs.MailNames.{members}
+use Rattle.actor_names.specs.Members.{member_of, seat_of, member_at}
+use Rattle.actor_names.specs.declared.member.Member.{Member}
+use Rattle.actor_names.specs.declared.member.Member.TheVariants as member
 use Rattle.call_fs.specs.declared.program.Port.{Port}
 use Rattle.call_fs.specs.declared.program.Port.TheVariants as port
 use Rattle.world_pipes.specs.declared.mouths.Mouths.{Mouths}
@@ -32,14 +35,14 @@ slot_in parent d = record { parent = parent; number = d }
 
 -- a pipe by this port is one of whoever has its pipes at this place: the links of the sender are members' alone
 abbrev pub IsOwnPort : ℕ → Port → Type 0
-IsOwnPort i port.Clean = i < 4
-IsOwnPort i port.Lspawn = i < 4
-IsOwnPort i port.Rspawn = i < 4
+IsOwnPort i port.Clean = i < length members
+IsOwnPort i port.Lspawn = i < length members
+IsOwnPort i port.Rspawn = i < length members
 IsOwnPort i other = Unit {0}
 
 -- an actor that has pipes and is no member has them after the members', and was started by the local spawner
 pub record HasOwnPlace (w : Pipework) (a : List ℕ) (i : ℕ) : Type 0 where
-  pub high : 4 ≤ i
+  pub high : length members ≤ i
   pub number : ℕ
   pub slot : w.slots a ≡ Some (slot_in (codes "lspawn") number)
 
@@ -67,12 +70,18 @@ pub record HasWires (wires : List ℕ → Option ℕ) (mouths : List Mouths) (w 
   pub at : wires a ≡ wire
   pub slot_is : IsSlotOf wires (w.slots a) slot
 
--- in which slots of whom an actor may run: in the sender's first one and in that of a delivery, and in those of the local spawner
+-- in which slots of a member, or of a delivery, an actor may run: in the sender's first one, in each of the local spawner's, and in that of a
+-- delivery
+abbrev pub MayRunUnder : Option Member → ℕ → Type 0
+MayRunUnder (Some member.Sender) d = d ≡ 0
+MayRunUnder (Some member.Cleaner) d = ⊥
+MayRunUnder (Some member.LocalSpawner) d = Unit {0}
+MayRunUnder (Some member.RemoteSpawner) d = ⊥
+MayRunUnder None d = d ≡ 0
+
+-- so in the slots of whoever has its pipes at a place
 abbrev pub MayRunIn : ℕ → ℕ → Type 0
-MayRunIn (suc zero) d = ⊥
-MayRunIn (suc (suc zero)) d = Unit {0}
-MayRunIn (suc (suc (suc zero))) d = ⊥
-MayRunIn other d = d ≡ 0
+MayRunIn place d = MayRunUnder (member_at place) d
 
 -- an actor runs only in such a slot, and is no member
 abbrev pub HaveChildren : List Mouths → Type 0
@@ -84,7 +93,7 @@ AreOver gone mouths = (i : ℕ) (m : Mouths) (d : ℕ) (c : List ℕ) → slice_
 
 -- how many slots there are at a place: of a member as many as a slot has numbers, of a delivery one
 abbrev pub slots_at : ℕ → ℕ
-slots_at i = if nat_lt i 4 then 256 else 1
+slots_at i = if nat_lt i (length members) then 256 else 1
 
 abbrev pub HaveSlots : List Mouths → Type 0
 HaveSlots mouths = (i : ℕ) (m : Mouths) → slice_get mouths i ≡ Some m → length m.slots.items ≡ slots_at i

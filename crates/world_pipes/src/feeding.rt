@@ -4,7 +4,7 @@ ghost use Rattle.world_pipes.specs.Mouths.{HasPipe, IsSame};
 ghost use Rattle.world_pipes.specs.Pipework.{is_port};
 ghost use Rattle.world_pipes.specs.Wired.{HaveSlots};
 ghost use Rattle.world_pipes.specs.Exchanges.{IsNoAct, AreAsBefore, HasExchanged, HasFreedBy, HasTaken, HasTakenBy, HasSlotFor, HasStarted, HasGivenTo, IsSameAt, HaveShut, OwnIsShut, AreShut, HasShut, GivesNoActor, SuitsPlace, is_in, slot_leads, member_leads, leads, member_with, gives_at};
-ghost use Rattle.actor_names.specs.Members.{seat_of};
+ghost use Rattle.actor_names.specs.MailNames.{members};
 ghost use Rattle.call_fs.specs.declared.program.Port.TheVariants as port;
 
 use crate::{Mouths, Taken, command_exits};
@@ -27,7 +27,7 @@ pub fn exchange(
     pid: u32,
     due: &NeedData,
 ) -> Result<Option<GotData>, Memory>
-    requires many { 4 ≤ length mouths.old.items }
+    requires many { length members ≤ length mouths.old.items }
     requires at { at < length mouths.old.items }
     requires slots { HaveSlots mouths.old.items }
     requires pass { IsNoAct due.now }
@@ -117,7 +117,7 @@ fn give(
     port: Port,
     bytes: &[u8],
 ) -> Result<(), Memory>
-    requires many { 4 ≤ length mouths.old.items }
+    requires many { length members ≤ length mouths.old.items }
     ensures done { OnOk result (HasGivenTo (leads mouths.old.items at slot actor.now port) bytes.now mouths.old.items mouths.new.items) }
     ensures err { OnErr result (IsSameAt (leads mouths.old.items at slot actor.now port) mouths.old.items mouths.new.items) }
 {
@@ -227,7 +227,7 @@ fn shut_own(mouths: &mut Vec<Mouths>, slot: Option<(usize, u8)>, actor: &[u8])
 
 /// What this member gives to is shut. Takes no memory.
 fn shut_all(mouths: &mut [Mouths], member: Member)
-    ensures { AreShut (seat_of member) mouths.old mouths.new }
+    ensures { AreShut member mouths.old mouths.new }
 {
     for place in 0..mouths.len() {
         shut_at(&mut mouths[place], member, place);
@@ -236,7 +236,7 @@ fn shut_all(mouths: &mut [Mouths], member: Member)
 
 /// What this member gives to those that have their pipes at this place is shut. Takes no memory.
 fn shut_at(mouths: &mut Mouths, member: Member, place: usize)
-    ensures { HasShut (gives_at (seat_of member) place) mouths.old mouths.new }
+    ensures { HasShut (gives_at member place) mouths.old mouths.new }
 {
     shut_if(mouths, Port::Input, gives_at(member, place, Port::Input));
     shut_if(mouths, Port::Clean, gives_at(member, place, Port::Clean));
@@ -257,7 +257,7 @@ fn shut_if(mouths: &mut Mouths, port: Port, wanted: bool)
 
 /// Whether what this member gives is taken by this port of the pipes at this place.
 fn gives_at(member: Member, place: usize, port: Port) -> bool
-    ensures { result ≡ gives_at (seat_of member) place port }
+    ensures { result ≡ gives_at member place port }
 {
     match port {
         Port::Input => gives_input_at(member, place),
@@ -271,7 +271,7 @@ fn gives_at(member: Member, place: usize, port: Port) -> bool
 /// Whether this member gives the input of who has its pipes at this place: the sender that of the members, and the local spawner that of
 /// the others.
 fn gives_input_at(member: Member, place: usize) -> bool
-    ensures { result ≡ gives_at (seat_of member) place port.Input }
+    ensures { result ≡ gives_at member place port.Input }
 {
     match member {
         Member::Sender => place < Member::COUNT,

@@ -27,7 +27,7 @@
 //!   what is shut when an actor is over: what a member gives to, or the output of a child in its slot, which is
 //!   marked as over there. Contracts: `exchange` (by `HasExchanged`), `shut_after` (by `HaveShut`), with `AreWired`
 //!   for what the kept pipes are of the model's, whoever has pipes at which place.
-//! - The seat of each member; fresh pipes for four, or the same ones with nothing in them, which leaves those of
+//! - The seat of each member; fresh pipes for each, or the same ones with nothing in them, which leaves those of
 //!   deliveries as they are. The pipes of a delivery that starts, and their place after the others. What an actor
 //!   finds ready by its pipes, or an injector that may await its input. What is due to an actor and concerns a
 //!   child: its start, or, if there is one in that slot, its input or its status. Contracts: `seat`, `pipes_for`

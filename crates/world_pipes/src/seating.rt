@@ -1,5 +1,6 @@
 // Where actors have their pipes, what each finds ready by them, and what of a child is due to one.
 ghost use Rattle.std.specs.Prelude.{◌≡◌, ◌⊎◌, ◌≤◌, ◌<◌, ℕ, [], Some, IfOk, IsSome, length, vec_len, vec_capacity};
+ghost use Rattle.actor_names.specs.MailNames.{members};
 ghost use Rattle.call_fs.specs.Program.{due_of};
 ghost use Rattle.world_pipes.specs.Wired.{HaveSlots, seat};
 ghost use Rattle.world_pipes.specs.Seating.{AreFresh, AreRenewed, HasPipesFor, HasPlaceAfter, due_slot, IsFoundAt, input_of, only_child, has_actor, is_due_of_child};
@@ -54,7 +55,7 @@ pub fn pipes_for(alloc: Global, mouths: &[Mouths]) -> Result<Vec<Mouths>, Memory
 /// A generation starts: nothing lies in the pipes of its members, which are these new ones, if nobody had any; and whoever else has some
 /// keeps them. Takes no memory. The conditions: the members had pipes, or nobody had any, and then there are new ones.
 pub fn renew(mouths: &mut Vec<Mouths>, fresh: Vec<Mouths>)
-    requires count { (length mouths.old.items ≡ 0) ⊎ (4 ≤ length mouths.old.items) }
+    requires count { (length mouths.old.items ≡ 0) ⊎ (length members ≤ length mouths.old.items) }
     requires slots { HaveSlots mouths.old.items }
     requires fresh { length mouths.old.items ≡ 0 → AreFresh fresh.items }
     ensures { AreRenewed mouths.old.items mouths.new.items }
@@ -69,7 +70,7 @@ pub fn renew(mouths: &mut Vec<Mouths>, fresh: Vec<Mouths>)
 /// Nothing lies in the pipes of the members any more, and no program is in a slot of one. Takes no memory. The condition: the members
 /// have pipes.
 fn clear_members(mouths: &mut [Mouths])
-    requires four { 4 ≤ length mouths.old }
+    requires four { length members ≤ length mouths.old }
     requires slots { HaveSlots mouths.old }
     ensures { AreRenewed mouths.old mouths.new }
 {

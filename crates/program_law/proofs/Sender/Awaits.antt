@@ -1,11 +1,10 @@
 -- What a sender gives its cleaner and takes from it, row by row.
-use Rattle.std.proofs.Common.{◌≡◌, ℕ, List, [], ◌∷◌, Bool, true, false, Option, Some, None, refl, sym, ◌∙◌, append_assoc, codes, ◌⊎◌, subst, ⊎_elim}
+use Rattle.std.proofs.Common.{◌≡◌, ℕ, List, [], ◌∷◌, Bool, true, false, Option, Some, None, refl, sym, ◌∙◌, ◌⊎◌, subst, ⊎_elim}
 use Rattle.std.specs.Prelude.{if◌then◌else◌, is_some, slice_get}
 use Rattle.call_fs.specs.declared.past.NeedData.TheVariants as needs
 use Rattle.call_fs.specs.declared.program.Port.{Port}
 use Rattle.call_fs.specs.declared.program.Port.TheVariants as port
 use Rattle.call_fs.specs.declared.program.Ready.{Ready}
-use Rattle.mail_bytes.specs.Decimal.{digits}
 use Rattle.queue_clean.specs.declared.command.Command.{Command}
 use Rattle.queue_clean.specs.declared.command.Command.TheVariants.{Foop, Todo}
 use Rattle.queue_clean.specs.Commands.{text_of, ended}
@@ -40,12 +39,6 @@ use Rattle.call_fs.specs.declared.past.GotData.TheVariants as came
 
 -- Texts
 
-todo_text : (n : ℕ) → command_text n ≡ ended (text_of (Todo n))
-todo_text n = sym (append_assoc (codes "todo/") (digits n) (0 ∷ []))
-
-foop_text : (n : ℕ) → remove_text n ≡ ended (text_of (Foop n))
-foop_text n = sym (append_assoc (codes "foop/") (digits n) (0 ∷ []))
-
 given_text : (p o : Port) (own text other : List ℕ) → needs.Give p own ≡ needs.Give o text → own ≡ other → text ≡ other
 given_text p o own text other due is = (let same : own ≡ text = cc in sym same ∙ is)
 
@@ -59,7 +52,7 @@ pass_gives : (d : Desk) (r : PassRow) (text : List ℕ) → due_at at.InTodo (pa
 pass_gives d todo.Give text due = record {
   command = Todo d.pass.n;
   is = refl;
-  text_is = given_text port.Clean port.Clean (command_text d.pass.n) text (ended (text_of (Todo d.pass.n))) due (todo_text d.pass.n);
+  text_is = given_text port.Clean port.Clean (command_text d.pass.n) text (ended (text_of (Todo d.pass.n))) due refl;
   idle = refl;
   given = λ now. refl;
   failed = λ now. refl;
@@ -116,7 +109,7 @@ gives d at.InTodo text due = pass_gives d d.pass.row text due
 gives d (at.Finish finish.Give n) text due = record {
   command = Foop n;
   is = refl;
-  text_is = given_text port.Clean port.Clean (remove_text n) text (ended (text_of (Foop n))) due (foop_text n);
+  text_is = given_text port.Clean port.Clean (remove_text n) text (ended (text_of (Foop n))) due refl;
   idle = refl;
   given = λ now. refl;
   failed = λ now. refl;
@@ -131,7 +124,7 @@ gives d (at.Finish finish.Lost n) text due = absurd (cc)
 gives d (at.Sweep (sweep.Give split n)) text due = record {
   command = Foop n;
   is = refl;
-  text_is = given_text port.Clean port.Clean (remove_text n) text (ended (text_of (Foop n))) due (foop_text n);
+  text_is = given_text port.Clean port.Clean (remove_text n) text (ended (text_of (Foop n))) due refl;
   idle = refl;
   given = λ now. refl;
   failed = λ now. refl;

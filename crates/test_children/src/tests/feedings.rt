@@ -1,6 +1,6 @@
 // What a child is fed, and what its writer writes of it.
 
-use child_input::{Feeder, Writer, Written, feed_ends};
+use child_input::{Feeder, feed_ends};
 use std::alloc::{AllocError, Global};
 use std::io::{self, ErrorKind, Write};
 use std::sync::Wait;
@@ -29,80 +29,80 @@ impl Write for Narrow {
     }
 }
 
-/// Feeds a text of these bytes.
-fn feed<R: Wait>(
+/// What ends a feeding.
+#[derive(Clone, Copy, PartialEq, Eq)]
+enum Last {
+    /// The input is ended.
+    End,
+    /// The program gives up.
+    GiveUp,
+    /// Nothing.
+    Nothing,
+}
+
+/// Feeds these texts, one after the other, and ends so. Answers whether all were taken.
+fn feed_all<R: Wait>(
     rt: &R,
     alloc: Global,
     feeder: &mut Feeder,
-    bytes: &[u8],
-) -> Result<bool, AllocError> {
-    let mut text = Vec::with_capacity(alloc, bytes.len())?;
-    text.extend_from_slice(bytes)?;
-    Ok(feeder.feed(rt, text))
+    texts: &[&[u8]],
+    last: Last,
+) -> bool {
+    let mut right = true;
+    for text in texts {
+        right = feeder.feed_copy(rt, alloc, text) && right;
+    }
+    match last {
+        Last::End => feeder.end(rt) && right,
+        Last::GiveUp => {
+            feeder.give_up();
+            right
+        }
+        Last::Nothing => right,
+    }
 }
 
-/// What is written to an input with this room, where three texts are fed and the input is ended; and whether all is.
-fn written<R: Wait>(
+/// Whether an input with this room gets this text of what is fed, where all of it is to be written or not; and whether nothing more
+/// is taken after that.
+fn gets<R: Wait>(
     rt: &R,
     alloc: Global,
-    ends: (Feeder, Writer),
+    texts: &[&[u8]],
+    last: Last,
     room: usize,
-) -> Result<(Feeder, Written, Vec<u8>), AllocError> {
-    let (mut feeder, writer) = ends;
-    let texts: [&[u8]; 3] = [b"one, ", b"", b"and another"];
-    for text in texts {
-        feed(rt, alloc, &mut feeder, text)?;
-    }
-    feeder.end(rt);
+    text: &[u8],
+    is_whole: bool,
+) -> Result<bool, AllocError> {
+    let (mut feeder, writer) = feed_ends(alloc)?;
+    let is_fed = feed_all(rt, alloc, &mut feeder, texts, last);
     let mut input = Narrow {
         bytes: Vec::new(alloc),
         left: room,
     };
     let written = writer.write(rt, &mut input);
-    Ok((feeder, written, input.bytes))
+    let is_late = feeder.feed_copy(rt, alloc, b"late");
+    let is_ended = feeder.end(rt);
+    let is_so = written.is_whole() == is_whole && input.bytes.as_slice() == text;
+    Ok(is_fed && is_so && !is_late && is_ended)
 }
 
-#[test]
-fn texts_are_written_in_order(rt: HostRuntime) -> Result<(), Fail> {
-    let alloc = rt.alloc();
-    let (mut feeder, whole, bytes) = written(&rt, alloc, feed_ends(alloc)?, 100)?;
-    assert!(rt; whole.is_whole() && bytes.as_slice() == b"one, and another".as_slice());
-    // nothing is fed after the end
-    assert!(rt; !feed(&rt, alloc, &mut feeder, b"late")?);
-    assert!(rt; feeder.end(&rt));
-    Ok(())
-}
+const THREE: [&[u8]; 3] = [b"one, ", b"", b"and another"];
 
 #[test]
-fn a_write_that_fails(rt: HostRuntime) -> Result<(), Fail> {
+fn texts_are_written_in_order(rt: HostRuntime) {
     let alloc = rt.alloc();
-    let (_, part, bytes) = written(&rt, alloc, feed_ends(alloc)?, 7)?;
-    assert!(rt; !part.is_whole() && bytes.as_slice() == b"one, an".as_slice());
-    // where a write has failed nothing more is taken, though the input wasn't ended
-    let (mut feeder, writer) = feed_ends(alloc)?;
-    let is_first = feed(&rt, alloc, &mut feeder, b"first")?;
-    let mut input = Narrow {
-        bytes: Vec::new(alloc),
-        left: 0,
-    };
-    let none = writer.write(&rt, &mut input);
-    assert!(rt; is_first && !none.is_whole() && input.bytes.is_empty());
-    assert!(rt; !feed(&rt, alloc, &mut feeder, b"second")?);
-    Ok(())
-}
-
-#[test]
-fn a_program_that_gives_up(rt: HostRuntime) -> Result<(), Fail> {
-    let alloc = rt.alloc();
-    let (mut feeder, writer) = feed_ends(alloc)?;
-    let is_first = feed(&rt, alloc, &mut feeder, b"first")?;
-    feeder.give_up();
-    let mut input = Narrow {
-        bytes: Vec::new(alloc),
-        left: 100,
-    };
-    let part = writer.write(&rt, &mut input);
-    assert!(rt; is_first && !part.is_whole() && input.bytes.as_slice() == b"first".as_slice());
-    assert!(rt; !feed(&rt, alloc, &mut feeder, b"second")?);
-    Ok(())
+    assert!(rt;
+        gets(
+            &rt,
+            alloc,
+            &THREE,
+            Last::End,
+            100,
+            b"one, and another",
+            true
+        ) == Ok(true)
+            && gets(&rt, alloc, &THREE, Last::End, 7, b"one, an", false) == Ok(true)
+            && gets(&rt, alloc, &[b"first"], Last::Nothing, 0, b"", false) == Ok(true)
+            && gets(&rt, alloc, &[b"first"], Last::GiveUp, 100, b"first", false) == Ok(true)
+    );
 }

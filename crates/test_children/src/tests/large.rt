@@ -1,135 +1,134 @@
-// Commands of users, which may print as much as they want to.
+// Children that are fed much.
 
-use outside::{Gate, Gave, Post, Posts, Spawner, Started, Status};
-use proc_runner::{ChildPosts, Children, HostSystem, RestingGate, share};
-use std::alloc::{AllocError, Global};
-use std::process::{OpenProcess, Processes};
+use super::shells::prints;
+use super::yard::{POST, Yard};
+use outside::{Gave, Post, Posts, Spawner, Status};
+use proc_runner::System;
+use std::alloc::Global;
 use std::sync::Wait;
-use std::test::*;
-use std::thread::Threads;
-use std::time::Clock;
-
-/// How many looks in a row find nothing at most: each rests up to a second.
-const MOST_LOOKS: u64 = 60;
 
 /// How many bytes the text has that is fed.
-const TEXT: usize = 1 << 18;
+pub const TEXT: usize = 1 << 20;
 
-/// What came of a command: how many bytes, whether they were those of the text again and again, how many were fed, and its status.
+/// How many bytes of it are fed at once, at most.
+const PART: usize = 50_000;
+
+/// How often it is fed where that is much: 64 MiB in all.
+pub const MANY_TIMES: usize = 64;
+
+/// What came back: how many bytes, where they stand in the text that comes again and again, and whether all were its.
 #[derive(Clone, Copy)]
 struct Back {
     bytes: usize,
     at: usize,
     is_right: bool,
-    is_over: bool,
-    fed: usize,
-    status: Status,
 }
 
-/// Takes what has come of a command; if all is wanted, to its end.
-fn take<R: Wait + Drop>(
-    posts: &mut ChildPosts<R>,
-    gate: &RestingGate<R>,
-    text: &[u8],
-    back: &mut Back,
-    is_last: bool,
-) {
-    let mut looks = 0;
+impl Back {
+    /// These bytes came.
+    fn add(&mut self, text: &[u8], bytes: &[u8]) {
+        let rest = text.get(self.at..).unwrap_or(&[]);
+        let count = rest.len().min(bytes.len());
+        self.is_right = self.is_right
+            && rest[..count] == bytes[..count]
+            && text.starts_with(&bytes[count..]);
+        self.bytes = self.bytes.saturating_add(bytes.len());
+        self.at = self
+            .at
+            .saturating_add(bytes.len())
+            .checked_rem(text.len())
+            .unwrap_or(0);
+    }
+}
+
+/// Takes what has come by now.
+fn take<R: Wait + Drop, S: System>(yard: &mut Yard<R, S>, text: &[u8], back: &mut Back) {
     let mut buffer = [0; 4096];
-    for _ in 0..10_000_000 {
-        match posts.next(&mut buffer) {
-            Post::Turn if is_last && looks < MOST_LOOKS => {
-                looks += 1;
-                gate.pause(0, looks);
-            }
-            Post::Bytes { chan: _, len } => {
-                looks = 0;
-                check(text, back, &buffer[..len]);
-            }
-            Post::End { chan: _ } => {
-                back.is_over = true;
-                return;
-            }
-            Post::Failed { chan: _ } | Post::Turn => return,
+    for _ in 0..1_000_000 {
+        match yard.posts.next(&mut buffer) {
+            Post::Bytes { chan: _, len } => back.add(text, &buffer[..len]),
+            _ => return,
         }
     }
 }
 
-/// These bytes came.
-fn check(text: &[u8], back: &mut Back, bytes: &[u8]) {
-    let rest = text.get(back.at..).unwrap_or(&[]);
-    let count = rest.len().min(bytes.len());
-    back.is_right = back.is_right
-        && rest[..count] == bytes[..count]
-        && text.starts_with(&bytes[count..]);
-    back.bytes = back.bytes.saturating_add(bytes.len());
-    back.at = back
-        .at
-        .saturating_add(bytes.len())
-        .checked_rem(text.len())
-        .unwrap_or(0);
+/// Takes all that comes until the channel has ended. Answers whether it has, and didn't fail.
+fn take_rest<R: Wait + Drop, S: System>(
+    yard: &mut Yard<R, S>,
+    text: &[u8],
+    back: &mut Back,
+) -> bool {
+    let mut buffer = [0; POST];
+    for _ in 0..1_000_000 {
+        match yard.next(&mut buffer) {
+            Post::Bytes { chan: _, len } => back.add(text, &buffer[..len]),
+            Post::End { chan: _ } => return true,
+            Post::Failed { chan: _ } | Post::Turn => return false,
+        }
+    }
+    false
 }
 
-/// Runs this command, feeds it a text so many times, and takes what it prints.
-fn run<R: Threads + Wait + Processes + Clock + Copy + Send + Sync + Drop + 'static>(
-    rt: R,
-    alloc: Global,
-    command: &[u8],
-    times: usize,
-    drain: u64,
-) -> Result<Back, AllocError>
-where
-    R::Started: Drop + Send + 'static,
-    <R::Started as OpenProcess>::Stdin: Send + 'static,
-    <R::Started as OpenProcess>::Stdout: Send + 'static,
-    <R::Started as OpenProcess>::Stderr: Send + 'static,
-{
-    let mut text = Vec::with_capacity(alloc, TEXT)?;
-    for at in 0..TEXT {
-        text.push((at % 251) as u8)?;
+/// Feeds a text, in parts. Answers whether all was taken.
+fn feed<R: Wait + Drop, S: System>(yard: &mut Yard<R, S>, chan: u32, text: &[u8]) -> bool {
+    let mut right = true;
+    for part in text.chunks(PART) {
+        right = yard.children.feed(chan, part) == Gave::Done && right;
     }
-    let (mut opener, taker) = share(alloc, 64)?;
-    let _own = opener.open()?;
-    let gate = RestingGate::new(rt, opener.queue()?);
-    let mut posts = ChildPosts::new(rt, taker);
-    let mut children = Children::new(rt, alloc, HostSystem::new(rt, 0), opener, drain)?;
+    right
+}
+
+/// Whether a command gives back a text that it is fed so often, byte for byte.
+pub fn gives_back<R: Wait + Drop, S: System>(
+    yard: &mut Yard<R, S>,
+    alloc: Global,
+    text: &[u8],
+    times: usize,
+) -> bool {
     let mut back = Back {
         bytes: 0,
         at: 0,
         is_right: true,
-        is_over: false,
-        fed: 0,
-        status: Status::Failed,
     };
-    let chan = match children.start(alloc, &[b"sh", b"-c", command]) {
-        Started::Chan { chan, pid: _ } => chan,
-        Started::Failed | Started::Memory => return Ok(back),
-    };
+    let chan = yard.start(alloc, &[b"sh", b"-c", b"exec cat"]);
+    let mut right = true;
     for _ in 0..times {
-        if children.feed(chan, text.as_slice()) == Gave::Done {
-            back.fed = back.fed.saturating_add(text.len());
-        }
-        take(&mut posts, &gate, text.as_slice(), &mut back, false);
+        right = feed(yard, chan, text) && right;
+        take(yard, text, &mut back);
     }
-    children.finish(chan);
-    take(&mut posts, &gate, text.as_slice(), &mut back, true);
-    back.status = children.status(chan);
-    Ok(back)
+    yard.children.finish(chan);
+    right = take_rest(yard, text, &mut back) && right;
+    right = yard.children.status(chan) == Status::Ended(0) && right;
+    right && back.is_right && back.bytes == text.len().saturating_mul(times)
 }
 
-#[test]
-fn as_much_as_it_is_fed(rt: HostRuntime) -> Result<(), Fail> {
-    // 64 MiB come back, byte for byte
-    let back = run(rt, rt.alloc(), b"exec cat", 256, 60_000)?;
-    assert!(rt; back.fed == 1 << 26 && back.bytes == back.fed);
-    assert!(rt; back.is_right && back.is_over && back.status == Status::Ended(0));
-    Ok(())
+/// Whether a command that only counts gets all of 64 MiB.
+pub fn counts<R: Wait + Drop, S: System>(
+    yard: &mut Yard<R, S>,
+    alloc: Global,
+    text: &[u8],
+) -> bool {
+    let chan = yard.start(alloc, &[b"sh", b"-c", b"wc -c | tr -d ' '"]);
+    let mut right = true;
+    for _ in 0..MANY_TIMES {
+        right = feed(yard, chan, text) && right;
+    }
+    yard.children.finish(chan);
+    yard.bytes.clear();
+    right = yard.collect() && right;
+    right = yard.children.status(chan) == Status::Ended(0) && right;
+    right && yard.bytes.as_slice() == b"67108864\n".as_slice()
 }
 
-#[test]
-fn a_command_that_does_not_end(rt: HostRuntime) -> Result<(), Fail> {
-    // it has closed its output and reads nothing of what it is fed, so that it is ended by the limit alone
-    let back = run(rt, rt.alloc(), b"exec sleep 1000 >&-", 1, 100)?;
-    assert!(rt; back.bytes == 0 && back.is_over && back.status == Status::Crashed);
-    Ok(())
+/// Whether commands that don't end are ended by the limit: one that reads nothing; and one that has closed its output too, which is
+/// fed this.
+pub fn sleepers<R: Wait + Drop, S: System>(
+    yard: &mut Yard<R, S>,
+    alloc: Global,
+    text: &[u8],
+) -> bool {
+    let open = b"exec sleep 1000".as_slice();
+    let closed = b"exec sleep 1000 >&-".as_slice();
+    let is_ended = prints(yard, alloc, open, b"", b"", Status::Crashed);
+    prints(yard, alloc, closed, text, b"", Status::Crashed) && is_ended
 }

@@ -1,39 +1,78 @@
 // A system that follows a script.
 ghost use Rattle.std.specs.Prelude.{◌<◌, IfSome};
 
-use proc_runner::{Born, Exit, Process, Start, System};
-use std::alloc::Global;
+use piece_queue::ROOM;
+use proc_runner::{Born, Exit, Process, Readable, Start, System};
+use std::alloc::{AllocError, Global};
 use std::io::{self, ErrorKind, Read, Write};
 use std::sync::Arc;
 use std::sync::atomic::{AtomicU64, Ordering};
 use std::thread;
 use std::time::Duration;
 
-/// What a process does: it prints so many bytes, all alike, then closes its output or breaks it, and its end is told once it
-/// was asked for so often, or once it was killed.
+/// What a process does: it prints so many bytes, all alike, at most so many at once, then closes its output or breaks it; and its end
+/// is told once it was asked for so often, or once it was killed. One whose end is told at once has exited before anybody can
+/// kill it. One that is in order reads only when it is its turn.
 #[derive(Clone, Copy)]
 pub struct Script {
     pub letter: u8,
     pub prints: usize,
+    pub at_once: usize,
     pub breaks: bool,
     pub asks: u64,
     pub code: u8,
+    pub in_order: bool,
+}
+
+/// Whose turn it is to be read: the scripts, one after the other, and at which of them it stands.
+#[derive(Drop)]
+pub struct Turns {
+    order: Vec<u8>,
+    at: AtomicU64,
+}
+
+impl Turns {
+    /// It stands at the first of these.
+    pub fn new(order: Vec<u8>) -> Self {
+        Turns {
+            order,
+            at: AtomicU64::new(0),
+        }
+    }
+
+    /// The next one's turn.
+    pub fn go_on(&self) {
+        self.at.fetch_add(1, Ordering::SeqCst);
+    }
+
+    fn at(&self) -> u64 {
+        self.at.load(Ordering::SeqCst)
+    }
+
+    /// Waits for a turn of this script, from this one on. Answers the one after it.
+    fn wait_for(&self, script: u8, from: u64) -> u64 {
+        for _ in 0..u64::MAX {
+            let at = self.at();
+            if at >= from && self.order.get(at as usize) == Some(&script) {
+                return at.saturating_add(1);
+            }
+            thread::yield_now();
+        }
+        from
+    }
 }
 
 /// A system whose program named `0` follows the first script, `1` the second, and so on; no other can be started.
-#[derive(Clone, Copy)]
+#[derive(Drop)]
 pub struct Scripted {
     pub scripts: [Script; 4],
+    pub turns: Arc<Turns, Global>,
 }
 
-impl Script {
-    /// What a program of this script prints.
-    pub fn output(self) -> ScriptedOutput {
-        ScriptedOutput {
-            script: self,
-            left: self.prints,
-        }
-    }
+/// A system of these scripts, of which none is in order.
+pub fn unordered(alloc: Global, scripts: [Script; 4]) -> Result<Scripted, AllocError> {
+    let turns = Arc::new(alloc, Turns::new(Vec::new(alloc)))?;
+    Ok(Scripted { scripts, turns })
 }
 
 /// A process of a script.
@@ -42,27 +81,55 @@ pub struct ScriptedProcess {
     script: Script,
     asked: AtomicU64,
     killed: AtomicU64,
+    condemned: AtomicU64,
 }
 
 /// The output of a process of a script.
 #[derive(Drop)]
 pub struct ScriptedOutput {
     script: Script,
+    place: u8,
     left: usize,
+    turns: Arc<Turns, Global>,
+    from: u64,
 }
 
 /// The input of a process of a script: it takes up to 100 bytes at once.
 #[derive(Drop)]
 pub struct ScriptedInput;
 
+impl Scripted {
+    /// What a program of the script at this place prints.
+    pub fn output(&self, place: u8) -> Result<ScriptedOutput, AllocError>
+        requires { place < 4 }
+    {
+        let script = self.scripts[place as usize];
+        let turns = Arc::try_clone(&self.turns)?;
+        let from = turns.at();
+        Ok(ScriptedOutput {
+            script,
+            place,
+            left: script.prints,
+            turns,
+            from,
+        })
+    }
+}
+
 impl Process for ScriptedProcess {
-    ghost use Rattle.std.specs.Prelude.{◌≡◌, ◌⊎◌};
+    ghost use Rattle.std.specs.Prelude.{◌≡◌, ◌⊎◌, None};
     ghost use Rattle.proc_runner.specs.declared.system.Exit.TheVariants as exit;
 
     ghost ends = { λ p told. (told ≡ exit.Code p.script.code) ⊎ (told ≡ exit.Signal) };
 
+    ghost fate = { λ _. None };
+
+    ghost errs = { λ _ _. ⊥ };
+
     fn ask(&self) -> io::Result<Option<Exit>> {
-        if self.killed.load(Ordering::SeqCst) != 0 {
+        let is_signal = self.killed.load(Ordering::SeqCst) != 0
+            || self.condemned.load(Ordering::SeqCst) != 0;
+        if is_signal {
             return Ok(Some(Exit::Signal));
         }
         if self.asked.fetch_add(1, Ordering::SeqCst) >= self.script.asks {
@@ -72,7 +139,14 @@ impl Process for ScriptedProcess {
     }
 
     fn kill(&self) {
-        self.killed.store(1, Ordering::SeqCst);
+        if self.script.asks > 0 {
+            self.killed.store(1, Ordering::SeqCst);
+        }
+    }
+
+    fn condemn(&self) {
+        self.kill();
+        self.condemned.store(1, Ordering::SeqCst);
     }
 
     fn nap(&self, _time: Duration) {
@@ -82,16 +156,31 @@ impl Process for ScriptedProcess {
 
 impl Read for ScriptedOutput {
     fn read(&mut self, buf: &mut [u8]) -> io::Result<usize> {
+        if self.script.in_order {
+            self.from = self.turns.wait_for(self.place, self.from);
+        }
         if self.left == 0 {
             if self.script.breaks {
                 return Err(io::Error::from(ErrorKind::Other));
             }
             return Ok(0);
         }
-        let count = self.left.min(buf.len());
+        let count = self.left.min(buf.len()).min(self.script.at_once);
         buf[..count].fill(self.script.letter);
         self.left -= count;
         Ok(count)
+    }
+}
+
+impl Readable for ScriptedOutput {
+    ghost use Rattle.std.specs.Prelude.{None};
+
+    ghost remaining = { λ _. None };
+
+    ghost breaks = { λ _ _. Unit {0} };
+
+    fn read(&mut self, into: &mut [u8; ROOM]) -> io::Result<usize> {
+        Read::read(self, into)
     }
 }
 
@@ -119,26 +208,27 @@ impl System for Scripted {
         alloc: Global,
         start: &Start<'_>,
     ) -> io::Result<Born<ScriptedProcess, ScriptedInput, ScriptedOutput>> {
-        let Some(at) = place(start.words) else {
+        let Some(place) = place(start.words) else {
             return Err(io::Error::from(ErrorKind::NotFound));
         };
-        let script = self.scripts[at];
+        let output = self.output(place)?;
         let process = ScriptedProcess {
-            script,
+            script: self.scripts[place as usize],
             asked: AtomicU64::new(0),
             killed: AtomicU64::new(0),
+            condemned: AtomicU64::new(0),
         };
         Ok(Born {
             process: Arc::new(alloc, process)?,
             number: 1,
             input: ScriptedInput,
-            output: script.output(),
+            output,
         })
     }
 }
 
 /// Which script these words name.
-fn place(words: &[&[u8]]) -> Option<usize>
+fn place(words: &[&[u8]]) -> Option<u8>
     ensures { IfSome result (λ at. at < 4) }
 {
     let name = words.first()?;

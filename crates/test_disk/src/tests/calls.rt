@@ -1,6 +1,6 @@
 // Calls with names and bytes of their own, as rows.
 use call_fs::{Call, CallData, Fd, How};
-use std::test::Fail;
+use std::alloc::Global;
 
 /// A call as plain data: its kind, its numbers, its texts.
 #[derive(Clone, Copy, Debug, PartialEq)]
@@ -86,11 +86,17 @@ const CALLS: &[(Call<'static>, CallRow<'static>)] = &[
     ),
 ];
 
-#[test]
-fn a_call_keeps_its_names_and_bytes(rt: HostRuntime) -> Result<(), Fail> {
-    for (call, wanted) in CALLS {
-        let kept = CallData::of(rt.alloc(), *call)?;
-        assert_eq!(rt; row_of(&kept), *wanted);
+/// Whether a call is kept as this row.
+fn is_kept(alloc: Global, call: Call<'_>, wanted: CallRow<'_>) -> bool {
+    match CallData::of(alloc, call) {
+        Ok(kept) => row_of(&kept) == wanted,
+        Err(_) => false,
     }
-    Ok(())
+}
+
+#[test]
+fn a_call_keeps_its_names_and_bytes(rt: HostRuntime) {
+    for (call, wanted) in CALLS {
+        assert!(rt; is_kept(rt.alloc(), *call, *wanted), "{wanted:?}");
+    }
 }

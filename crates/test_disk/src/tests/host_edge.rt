@@ -1,15 +1,16 @@
 // Rows over real files of what only the system itself can show: what it tells of a file, its clock, symbolic links, a FIFO,
 // reads of a file that is open for something else, a device that is full, the rights of a new file, and what a link leaves
 // open.
+use super::host_files::{is_dated, scratch, since_1970};
 use call_fs::{CallFs, Fd, FsError, How};
 use host_fs::{Facts, HostFs, System};
 use mail_bytes::NameBuf;
 use std::alloc::Global;
-use std::fs::{File, FileTimes, Metadata};
+use std::fs::{File, Metadata};
 use std::os::unix::fs::{MetadataExt, symlink};
 use std::process::Command;
-use std::time::{Duration, SystemTime, UNIX_EPOCH};
-use std::{env, fs, process};
+use std::time::Duration;
+use std::{env, fs};
 
 /// A disk over real files.
 type Host = HostFs<HostRuntime>;
@@ -31,9 +32,13 @@ enum Look {
     Full,
     /// How many files are open.
     Opens,
+    /// The rights of a new file.
+    Rights,
+    /// A link when no more files can be open.
+    Lack,
 }
 
-/// All of that.
+/// All of that but the last two.
 const LOOKS: [Look; 7] = [
     Look::Facts,
     Look::Clock,
@@ -46,45 +51,35 @@ const LOOKS: [Look; 7] = [
 
 /// Whether that is so below this directory, which isn't there yet.
 fn holds(rt: &HostRuntime, root: &str, look: Look) -> bool {
-    let Ok(mut disk) = HostFs::open(rt, rt.alloc(), root.as_bytes()) else {
-        return false;
-    };
+    match HostFs::open(rt, rt.alloc(), root.as_bytes()) {
+        Ok(mut disk) => {
+            let is_so = holds_over(rt, root, look, &mut disk);
+            drop(disk);
+            is_so
+        }
+        Err(_) => false,
+    }
+}
+
+/// Whether it is over this disk.
+fn holds_over(rt: &HostRuntime, root: &str, look: Look, disk: &mut Host) -> bool {
     match look {
         Look::Facts => are_told(rt, root),
         Look::Clock => is_now(rt),
-        Look::Links => lists_files(rt, root, &mut disk),
-        Look::Specials => are_faults(rt, root, &mut disk),
-        Look::Reads => are_read(rt.alloc(), &mut disk),
+        Look::Links => lists_files(rt, root, disk),
+        Look::Specials => are_faults(rt, root, disk),
+        Look::Reads => are_read(rt.alloc(), disk),
         Look::Full => is_full(rt),
-        Look::Opens => leaves_none_open(rt, &mut disk),
+        Look::Opens => leaves_none_open(rt, disk),
+        Look::Rights => has_rights(rt, root, disk),
+        Look::Lack => links_none(rt, disk),
     }
-}
-
-/// A path that nothing else uses; an empty one, where nothing can be made, if it can't be told.
-fn scratch(rt: &HostRuntime) -> String {
-    match told_path(rt) {
-        Some(path) => path,
-        None => String::new(rt.alloc()),
-    }
-}
-
-/// As `scratch`, if it can be told.
-fn told_path(rt: &HostRuntime) -> Option<String> {
-    let nanos = since_1970(rt)?.as_nanos();
-    let temp = env::temp_dir(rt).ok()?;
-    let (temp, pid) = (temp.as_str(), process::id(rt.process()));
-    format!(in rt.alloc(); "{temp}/edge-{pid}-{nanos}").ok()
-}
-
-/// The time since 1970 by the system's clock.
-fn since_1970(rt: &HostRuntime) -> Option<Duration> {
-    SystemTime::now(rt).ok()?.duration_since(UNIX_EPOCH).ok()
 }
 
 #[test]
 fn the_system_is_asked_for_the_right_thing(rt: HostRuntime) {
     for look in LOOKS {
-        let root = scratch(&rt);
+        let root = scratch(&rt, "edge");
         let is_so = holds(&rt, root.as_str(), look);
         let is_gone = fs::remove_dir_all(&rt, root.as_str()).is_ok();
         assert!(rt; is_so && is_gone, "{look:?}");
@@ -108,17 +103,6 @@ fn is_told(rt: &HostRuntime, path: &str) -> bool {
     }
 }
 
-/// Sets the time of modification of a file to one long ago, with nanoseconds, so that it isn't that of its last change.
-fn make_old(rt: &HostRuntime, path: &str) -> bool {
-    match (
-        File::open(rt, path),
-        UNIX_EPOCH.checked_add(Duration::new(1_000_000_000, 7)),
-    ) {
-        (Ok(file), Some(time)) => file.set_times(FileTimes::new().set_modified(time)).is_ok(),
-        _ => false,
-    }
-}
-
 /// Whether an old file of three bytes, a directory, and links to both are told as they are.
 fn are_told(rt: &HostRuntime, root: &str) -> bool {
     let mut is_so = true;
@@ -134,7 +118,8 @@ fn are_told(rt: &HostRuntime, root: &str) -> bool {
 /// Makes what stands at this path, if it isn't there.
 fn is_made(rt: &HostRuntime, name: &str, path: &str) -> bool {
     match name {
-        "todo/1" => fs::write(rt, path, "abc").is_ok() && make_old(rt, path),
+        "todo/1" => fs::write(rt, path, "abc").is_ok()
+            && is_dated(rt, path, Duration::new(1_000_000_000, 7)),
         "todo/2" => symlink(rt, "1", path).is_ok(),
         "todo/3" => symlink(rt, "../pid", path).is_ok(),
         _ => true,
@@ -296,7 +281,8 @@ const AGAIN: &str =
 #[test]
 fn rights_and_a_lack_of_descriptors(rt: HostRuntime) {
     let is_so = match env::var(&rt, PLACE) {
-        Ok(root) => has_rights(&rt, root.as_str()) && links_none(&rt, root.as_str()),
+        Ok(root) => holds(&rt, root.as_str(), Look::Rights)
+            && holds(&rt, root.as_str(), Look::Lack),
         Err(_) => holds_again(&rt),
     };
     assert!(rt; is_so);
@@ -304,7 +290,7 @@ fn rights_and_a_lack_of_descriptors(rt: HostRuntime) {
 
 /// Whether the test, started again by a shell, is content.
 fn holds_again(rt: &HostRuntime) -> bool {
-    let root = scratch(rt);
+    let root = scratch(rt, "edge");
     let is_so = is_content(rt, root.as_str()) == Some(true);
     fs::remove_dir_all(rt, root.as_str()).is_ok() && is_so
 }
@@ -322,11 +308,8 @@ fn is_content(rt: &HostRuntime, root: &str) -> Option<bool> {
 }
 
 /// Whether a new file has the rights 0644.
-fn has_rights(rt: &HostRuntime, root: &str) -> bool {
+fn has_rights(rt: &HostRuntime, root: &str, disk: &mut Host) -> bool {
     let alloc = rt.alloc();
-    let Ok(mut disk) = HostFs::open(rt, alloc, root.as_bytes()) else {
-        return false;
-    };
     let is_made = disk.create_excl(alloc, 0, b"pid/1").is_ok();
     let Ok(path) = format!(in alloc; "{root}/pid/1") else {
         return false;
@@ -353,11 +336,8 @@ fn open_all(rt: &HostRuntime, held: &mut Vec<File>) -> usize {
 }
 
 /// Whether a link is a fault when no more files can be open, and leaves no name.
-fn links_none(rt: &HostRuntime, root: &str) -> bool {
+fn links_none(rt: &HostRuntime, disk: &mut Host) -> bool {
     let alloc = rt.alloc();
-    let Ok(mut disk) = HostFs::open(rt, alloc, root.as_bytes()) else {
-        return false;
-    };
     let mut held = Vec::new(alloc);
     let count = open_all(rt, &mut held);
     let linked = disk.link(alloc, b"pid/1", b"todo/1");

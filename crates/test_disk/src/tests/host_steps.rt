@@ -1,8 +1,62 @@
 // Calls on a real directory, and what is seen of them as text.
-use call_fs::{Answer, Call, CallFs, FsError, PIECE, perform};
+use call_fs::{Answer, Call, CallFs, Fd, FsError, How, PIECE, perform};
 use host_fs::{HostFs, System};
-use mail_bytes::Memory;
+use mail_bytes::{Memory, undec, unescape};
 use std::alloc::Global;
+
+/// The bytes of a text in which `%` and two hexadecimal digits are one byte; of any other `%` the text itself.
+pub fn bytes(alloc: Global, text: &str) -> Vec<u8> {
+    match unescape(alloc, text.as_bytes()) {
+        Ok(bytes) => bytes,
+        Err(_) => Vec::from_slice(alloc, text.as_bytes()).unwrap_or(Vec::new(alloc)),
+    }
+}
+
+/// A number as decimal text; 0 for any other text.
+fn number(text: &[u8]) -> u64 {
+    undec(text).unwrap_or(0)
+}
+
+/// The call of this name with these arguments.
+fn call_of<'a>(name: &str, first: &'a [u8], second: &'a [u8], third: &'a [u8]) -> Call<'a> {
+    let fd = Fd(number(first));
+    match name {
+        "create" => Call::CreateExcl(first),
+        "open_read" => Call::Open(first, How::Read),
+        "open_append" => Call::Open(first, How::Append),
+        "open_write" => Call::Open(first, How::Write),
+        "read" => Call::ReadAt(fd, number(second), number(third)),
+        "write" => Call::WriteAt(fd, number(second), third),
+        "append" => Call::Append(fd, second),
+        "cut" => Call::Truncate(fd, number(second)),
+        "sync" => Call::Sync(fd),
+        "close" => Call::Close(fd),
+        "link" => Call::Link(first, second),
+        "unlink" => Call::Unlink(first),
+        "stat" => Call::Stat(first),
+        _ => Call::NextName(first, second),
+    }
+}
+
+/// What stands before the first space, and after it.
+pub fn parted(text: &str) -> (&str, &str) {
+    text.split_once(' ').unwrap_or((text, ""))
+}
+
+/// What is seen of the call that a text is, its arguments parted by spaces.
+pub fn see_text<S: System>(alloc: Global, disk: &mut HostFs<S>, text: &str, whole: bool) -> String {
+    let (name, rest) = parted(text);
+    let (first, rest) = parted(rest);
+    let (second, third) = parted(rest);
+    let first = bytes(alloc, first);
+    let second = bytes(alloc, second);
+    let third = bytes(alloc, third);
+    let seen = see(alloc, disk, call_of(name, &first, &second, &third), whole);
+    drop(first);
+    drop(second);
+    drop(third);
+    seen
+}
 
 /// Makes the call, with room for the bytes of a read.
 fn make_call<S: System>(

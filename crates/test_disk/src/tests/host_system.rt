@@ -2,6 +2,7 @@
 ghost use Rattle.std.specs.Prelude.{◌≤◌, IfOk, length};
 ghost use Rattle.std.specs.Io.{ReadsAtMost};
 
+use super::host_steps::bytes;
 use call_fs::How;
 use host_fs::{Facts, System};
 use mail_bytes::Memory;
@@ -11,30 +12,14 @@ use std::io::{self, ErrorKind, Read};
 use std::rc::Rc;
 use std::time::Duration;
 
-/// What the system answers to one call.
-#[derive(Clone, Copy)]
-pub enum Reply<'a> {
-    /// It was done.
-    Done,
-    /// So many bytes were read or written, or as many as were asked for if those are fewer.
-    Count(usize),
-    /// These bytes were read.
-    Bytes(&'a [u8]),
-    /// A file with this number, length and time of modification.
-    File(u64, u64, i64),
-    /// A directory that was changed one second after 1970 began.
-    Directory,
-    /// A FIFO, a device or the like, changed then.
-    Special,
-    /// It is told so.
-    Told(Facts),
-    /// The clock tells so many nanoseconds since 1970.
-    Clock(u64),
-    /// It failed so.
-    Fails(ErrorKind),
-}
-
-/// A system that answers each call by the next reply, and fails once there is none.
+/// A system that answers each call by the next reply, and fails once there is none. Replies are parted by `, `:
+///
+/// - `done`: it was done; `count N`: so many bytes were read or written, or as many as were asked for if those are fewer;
+///   `bytes TEXT`: these bytes were read;
+/// - `file NUMBER LENGTH MODIFIED`: a file; `special`: a FIFO, a device or the like; `dir`: a directory that was changed one second
+///   after 1970 began; `dir NUMBER LENGTH MODIFIED NANOS CHANGED NANOS`: a directory that is told so;
+/// - `clock N`: so many nanoseconds since 1970;
+/// - `missing`, `no_directory`, `there`, `forbidden`, `interrupted`, `is_directory`, `other`: it failed so.
 #[derive(Drop)]
 pub struct Scripted(Rc<Script>);
 
@@ -42,7 +27,7 @@ pub struct Scripted(Rc<Script>);
 #[derive(Drop)]
 pub struct Script {
     alloc: Global,
-    replies: Cell<&'static [Reply<'static>]>,
+    replies: Cell<&'static str>,
     opened: Cell<u64>,
     asked: RefCell<String>,
 }
@@ -60,7 +45,7 @@ impl Scripted {
     pub fn new(alloc: Global) -> Result<Self, Memory> {
         let script = Script {
             alloc,
-            replies: Cell::new(&[]),
+            replies: Cell::new(""),
             opened: Cell::new(0),
             asked: RefCell::new(String::new(alloc)),
         };
@@ -68,7 +53,7 @@ impl Scripted {
     }
 
     /// Gives it replies, in place of those that are left.
-    pub fn set_replies(&self, replies: &'static [Reply<'static>]) {
+    pub fn set_replies(&self, replies: &'static str) {
         self.0.replies.set(replies);
     }
 
@@ -89,25 +74,31 @@ impl Scripted {
 
 impl Script {
     /// Writes a call down, and tells the reply.
-    fn ask(&self, call: Result<String, AllocError>) -> Reply<'static> {
+    fn ask(&self, call: Result<String, AllocError>) -> &'static str {
         if let (Ok(call), Ok(mut asked)) = (call, self.asked.try_borrow_mut()) {
             let _ = asked.push_str(call.as_str());
             let _ = asked.push_str("; ");
         }
-        match self.replies.get().split_first() {
-            Some((first, rest)) => {
-                self.replies.set(rest);
-                *first
-            }
-            None => Reply::Fails(ErrorKind::Other),
+        let replies = self.replies.get();
+        let (first, rest) = replies.split_once(", ").unwrap_or((replies, ""));
+        self.replies.set(rest);
+        first
+    }
+
+    /// As `ask`, if the call doesn't fail.
+    fn ask_well(&self, call: Result<String, AllocError>) -> io::Result<&'static str> {
+        let reply = self.ask(call);
+        match failure_of(reply) {
+            Some(kind) => Err(io::Error::from(kind)),
+            None => Ok(reply),
         }
     }
 
     /// As `ask`, of a call that tells nothing.
     fn ask_done(&self, call: Result<String, AllocError>) -> io::Result<()> {
-        match self.ask(call) {
-            Reply::Fails(kind) => Err(io::Error::from(kind)),
-            _ => Ok(()),
+        match self.ask_well(call) {
+            Ok(_) => Ok(()),
+            Err(why) => Err(why),
         }
     }
 
@@ -121,38 +112,17 @@ impl Script {
 
     /// As `ask`, of a call that tells what a file is.
     fn ask_facts(&self, call: Result<String, AllocError>) -> io::Result<Facts> {
-        match self.ask(call) {
-            Reply::Fails(kind) => Err(io::Error::from(kind)),
-            Reply::Told(facts) => Ok(facts),
-            Reply::File(number, length, modified) => Ok(Facts {
-                is_dir: false,
-                is_file: true,
-                number,
-                length,
-                modified,
-                modified_nanos: 0,
-                changed: modified,
-                changed_nanos: 0,
-            }),
-            reply => Ok(Facts {
-                is_dir: !matches!(reply, Reply::Special),
-                is_file: false,
-                number: 2,
-                length: 4096,
-                modified: 1,
-                modified_nanos: 0,
-                changed: 1,
-                changed_nanos: 0,
-            }),
+        match self.ask_well(call) {
+            Ok(reply) => Ok(facts_of(reply)),
+            Err(why) => Err(why),
         }
     }
 
     /// As `ask`, of the clock.
     fn ask_clock(&self) -> io::Result<Duration> {
-        match self.ask(format!(in self.alloc; "clock")) {
-            Reply::Fails(kind) => Err(io::Error::from(kind)),
-            Reply::Clock(nanos) => Ok(Duration::from_nanos(nanos)),
-            _ => Ok(Duration::ZERO),
+        match self.ask_well(format!(in self.alloc; "clock")) {
+            Ok(reply) => Ok(Duration::from_nanos(number_of(reply, "clock "))),
+            Err(why) => Err(why),
         }
     }
 
@@ -160,10 +130,9 @@ impl Script {
     fn ask_count(&self, call: Result<String, AllocError>, most: usize) -> io::Result<usize>
         ensures { IfOk result (λ count. count ≤ most) }
     {
-        match self.ask(call) {
-            Reply::Fails(kind) => Err(io::Error::from(kind)),
-            Reply::Count(count) => Ok(count.min(most)),
-            _ => Ok(0),
+        match self.ask_well(call) {
+            Ok(reply) => Ok((number_of(reply, "count ") as usize).min(most)),
+            Err(why) => Err(why),
         }
     }
 
@@ -171,11 +140,64 @@ impl Script {
     fn ask_bytes(&self, call: Result<String, AllocError>, into: &mut [u8]) -> io::Result<usize>
         ensures { ReadsAtMost result into.new }
     {
-        match self.ask(call) {
-            Reply::Fails(kind) => Err(io::Error::from(kind)),
-            Reply::Bytes(bytes) => Ok(copy(bytes, into)),
-            _ => Ok(0),
+        match self.ask_well(call) {
+            Ok(reply) => {
+                let read = bytes(self.alloc, reply.strip_prefix("bytes ").unwrap_or(""));
+                let count = copy(&read, into);
+                drop(read);
+                Ok(count)
+            }
+            Err(why) => Err(why),
         }
+    }
+}
+
+/// How a reply fails, if it does.
+fn failure_of(reply: &str) -> Option<ErrorKind> {
+    match reply {
+        "missing" => Some(ErrorKind::NotFound),
+        "no_directory" => Some(ErrorKind::NotADirectory),
+        "there" => Some(ErrorKind::AlreadyExists),
+        "forbidden" => Some(ErrorKind::PermissionDenied),
+        "interrupted" => Some(ErrorKind::Interrupted),
+        "is_directory" => Some(ErrorKind::IsADirectory),
+        "" | "other" => Some(ErrorKind::Other),
+        _ => None,
+    }
+}
+
+/// The number after this name, if it is the reply; else 0.
+fn number_of(reply: &str, name: &str) -> u64 {
+    match reply.strip_prefix(name) {
+        Some(number) => number.parse::<u64>().unwrap_or(0),
+        None => 0,
+    }
+}
+
+/// The number of this place among those of a reply, from 0 on.
+fn number_at(reply: &str, place: usize) -> Option<i64> {
+    reply
+        .split(' ')
+        .nth(place.saturating_add(1))?
+        .parse::<i64>()
+        .ok()
+}
+
+/// What a reply tells of a file. Of one that isn't told with numbers these are those of a directory that was changed one
+/// second after 1970 began.
+fn facts_of(reply: &str) -> Facts {
+    let is_file = reply.starts_with("file ");
+    let modified = number_at(reply, 2).unwrap_or(1);
+    let changed = if is_file { modified } else { 1 };
+    Facts {
+        is_dir: reply.starts_with("dir"),
+        is_file,
+        number: number_at(reply, 0).unwrap_or(2).unsigned_abs(),
+        length: number_at(reply, 1).unwrap_or(4096).unsigned_abs(),
+        modified,
+        modified_nanos: number_at(reply, 3).unwrap_or(0),
+        changed: number_at(reply, 4).unwrap_or(changed),
+        changed_nanos: number_at(reply, 5).unwrap_or(0),
     }
 }
 

@@ -2,10 +2,11 @@
 use super::clients::mem_disk;
 use super::steps::Seen::{Bytes, Done, Made, Number, Refused};
 use super::steps::Step::{Append, Close, Make, Next, Read, Stat, Sync, Unlink};
-use super::steps::{Seen, Step, play, same, text};
+use super::steps::{Seen, Step, play, same};
 use call_fs::{CallFs, FsError};
 use crash_fs::{CrashDisk, Stopper};
-use std::test::Fail;
+use std::alloc::Global;
+use std::process::Abort;
 
 /// Four calls are passed on.
 const UNPLUGGED: &[(Step<'static>, Seen<'static>)] = &[
@@ -25,21 +26,35 @@ const PLUGGED: &[(Step<'static>, Seen<'static>)] = &[
     (Next(b"pid", b""), Bytes(b"a")),
 ];
 
-#[test]
-fn a_stopper_passes_its_first_calls_on(rt: HostRuntime) -> Result<(), Fail> {
-    let alloc = rt.alloc();
-    let below = CrashDisk::new(mem_disk(&rt, alloc, &[])?);
-    let mut disk = Stopper::new(below, 4);
-    play(&rt, alloc, &mut disk, UNPLUGGED);
-    same(&rt, Number(disk.faults()), Number(2));
-    same(&rt, text(disk.disk().bytes_of(b"pid/a")), Bytes(b"one"));
-    Ok(())
+/// Plays these steps over a disk that is unplugged after so many calls, and counts its faults; whether that can be made, and
+/// `pid/a` has these bytes then.
+fn plays(
+    rt: &impl Abort,
+    alloc: Global,
+    calls: u64,
+    steps: &[(Step<'_>, Seen<'_>)],
+    faults: u64,
+    bytes: &[u8],
+) -> bool {
+    match mem_disk(alloc, &[]) {
+        Ok(below) => {
+            let mut disk = Stopper::new(CrashDisk::new(below), calls);
+            play(rt, alloc, &mut disk, steps);
+            same(rt, Number(disk.faults()), Number(faults));
+            let is_left = disk.disk().bytes_of(b"pid/a") == Some(bytes);
+            drop(disk);
+            is_left
+        }
+        Err(_) => false,
+    }
 }
 
 #[test]
-fn a_stopper_passes_each_kind_of_call_on(rt: HostRuntime) -> Result<(), Fail> {
-    let alloc = rt.alloc();
-    let mut disk = Stopper::new(CrashDisk::new(mem_disk(&rt, alloc, &[])?), 99);
-    play(&rt, alloc, &mut disk, PLUGGED);
-    Ok(())
+fn a_stopper_passes_its_first_calls_on(rt: HostRuntime) {
+    assert!(rt; plays(&rt, rt.alloc(), 4, UNPLUGGED, 2, b"one"));
+}
+
+#[test]
+fn a_stopper_passes_each_kind_of_call_on(rt: HostRuntime) {
+    assert!(rt; plays(&rt, rt.alloc(), 99, PLUGGED, 0, b"onetwo"));
 }

@@ -56,7 +56,7 @@ impl Tally {
         let at = piece.chan as usize;
         let right = match piece.brought {
             Brought::Bytes(count) => count == 1000 && piece.bytes[999] == letters[at],
-            Brought::End => true,
+            Brought::End | Brought::Cut => true,
             Brought::Failed => true,
         };
         self.is_right = self.is_right

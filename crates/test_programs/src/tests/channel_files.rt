@@ -1,7 +1,7 @@
 // The records of a channel file.
 
 use envelope_records::{Record, RecordError, records};
-use std::test::Fail;
+use std::alloc::Global;
 
 /// A record: whether it is done, where it is, its address.
 type Row = (bool, u64, &'static [u8]);
@@ -46,13 +46,19 @@ fn are_rows(found: &[Record], rows: &[Row]) -> bool {
             .all(|(record, row)| is_row(record, row))
 }
 
-#[test]
-fn a_file_of_records_is_read(rt: HostRuntime) -> Result<(), Fail> {
-    for (bytes, rows) in &FILES {
-        let found = records(rt.alloc(), bytes)?;
-        assert!(rt; are_rows(found.as_slice(), rows), "{bytes:?}");
+/// Whether a file has these records.
+fn is_read(alloc: Global, bytes: &[u8], rows: &[Row]) -> bool {
+    match records(alloc, bytes) {
+        Ok(found) => are_rows(found.as_slice(), rows),
+        Err(_) => false,
     }
-    Ok(())
+}
+
+#[test]
+fn a_file_of_records_is_read(rt: HostRuntime) {
+    for (bytes, rows) in &FILES {
+        assert!(rt; is_read(rt.alloc(), bytes, rows), "{bytes:?}");
+    }
 }
 
 #[test]

@@ -1,4 +1,6 @@
 // The cleaner over a disk in memory whose machine can be stopped.
+
+use super::fields::{field, is_well_formed, number, numbers, repeated};
 use call_fs::{
     Answer, Call, CrashFs, FsError, Got, Machine, Need, PIECE, Port, Ready, Survival, perform,
 };
@@ -7,7 +9,6 @@ use mail_bytes::{LAST_MOMENT, Memory};
 use mem_fs::MemFs;
 use queue_clean::Cleaner;
 use std::alloc::Global;
-use std::test::Fail;
 
 /// Nothing is ready, and no child has ended.
 const READY: Ready = Ready {
@@ -46,20 +47,20 @@ struct Outside<'a> {
 /// Takings of as many bytes as there may be.
 const LARGE: [usize; 3] = [PIECE; 3];
 
-/// At this moment, with an input that comes in takings of these sizes and ends, and with room for every answer.
-fn begin<'a>(now: u64, text: &'a [u8], sizes: [usize; 3], wanted: &'a [u8]) -> Outside<'a> {
+/// What lies outside by a row, with this input in takings of these sizes, and these answers that are expected.
+fn begin<'a>(row: &str, text: &'a [u8], sizes: [usize; 3], wanted: &'a [u8]) -> Outside<'a> {
     Outside {
-        now,
+        now: number(row, "now", 0),
         input: Input {
             rest: text,
             sizes,
             takings: 0,
-            is_failing: false,
+            is_failing: field(row, "end") == "failed",
         },
         output: Output {
             wanted,
             given: 0,
-            room: usize::MAX,
+            room: number(row, "room", u64::MAX) as usize,
             is_right: true,
         },
         searches: 0,
@@ -164,402 +165,231 @@ fn run(alloc: Global, disk: &mut CrashDisk, outside: &mut Outside<'_>) -> Option
 }
 
 /// The directories of the queue that these tests use.
-const DIRS: [&[u8]; 12] = [
-    b"pid", b"intd", b"todo", b"mess/1", b"mess/2", b"mess/3", b"mess/4", b"mess/5", b"mess/6",
-    b"mess/7", b"mess/8", b"mess/9",
-];
+const DIRS: &str = "pid intd todo mess/1 mess/2 mess/3 mess/4 mess/5 mess/6 mess/7 mess/8 mess/9";
 
-/// Makes the queue's directories and puts empty files of moment 0 there; whether all that was done.
-fn is_filled(alloc: Global, disk: &mut CrashDisk, files: &[&[u8]]) -> bool {
+/// Makes the queue's directories, unless a row says that there are none, and puts its files there, empty and of moment 0;
+/// whether all that was done.
+fn is_filled(alloc: Global, disk: &mut CrashDisk, row: &str) -> bool {
     let mut is_done = true;
-    for dir in &DIRS {
-        is_done &= disk.dir(alloc, dir).is_ok();
+    let dirs = if field(row, "dirs") == "none" {
+        ""
+    } else {
+        DIRS
+    };
+    for dir in dirs.split_whitespace() {
+        is_done &= disk.dir(alloc, dir.as_bytes()).is_ok();
     }
-    for name in files {
-        is_done &= disk.place(alloc, name, b"").is_ok();
+    for name in field(row, "files").split_whitespace() {
+        is_done &= disk.place(alloc, name.as_bytes(), b"").is_ok();
     }
     is_done
 }
 
 /// Whether each of these names is there, or none is.
-fn are_there(disk: &CrashDisk, names: &[&[u8]], is_there: bool) -> bool {
+fn are_there(disk: &CrashDisk, names: &str, is_there: bool) -> bool {
     let mut are_so = true;
-    for name in names {
-        are_so = are_so && disk.bytes_of(name).is_some() == is_there;
+    for name in names.split_whitespace() {
+        are_so &= disk.bytes_of(name.as_bytes()).is_some() == is_there;
     }
     are_so
 }
 
 /// A disk that fails at these calls, counted from 1.
-fn disk_of(alloc: Global, faults: &[u64]) -> Result<CrashDisk, Memory> {
-    let faults = Vec::from_slice(alloc, faults)?;
+fn disk_of(alloc: Global, faults: &str) -> Result<CrashDisk, Memory> {
+    let faults = numbers(alloc, faults);
     Ok(CrashDisk::new(MemFs::new(alloc, Vec::new(alloc), faults)?))
 }
 
-/// Files that are in the queue, calls that fail, and the moment; the input and the answers to it; which of the files are
-/// there once the run has ended with 0 and the machine has stopped, and which are not.
-#[derive(Drop)]
-struct Case {
-    files: &'static [&'static [u8]],
-    faults: &'static [u64],
-    now: u64,
-    text: &'static [u8],
-    answers: &'static [u8],
-    left: &'static [&'static [u8]],
-    gone: &'static [&'static [u8]],
+/// What a row may say: files that are in the queue, whether it has no directories, calls that fail, and the moment; the
+/// input, the answers to it, `*` for any, and how often both come; how the input ends, and for how many answers there is
+/// room; the status, and how often `pid` is searched; which of the files are there once the run has ended and the machine
+/// has stopped, and which are not.
+const NAMES: [&str; 13] = [
+    "files", "dirs", "fails", "now", "input", "answers", "times", "end", "room", "status",
+    "searches", "left", "gone",
+];
+
+/// Whether the answers are those of the row.
+fn are_given(row: &str, text: &[u8], output: &Output<'_>) -> bool {
+    if field(row, "answers") == "*" {
+        return output.given == nuls_in(text);
+    }
+    output.is_right & (output.given == output.wanted.len())
 }
 
-/// Whether a run goes as the case says.
-fn is_right(alloc: Global, case: &Case) -> bool {
-    let Ok(mut disk) = disk_of(alloc, case.faults) else {
-        return false;
-    };
-    let is_filled = is_filled(alloc, &mut disk, case.files);
-    let mut outside = begin(case.now, case.text, LARGE, case.answers);
-    let status = run(alloc, &mut disk, &mut outside);
+/// Whether `pid` was searched as often as the row says, if it does.
+fn is_searched(row: &str, searches: usize) -> bool {
+    number(row, "searches", searches as u64) == searches as u64
+}
+
+/// Whether it ended with the status of the row.
+fn has_ended(row: &str, status: Option<u8>) -> bool {
+    match status {
+        Some(status) => u64::from(status) == number(row, "status", 0),
+        None => false,
+    }
+}
+
+/// Whether a run over this disk goes as the row says.
+fn goes(alloc: Global, row: &str, disk: &mut CrashDisk, mut outside: Outside<'_>) -> bool {
+    let text = outside.input.rest;
+    let is_filled = is_filled(alloc, disk, row);
+    let status = run(alloc, disk, &mut outside);
     let is_stopped = disk.halt(alloc, Survival::Lose).is_ok();
     is_filled
-        && is_stopped
-        && status == Some(0)
-        && outside.output.is_right
-        && outside.output.given == case.answers.len()
-        && are_there(&disk, case.left, true)
-        && are_there(&disk, case.gone, false)
+        & is_stopped
+        & has_ended(row, status)
+        & are_given(row, text, &outside.output)
+        & is_searched(row, outside.searches)
+        & are_there(disk, field(row, "left"), true)
+        & are_there(disk, field(row, "gone"), false)
+        & (field(row, "answers") != "*" || are_as_named(disk, text))
 }
 
-/// Texts and the answers to them, over a queue without files.
-const ANSWERS: [(&[u8], &[u8]); 24] = [
-    (b"foop/1\0", b"+"),
-    (b"todo/1\0", b"+"),
-    (b"foop/\0", b"x"),
-    (b"todo/\0", b"x"),
-    (b"foop/18446744073709551615\0", b"+"),
-    (b"todo/18446744073709551616\0", b"x"),
-    (b"foop/0\0", b"x"),
-    (b"foop/01\0", b"x"),
-    (b"foop/1x\0", b"x"),
-    (b"foop/ 1\0", b"x"),
-    (b"foop/+1\0", b"x"),
-    (b"foop\0", b"x"),
-    (b"fool/1\0", b"x"),
-    (b"FOOP/1\0", b"x"),
-    (b" foop/1\0", b"x"),
-    (b"foop/1\n\0", b"x"),
-    (b"mess/1/1\0", b"x"),
-    (b"\0", b"x"),
-    (b"\0\0\0", b"xxx"),
-    (b"foop/1\0todo/2\0zzzzzz\0", b"++x"),
-    // a rest without NUL is dropped
-    (b"foop/1\0foop/2", b"+"),
-    (b"foop/1", b""),
-    (b"", b""),
-    // of 100 bytes, and of 101
-    (
-        b"foop/1111111111111111111111111111111111111111111111111111111111111111111111111111111111111111111111\0todo/11111111111111111111111111111111111111111111111111111111111111111111111111111111111111111111111\0foop/1\0",
-        b"xx+",
-    ),
-];
+/// Whether a run over a new disk does.
+fn goes_anew(alloc: Global, row: &str, outside: Outside<'_>) -> bool {
+    match disk_of(alloc, field(row, "fails")) {
+        Ok(mut disk) => {
+            let is_so = goes(alloc, row, &mut disk, outside);
+            drop(disk);
+            is_so
+        }
+        Err(_) => false,
+    }
+}
+
+/// Whether a run goes as the row says, with takings of these sizes.
+fn is_right(alloc: Global, row: &str, sizes: [usize; 3]) -> bool {
+    let text = repeated(alloc, row, "input");
+    let wanted = repeated(alloc, row, "answers");
+    let is_so = goes_anew(alloc, row, begin(row, &text, sizes, &wanted));
+    drop(text);
+    drop(wanted);
+    is_so & is_well_formed(alloc, row, &NAMES)
+}
+
+/// The first row that goes otherwise, if there is one. A line that begins with `#` is a comment.
+fn first_wrong(alloc: Global, rows: &'static str) -> Option<&'static str> {
+    for row in rows.lines() {
+        if !row.starts_with('#') && !is_right(alloc, row, LARGE) {
+            return Some(row);
+        }
+    }
+    None
+}
+
+/// Over a queue without files.
+const ANSWERS: &str = "input foop/1%00; answers +
+input todo/1%00; answers +
+input foop/%00; answers x
+input todo/%00; answers x
+input foop/18446744073709551615%00; answers +
+input todo/18446744073709551616%00; answers x
+input foop/0%00; answers x
+input foop/01%00; answers x
+input foop/1x%00; answers x
+input foop/%201%00; answers x
+input foop/+1%00; answers x
+input foop%00; answers x
+input fool/1%00; answers x
+input FOOP/1%00; answers x
+input %20foop/1%00; answers x
+input foop/1%0A%00; answers x
+input mess/1/1%00; answers x
+input %00; answers x
+input %00%00%00; answers xxx
+input foop/1%00todo/2%00zzzzzz%00; answers ++x
+# a rest without NUL is dropped
+input foop/1%00foop/2; answers +
+input foop/1
+input
+# of 100 bytes, and of 101
+input foop/1111111111111111111111111111111111111111111111111111111111111111111111111111111111111111111111%00todo/11111111111111111111111111111111111111111111111111111111111111111111111111111111111111111111111%00foop/1%00; answers xx+";
 
 #[test]
 fn each_text_has_its_answers(rt: HostRuntime) {
-    for (text, answers) in &ANSWERS {
-        let case = Case {
-            files: &[],
-            faults: &[],
-            now: 0,
-            text,
-            answers,
-            left: &[],
-            gone: &[],
-        };
-        assert!(rt; is_right(rt.alloc(), &case), "{text:?}");
-    }
+    assert_eq!(rt; first_wrong(rt.alloc(), ANSWERS), None);
 }
 
 /// Call 1 is the search of `pid`, which has no name.
-const UNLINKS: [Case; 9] = [
-    Case {
-        files: &[b"intd/1", b"mess/1/1", b"todo/1", b"mess/1/24"],
-        faults: &[],
-        now: 0,
-        text: b"foop/1\0",
-        answers: b"+",
-        left: &[b"todo/1", b"mess/1/24"],
-        gone: &[b"intd/1", b"mess/1/1"],
-    },
-    Case {
-        files: &[b"intd/1", b"mess/1/1", b"todo/1", b"todo/24"],
-        faults: &[],
-        now: 0,
-        text: b"todo/1\0",
-        answers: b"+",
-        left: &[b"mess/1/1", b"todo/24"],
-        gone: &[b"intd/1", b"todo/1"],
-    },
-    Case {
-        files: &[b"mess/1/1", b"mess/1/24"],
-        faults: &[],
-        now: 0,
-        text: b"foop/24\0",
-        answers: b"+",
-        left: &[b"mess/1/1"],
-        gone: &[b"mess/1/24"],
-    },
-    // the unlink of intd fails: the other one isn't made
-    Case {
-        files: &[b"intd/1", b"mess/1/1", b"todo/1"],
-        faults: &[2],
-        now: 0,
-        text: b"todo/1\0",
-        answers: b"!",
-        left: &[b"intd/1", b"mess/1/1", b"todo/1"],
-        gone: &[],
-    },
-    Case {
-        files: &[b"intd/1", b"mess/1/1", b"todo/1"],
-        faults: &[2],
-        now: 0,
-        text: b"foop/1\0",
-        answers: b"!",
-        left: &[b"intd/1", b"mess/1/1", b"todo/1"],
-        gone: &[],
-    },
-    // the other one fails
-    Case {
-        files: &[b"intd/1", b"todo/1"],
-        faults: &[3],
-        now: 0,
-        text: b"todo/1\0",
-        answers: b"!",
-        left: &[b"todo/1"],
-        gone: &[b"intd/1"],
-    },
-    Case {
-        files: &[b"intd/1", b"mess/1/1"],
-        faults: &[3],
-        now: 0,
-        text: b"foop/1\0",
-        answers: b"!",
-        left: &[b"mess/1/1"],
-        gone: &[b"intd/1"],
-    },
-    // the next command is carried out all the same
-    Case {
-        files: &[b"intd/1", b"mess/1/1", b"mess/2/2"],
-        faults: &[2],
-        now: 0,
-        text: b"foop/1\0x\0foop/2\0",
-        answers: b"!x+",
-        left: &[b"intd/1", b"mess/1/1"],
-        gone: &[b"mess/2/2"],
-    },
-    // what is no command removes nothing
-    Case {
-        files: &[b"intd/1", b"mess/1/1", b"todo/1"],
-        faults: &[],
-        now: 0,
-        text: b"foop/01\0todo/1 \0mess/1/1\0intd/1\0foop/1",
-        answers: b"xxxx",
-        left: &[b"intd/1", b"mess/1/1", b"todo/1"],
-        gone: &[],
-    },
-];
+const UNLINKS: &str =
+    "files intd/1 mess/1/1 todo/1 mess/1/24; input foop/1%00; answers +; left todo/1 mess/1/24; gone intd/1 mess/1/1
+files intd/1 mess/1/1 todo/1 todo/24; input todo/1%00; answers +; left mess/1/1 todo/24; gone intd/1 todo/1
+files mess/1/1 mess/1/24; input foop/24%00; answers +; left mess/1/1; gone mess/1/24
+# the unlink of intd fails: the other one isn't made
+files intd/1 mess/1/1 todo/1; fails 2; input todo/1%00; answers !; left intd/1 mess/1/1 todo/1
+files intd/1 mess/1/1 todo/1; fails 2; input foop/1%00; answers !; left intd/1 mess/1/1 todo/1
+# the other one fails
+files intd/1 todo/1; fails 3; input todo/1%00; answers !; left todo/1; gone intd/1
+files intd/1 mess/1/1; fails 3; input foop/1%00; answers !; left mess/1/1; gone intd/1
+# the next command is carried out all the same
+files intd/1 mess/1/1 mess/2/2; fails 2; input foop/1%00x%00foop/2%00; answers !x+; left intd/1 mess/1/1; gone mess/2/2
+# what is no command removes nothing
+files intd/1 mess/1/1 todo/1; input foop/01%00todo/1%20%00mess/1/1%00intd/1%00foop/1; answers xxxx; left intd/1 mess/1/1 todo/1";
 
 #[test]
 fn each_command_removes_its_names(rt: HostRuntime) {
-    for case in &UNLINKS {
-        assert!(rt;
-            is_right(rt.alloc(), case),
-            "{:?} {:?}",
-            case.text,
-            case.faults
-        );
-    }
+    assert_eq!(rt; first_wrong(rt.alloc(), UNLINKS), None);
 }
 
 /// Files in `pid` have moment 0.
-const SCANS: [Case; 8] = [
-    Case {
-        files: &[b"pid/77.0.1", b"pid/78.0.1"],
-        faults: &[],
-        now: 129_600,
-        text: b"",
-        answers: b"",
-        left: &[b"pid/77.0.1", b"pid/78.0.1"],
-        gone: &[],
-    },
-    Case {
-        files: &[b"pid/77.0.1", b"pid/78.0.1", b"mess/1/1"],
-        faults: &[],
-        now: 129_601,
-        text: b"",
-        answers: b"",
-        left: &[b"mess/1/1"],
-        gone: &[b"pid/77.0.1", b"pid/78.0.1"],
-    },
-    // a name of another form, and the longest one
-    Case {
-        files: &[
-            b"pid/stray",
-            b"pid/xxxxxxxxxxxxxxxxxxxxxxxxxxxxxxxxxxxxxxxxxxxxxxxxxxxxxxxxxxxxxxxxxxxxxxxxxxxxxxxxxxxxxxxxxxxxxxxxxxxxxxxxxxxxxxxxxxxxxxxxxxxxxxxxxxxxxxxxxxxxxxxxxxxxxxxxxxxxxxxxxxxxxxxxxxxxxxxxxxxxxxxxxxxxxxxxxxxxxxxxxxxxxxxxxxxxxxxxxxxxxxxxxxxxxxxxxxxxxxxxxxxxxxxxxxxxxxx",
-        ],
-        faults: &[],
-        now: 129_601,
-        text: b"",
-        answers: b"",
-        left: &[],
-        gone: &[
-            b"pid/stray",
-            b"pid/xxxxxxxxxxxxxxxxxxxxxxxxxxxxxxxxxxxxxxxxxxxxxxxxxxxxxxxxxxxxxxxxxxxxxxxxxxxxxxxxxxxxxxxxxxxxxxxxxxxxxxxxxxxxxxxxxxxxxxxxxxxxxxxxxxxxxxxxxxxxxxxxxxxxxxxxxxxxxxxxxxxxxxxxxxxxxxxxxxxxxxxxxxxxxxxxxxxxxxxxxxxxxxxxxxxxxxxxxxxxxxxxxxxxxxxxxxxxxxxxxxxxxxxxxxxxxxx",
-        ],
-    },
-    // a stat that fails is passed over
-    Case {
-        files: &[b"pid/77.0.1", b"pid/78.0.1"],
-        faults: &[2],
-        now: 129_601,
-        text: b"",
-        answers: b"",
-        left: &[b"pid/77.0.1"],
-        gone: &[b"pid/78.0.1"],
-    },
-    // so is an unlink
-    Case {
-        files: &[b"pid/77.0.1", b"pid/78.0.1"],
-        faults: &[3],
-        now: 129_601,
-        text: b"",
-        answers: b"",
-        left: &[b"pid/77.0.1"],
-        gone: &[b"pid/78.0.1"],
-    },
-    // a search that fails ends the scan
-    Case {
-        files: &[b"pid/77.0.1", b"pid/78.0.1", b"mess/1/1"],
-        faults: &[1],
-        now: 129_601,
-        text: b"foop/1\0",
-        answers: b"+",
-        left: &[b"pid/77.0.1", b"pid/78.0.1"],
-        gone: &[b"mess/1/1"],
-    },
-    Case {
-        files: &[b"pid/77.0.1", b"pid/78.0.1"],
-        faults: &[4],
-        now: 129_601,
-        text: b"",
-        answers: b"",
-        left: &[b"pid/78.0.1"],
-        gone: &[b"pid/77.0.1"],
-    },
-    // 31 commands later the next scan begins again, and removes what the first one could not
-    Case {
-        files: &[b"pid/77.0.1", b"pid/78.0.1"],
-        faults: &[2, 4],
-        now: 129_601,
-        text: &[0; 31],
-        answers: &[b'x'; 31],
-        left: &[],
-        gone: &[b"pid/77.0.1", b"pid/78.0.1"],
-    },
-];
+const SCANS: &str = "files pid/77.0.1 pid/78.0.1; now 129600; left pid/77.0.1 pid/78.0.1
+files pid/77.0.1 pid/78.0.1 mess/1/1; now 129601; left mess/1/1; gone pid/77.0.1 pid/78.0.1
+# a name of another form, and the longest one
+files pid/stray pid/xxxxxxxxxxxxxxxxxxxxxxxxxxxxxxxxxxxxxxxxxxxxxxxxxxxxxxxxxxxxxxxxxxxxxxxxxxxxxxxxxxxxxxxxxxxxxxxxxxxxxxxxxxxxxxxxxxxxxxxxxxxxxxxxxxxxxxxxxxxxxxxxxxxxxxxxxxxxxxxxxxxxxxxxxxxxxxxxxxxxxxxxxxxxxxxxxxxxxxxxxxxxxxxxxxxxxxxxxxxxxxxxxxxxxxxxxxxxxxxxxxxxxxxxxxxxxxx; now 129601; gone pid/stray pid/xxxxxxxxxxxxxxxxxxxxxxxxxxxxxxxxxxxxxxxxxxxxxxxxxxxxxxxxxxxxxxxxxxxxxxxxxxxxxxxxxxxxxxxxxxxxxxxxxxxxxxxxxxxxxxxxxxxxxxxxxxxxxxxxxxxxxxxxxxxxxxxxxxxxxxxxxxxxxxxxxxxxxxxxxxxxxxxxxxxxxxxxxxxxxxxxxxxxxxxxxxxxxxxxxxxxxxxxxxxxxxxxxxxxxxxxxxxxxxxxxxxxxxxxxxxxxxx
+# a stat that fails is passed over
+files pid/77.0.1 pid/78.0.1; fails 2; now 129601; left pid/77.0.1; gone pid/78.0.1
+# so is an unlink
+files pid/77.0.1 pid/78.0.1; fails 3; now 129601; left pid/77.0.1; gone pid/78.0.1
+# a search that fails ends the scan
+files pid/77.0.1 pid/78.0.1 mess/1/1; fails 1; now 129601; input foop/1%00; answers +; left pid/77.0.1 pid/78.0.1; gone mess/1/1
+files pid/77.0.1 pid/78.0.1; fails 4; now 129601; left pid/78.0.1; gone pid/77.0.1
+# 31 commands later the next scan begins again, and removes what the first one could not
+files pid/77.0.1 pid/78.0.1; fails 2 4; now 129601; input %00; times 31; answers x; gone pid/77.0.1 pid/78.0.1";
+
+/// `pid` is gone through before commands 1, 32 and 63.
+const SEARCHES: &str = "input %00; times 0; answers x; searches 1
+input %00; times 1; answers x; searches 1
+input %00; times 30; answers x; searches 1
+input %00; times 31; answers x; searches 2
+input %00; times 40; answers x; searches 2
+input %00; times 61; answers x; searches 2
+input %00; times 62; answers x; searches 3";
 
 #[test]
 fn each_scan_removes_the_old_names(rt: HostRuntime) {
-    for case in &SCANS {
-        assert!(rt;
-            is_right(rt.alloc(), case),
-            "{} {:?}",
-            case.now,
-            case.faults
-        );
-    }
+    assert_eq!(rt; first_wrong(rt.alloc(), SCANS), None);
+    assert_eq!(rt; first_wrong(rt.alloc(), SEARCHES), None);
 }
 
-/// How often `pid` is searched, if it is empty, while so many commands come.
-const SEARCHES: [(usize, usize); 7] = [(0, 1), (1, 1), (30, 1), (31, 2), (40, 2), (61, 2), (62, 3)];
-
-/// Whether it is searched so often while this text comes.
-fn is_searched(alloc: Global, text: &[u8], searches: usize) -> bool {
-    let Ok(mut disk) = disk_of(alloc, &[]) else {
-        return false;
-    };
-    let is_filled = is_filled(alloc, &mut disk, &[]);
-    let mut outside = begin(0, text, LARGE, &[b'x'; 62]);
-    let status = run(alloc, &mut disk, &mut outside);
-    is_filled
-        && status == Some(0)
-        && outside.output.is_right
-        && outside.output.given == text.len()
-        && outside.searches == searches
-}
-
-#[test]
-fn pid_is_gone_through_before_commands_1_32_and_63(rt: HostRuntime) {
-    for (commands, searches) in &SEARCHES {
-        let is_searched = is_searched(rt.alloc(), &[0; 62][..*commands.min(&62)], *searches);
-        assert!(rt; is_searched, "{commands}");
-    }
-}
-
-/// Three commands, the second one of which is no command.
-const THREE: &[u8] = b"foop/1\0foop/x\0todo/2\0";
-
-/// Whether they are answered when the takings have these sizes.
-fn is_answered(alloc: Global, sizes: [usize; 3]) -> bool {
-    let Ok(mut disk) = disk_of(alloc, &[]) else {
-        return false;
-    };
-    let mut outside = begin(0, THREE, sizes, b"+x+");
-    run(alloc, &mut disk, &mut outside) == Some(0)
-        && outside.output.is_right
-        && outside.output.given == 3
-}
-
-#[test]
-fn it_does_not_matter_where_two_cuts_are(rt: HostRuntime) {
-    for first in 1..=THREE.len() {
-        for second in 1..=THREE.len() {
-            let is_answered = is_answered(rt.alloc(), [first, second, PIECE]);
-            assert!(rt; is_answered, "{first} {second}");
-        }
-    }
-}
-
-#[test]
-fn it_does_not_matter_how_long_the_takings_are(rt: HostRuntime) {
-    for size in 1..=THREE.len() {
-        assert!(rt; is_answered(rt.alloc(), [size; 3]), "{size}");
-    }
-}
-
-/// A text, how many answers can be given, whether the input fails after its last byte, and the status.
-const FAILURES: [(&[u8], usize, bool, u8); 7] = [
-    (b"x\0x\0", 0, false, 53),
-    (b"x\0x\0", 1, false, 53),
-    (b"x\0x\0", 2, false, 0),
-    (b"x\0x\0", 2, true, 54),
-    (b"x\0x\0", 1, true, 53),
-    (b"", 0, true, 54),
-    (b"foop/1", 0, true, 54),
-];
-
-/// With which status a cleaner ends, if it does.
-fn status_of(alloc: Global, text: &[u8], room: usize, is_failing: bool) -> Option<u8> {
-    let Ok(mut disk) = disk_of(alloc, &[]) else {
-        return None;
-    };
-    let mut outside = begin(0, text, LARGE, b"xx");
-    outside.output.room = room;
-    outside.input.is_failing = is_failing;
-    run(alloc, &mut disk, &mut outside)
-}
+/// The output is full, or the input fails after its last byte.
+const FAILURES: &str = "dirs none; input x%00x%00; room 0; status 53
+dirs none; input x%00x%00; room 1; answers x; status 53
+dirs none; input x%00x%00; room 2; answers xx; status 0
+dirs none; input x%00x%00; end failed; room 2; answers xx; status 54
+dirs none; input x%00x%00; end failed; room 1; answers x; status 53
+dirs none; end failed; room 0; status 54
+dirs none; input foop/1; end failed; room 0; status 54";
 
 #[test]
 fn what_fails_outside_ends_it(rt: HostRuntime) {
-    for (text, room, is_failing, status) in &FAILURES {
-        let found = status_of(rt.alloc(), text, *room, *is_failing);
-        assert_eq!(rt; found, Some(*status), "{text:?}");
+    assert_eq!(rt; first_wrong(rt.alloc(), FAILURES), None);
+}
+
+/// Three commands, the second one of which is no command.
+const THREE: &str = "dirs none; input foop/1%00foop/x%00todo/2%00; answers +x+";
+
+/// How many bytes they have.
+const LENGTH: usize = 21;
+
+#[test]
+fn it_does_not_matter_where_the_cuts_are(rt: HostRuntime) {
+    for first in 1..=LENGTH {
+        for second in 1..=LENGTH {
+            let is_cut = is_right(rt.alloc(), THREE, [first, second, PIECE]);
+            assert!(rt; is_cut, "{first} {second}");
+        }
+        assert!(rt; is_right(rt.alloc(), THREE, [first; 3]), "{first}");
     }
 }
 
@@ -583,19 +413,6 @@ fn chance(alloc: Global) -> Result<Vec<u8>, Memory> {
     Ok(text)
 }
 
-/// The files of a message, and the commands about it.
-const MESSAGES: [[&[u8]; 5]; 9] = [
-    [b"intd/1", b"mess/1/1", b"todo/1", b"foop/1", b"todo/1"],
-    [b"intd/2", b"mess/2/2", b"todo/2", b"foop/2", b"todo/2"],
-    [b"intd/3", b"mess/3/3", b"todo/3", b"foop/3", b"todo/3"],
-    [b"intd/4", b"mess/4/4", b"todo/4", b"foop/4", b"todo/4"],
-    [b"intd/5", b"mess/5/5", b"todo/5", b"foop/5", b"todo/5"],
-    [b"intd/6", b"mess/6/6", b"todo/6", b"foop/6", b"todo/6"],
-    [b"intd/7", b"mess/7/7", b"todo/7", b"foop/7", b"todo/7"],
-    [b"intd/8", b"mess/8/8", b"todo/8", b"foop/8", b"todo/8"],
-    [b"intd/9", b"mess/9/9", b"todo/9", b"foop/9", b"todo/9"],
-];
-
 /// Whether the text has this command.
 fn has_command(text: &[u8], command: &[u8]) -> bool {
     text.split(|byte| *byte == 0).any(|part| part == command)
@@ -612,53 +429,46 @@ fn nuls_in(text: &[u8]) -> usize {
     count
 }
 
-/// Whether those of a message's files are gone that the text names, and no others.
-fn is_as_named(disk: &CrashDisk, text: &[u8], message: &[&[u8]; 5]) -> bool {
-    let [intd, mess, todo, foop_command, todo_command] = message;
-    let is_foop = has_command(text, foop_command);
-    let is_todo = has_command(text, todo_command);
-    disk.bytes_of(intd).is_none() == (is_foop || is_todo)
-        && disk.bytes_of(mess).is_none() == is_foop
-        && disk.bytes_of(todo).is_none() == is_todo
+/// Whether those of the files of the message of this digit are gone that the text names, and no others.
+fn is_as_named(disk: &CrashDisk, text: &[u8], digit: u8) -> bool {
+    let is_foop = has_command(text, &[b'f', b'o', b'o', b'p', b'/', digit]);
+    let is_todo = has_command(text, &[b't', b'o', b'd', b'o', b'/', digit]);
+    let intd = disk.bytes_of(&[b'i', b'n', b't', b'd', b'/', digit]);
+    let mess = disk.bytes_of(&[b'm', b'e', b's', b's', b'/', digit, b'/', digit]);
+    let todo = disk.bytes_of(&[b't', b'o', b'd', b'o', b'/', digit]);
+    (intd.is_none() == (is_foop | is_todo))
+        & (mess.is_none() == is_foop)
+        & (todo.is_none() == is_todo)
 }
 
 /// Whether each message's files are.
 fn are_as_named(disk: &CrashDisk, text: &[u8]) -> bool {
     let mut are_so = true;
-    for message in &MESSAGES {
-        are_so = are_so && is_as_named(disk, text, message);
+    for digit in b"123456789" {
+        are_so &= is_as_named(disk, text, *digit);
     }
     are_so
 }
 
-/// Puts each message's files on a disk; whether that was done.
-fn has_messages(alloc: Global, disk: &mut CrashDisk) -> bool {
-    let mut is_done = true;
-    for message in &MESSAGES {
-        is_done = is_filled(alloc, disk, &message[..3]) && is_done;
-    }
-    is_done
-}
+/// The files of nine messages, and an input that gets an answer for each NUL.
+const CHANCE: &str =
+    "files intd/1 mess/1/1 todo/1 intd/2 mess/2/2 todo/2 intd/3 mess/3/3 todo/3 intd/4 mess/4/4 todo/4 intd/5 mess/5/5 todo/5 intd/6 mess/6/6 todo/6 intd/7 mess/7/7 todo/7 intd/8 mess/8/8 todo/8 intd/9 mess/9/9 todo/9; answers *";
 
-/// Whether a run over this text ends with 0, gives an answer for each NUL, and removes what the text names.
-fn removes_what_is_named(alloc: Global, text: &[u8]) -> bool {
-    let Ok(mut disk) = disk_of(alloc, &[]) else {
-        return false;
-    };
-    let has_messages = has_messages(alloc, &mut disk);
-    let mut outside = begin(0, text, LARGE, b"");
-    let status = run(alloc, &mut disk, &mut outside);
-    has_messages
-        && status == Some(0)
-        && outside.output.given == nuls_in(text)
-        && are_as_named(&disk, text)
+/// Whether a run over an input of chance goes so, and removes what that names.
+fn removes_what_is_named(alloc: Global) -> bool {
+    match chance(alloc) {
+        Ok(text) => {
+            let is_so = goes_anew(alloc, CHANCE, begin(CHANCE, &text, LARGE, b""));
+            drop(text);
+            is_so
+        }
+        Err(_) => false,
+    }
 }
 
 #[test]
-fn input_of_chance_removes_only_what_it_names(rt: HostRuntime) -> Result<(), Fail> {
-    let text = chance(rt.alloc())?;
-    assert!(rt; removes_what_is_named(rt.alloc(), &text));
-    Ok(())
+fn input_of_chance_removes_only_what_it_names(rt: HostRuntime) {
+    assert!(rt; removes_what_is_named(rt.alloc()));
 }
 
 /// Whether it may be handed 8192 bytes of one taking, by the trait of machines, and answers the first of 8192 commands.

@@ -1,7 +1,7 @@
 // The clock in memory.
 
+use super::fields::numbers;
 use outside::{Clock, MemClock};
-use std::test::Fail;
 
 /// What a clock of 5, 3 and 250,000,000,001 tells.
 const TOLD: [u64; 4] = [5, 5, 250_000_000_000, 250_000_000_000];
@@ -16,10 +16,9 @@ fn tells(clock: &mut MemClock, moments: &[u64]) -> bool {
 }
 
 #[test]
-fn moments_do_not_fall(rt: HostRuntime) -> Result<(), Fail> {
-    let mut clock = MemClock::new(vec![in rt.alloc(); 5u64, 3, 250_000_000_001]?, 77);
+fn moments_do_not_fall(rt: HostRuntime) {
+    let mut clock = MemClock::new(numbers(rt.alloc(), "5 3 250000000001"), 77);
     assert!(rt; tells(&mut clock, &TOLD) && clock.pid() == 77);
-    Ok(())
 }
 
 #[test]

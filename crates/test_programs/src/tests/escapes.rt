@@ -2,7 +2,6 @@
 
 use mail_bytes::{EscapeError, escape, unescape};
 use std::alloc::Global;
-use std::test::Fail;
 
 /// Bytes, and how they are printed.
 const PRINTED: [(&[u8], &[u8]); 4] = [
@@ -32,14 +31,20 @@ fn stands_for(alloc: Global, text: &[u8], bytes: &[u8]) -> bool {
     }
 }
 
+/// Whether the bytes are printed so.
+fn is_printed(alloc: Global, bytes: &[u8], text: &[u8]) -> bool {
+    match escape(alloc, bytes) {
+        Ok(printed) => printed.as_slice() == text,
+        Err(_) => false,
+    }
+}
+
 #[test]
-fn bytes_are_printed_and_read_back(rt: HostRuntime) -> Result<(), Fail> {
+fn bytes_are_printed_and_read_back(rt: HostRuntime) {
     for (bytes, text) in &PRINTED {
-        let printed = escape(rt.alloc(), bytes)?;
-        let is_exact = printed.as_slice() == *text && stands_for(rt.alloc(), text, bytes);
+        let is_exact = is_printed(rt.alloc(), bytes, text) && stands_for(rt.alloc(), text, bytes);
         assert!(rt; is_exact, "{text:?}");
     }
-    Ok(())
 }
 
 #[test]

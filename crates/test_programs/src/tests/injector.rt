@@ -1,54 +1,34 @@
 // The injector, call by call.
 ghost use Rattle.call_fs.specs.Columns.{IsMomentIn};
 
+use super::fields::{bytes, named};
 use call_fs::{Answer, Call, Fd, FsError, Got, Need, Ready};
 use mail_bytes::{LAST_MOMENT, Memory};
 use queue_inject::{Injector, Part};
 use received_line::Invoked;
 use std::alloc::Global;
-use std::test::Fail;
 
-/// A step of a test.
-enum Step {
-    /// It is fed bytes, for which there is room.
-    Feed(&'static [u8]),
-    /// The part that it asks for has ended.
-    End,
-    /// That part can't be read on; if `true`, since the netstring that it came in is malformed.
-    Fail(bool),
-    /// It is told the moment, and whether its input is ready.
-    Look(u64),
-    /// It needs this.
-    Needs(Due),
-    /// Told moment 0, it needs this call, which is answered by a letter.
-    Makes(Due, u8),
-    /// Told moment 0 each time, it needs calls, which are answered by letters.
-    Answers(&'static [u8]),
+/// A number as decimal text; 0 for any other text.
+fn number(text: &str) -> u64 {
+    text.parse::<u64>().unwrap_or(0)
 }
 
-/// What it needs: a call, its end with a status, or nothing yet. Of an append the count of bytes.
-enum Due {
-    Create(&'static [u8]),
-    Link(&'static [u8], &'static [u8]),
-    Unlink(&'static [u8]),
-    Append(u64, usize),
-    Sync(u64),
-    End(u8),
-    Wait,
-}
-
-/// Whether this is what it needs.
-fn is_due(need: Need<'_>, due: &Due) -> bool {
-    match (need, due) {
-        (Need::File(Call::CreateExcl(name)), Due::Create(wanted)) => name == *wanted,
-        (Need::File(Call::Link(old, new)), Due::Link(from, to)) => old == *from && new == *to,
-        (Need::File(Call::Unlink(name)), Due::Unlink(wanted)) => name == *wanted,
-        (Need::File(Call::Append(fd, bytes)), Due::Append(file, count)) => {
-            fd.0 == *file && bytes.len() == *count
+/// Whether this is what it needs: a call with its arguments, of an append the count of bytes; `end` with a status; or `wait`.
+fn is_due(need: Need<'_>, due: &str) -> bool {
+    let (kind, rest) = named(due);
+    let (first, second) = named(rest);
+    match (need, kind) {
+        (Need::File(Call::CreateExcl(name)), "create") => name == first.as_bytes(),
+        (Need::File(Call::Link(old, new)), "link") => {
+            old == first.as_bytes() && new == second.as_bytes()
         }
-        (Need::File(Call::Sync(fd)), Due::Sync(file)) => fd.0 == *file,
-        (Need::Ended(status), Due::End(wanted)) => status == *wanted,
-        (Need::Wait, Due::Wait) => true,
+        (Need::File(Call::Unlink(name)), "unlink") => name == first.as_bytes(),
+        (Need::File(Call::Append(fd, bytes)), "append") => {
+            fd.0 == number(first) && bytes.len() as u64 == number(second)
+        }
+        (Need::File(Call::Sync(fd)), "sync") => fd.0 == number(first),
+        (Need::Ended(status), "end") => u64::from(status) == number(first),
+        (Need::Wait, "wait") => true,
         _ => false,
     }
 }
@@ -105,40 +85,62 @@ fn answer_all(injector: &mut Injector, letters: &[u8]) -> bool {
     are_due
 }
 
-/// Makes a step; whether that could be made.
-fn makes(injector: &mut Injector, step: &Step) -> bool {
-    match step {
-        Step::Feed(bytes) => feed(injector, bytes),
-        Step::End => {
+/// The bytes of a text in which `%` and two hexadecimal digits are one byte; `x*` and a number stand for so many letters `x`.
+fn bytes_of(alloc: Global, text: &str) -> Vec<u8> {
+    let Some(count) = text.strip_prefix("x*") else {
+        return bytes(alloc, text);
+    };
+    let mut all = Vec::new(alloc);
+    for _ in 0..number(count) {
+        let _ = all.push(b'x');
+    }
+    all
+}
+
+/// Feeds it the bytes of a text, if there is room for them.
+fn feed_text(alloc: Global, injector: &mut Injector, text: &str) -> bool {
+    let bytes = bytes_of(alloc, text);
+    let is_fed = feed(injector, &bytes);
+    drop(bytes);
+    is_fed
+}
+
+/// Whether, told moment 0, it needs this call, which is answered by the first letter of it then.
+fn makes_call(injector: &mut Injector, letter: &str, due: &str) -> bool {
+    look(injector, 0) && is_due(injector.need(), due) && answer_all(injector, letter.as_bytes())
+}
+
+/// Makes a step; whether that could be made: it is fed a text; its input ends, or fails, or is a malformed netstring; it is
+/// told a moment; it needs this; it needs this call, which is answered by a letter; or it needs calls, which are.
+fn makes(alloc: Global, injector: &mut Injector, step: &str) -> bool {
+    let (kind, rest) = named(step);
+    let (first, second) = named(rest);
+    match kind {
+        "feed" => feed_text(alloc, injector, rest),
+        "ended" => {
             injector.end_input();
             true
         }
-        Step::Fail(is_malformed) => {
-            injector.fail_input(*is_malformed);
+        "failed" | "malformed" => {
+            injector.fail_input(kind == "malformed");
             true
         }
-        Step::Look(moment) => look(injector, *moment),
-        Step::Needs(due) => is_due(injector.need(), due),
-        Step::Makes(due, letter) => {
-            look(injector, 0) && is_due(injector.need(), due) && answer(injector, *letter)
-        }
-        Step::Answers(letters) => answer_all(injector, letters),
+        "look" => look(injector, number(rest)),
+        "needs" => is_due(injector.need(), rest),
+        "makes" => makes_call(injector, first, second),
+        "answers" => answer_all(injector, rest.as_bytes()),
+        _ => false,
     }
 }
 
-/// Which step can't be made first; none if all can.
-fn first_wrong(injector: &mut Injector, steps: &[Step]) -> Option<usize> {
-    for (at, step) in steps.iter().enumerate() {
-        if !makes(injector, step) {
-            return Some(at);
+/// Whether all steps can be made, one after the other.
+fn makes_all(alloc: Global, injector: &mut Injector, steps: &str) -> bool {
+    for step in steps.lines() {
+        if !makes(alloc, injector, step) {
+            return false;
         }
     }
-    None
-}
-
-/// The injector of user 1000, with process number 77, started at moment 0.
-fn start(alloc: Global) -> Result<Injector, Memory> {
-    Injector::new(alloc, 1000, 77, Invoked::Uid(1000), 0, 8192)
+    true
 }
 
 /// Feeds it as much as it asks for now of a message and an envelope, and tells it the end.
@@ -156,203 +158,187 @@ fn supply(injector: &mut Injector, message: &[u8], envelope: &[u8]) {
     }
 }
 
-/// An envelope of one recipient.
-const ENVELOPE: &[u8] = b"Fa@x\0Tb@y\0\0";
-
-/// The calls of an injection that nothing goes wrong with, each with its answer.
-const CALLS: [(Due, u8); 9] = [
-    (Due::Create(b"pid/77.0.1"), b'c'),
-    (Due::Link(b"pid/77.0.1", b"mess/1/1"), b'd'),
-    (Due::Unlink(b"pid/77.0.1"), b'd'),
-    (Due::Append(1, 70), b'd'),
-    (Due::Sync(1), b'd'),
-    (Due::Create(b"intd/1"), b'C'),
-    (Due::Append(2, 20), b'd'),
-    (Due::Sync(2), b'd'),
-    (Due::Link(b"intd/1", b"todo/1"), b'd'),
-];
-
-/// Whether it makes these calls of the message `hi`, each on the last second of its day.
-fn makes_all(injector: &mut Injector, calls: &[(Due, u8)]) -> bool {
-    let mut are_right = is_due(injector.need(), &Due::Wait);
-    for (due, letter) in calls {
-        supply(injector, b"hi", ENVELOPE);
-        let is_told = look(injector, 86_400);
-        are_right = is_told && is_due(injector.need(), due) && are_right;
-        are_right = answer(injector, *letter) && are_right;
-    }
-    are_right && is_due(injector.need(), &Due::End(0))
-}
-
-#[test]
-fn each_call_is_its_row(rt: HostRuntime) -> Result<(), Fail> {
-    let mut injector = start(rt.alloc())?;
-    assert!(rt; makes_all(&mut injector, &CALLS));
-    Ok(())
-}
-
-/// The message; the envelope; the answers to its calls; the moment; and what it needs then.
-type Case = (&'static [u8], &'static [u8], &'static [u8], u64, Due);
-
-/// A message.
-const HI: &[u8] = b"hi";
-
-/// Which call is due after failures of calls.
-const FAILURES: [Case; 15] = [
-    (HI, ENVELOPE, b"eeeeeeeee", 0, Due::End(63)),
-    (HI, ENVELOPE, b"cf", 0, Due::End(64)),
-    (HI, ENVELOPE, b"cdf", 0, Due::Unlink(b"mess/1/1")),
-    (HI, ENVELOPE, b"cddddfd", 0, Due::End(65)),
-    (HI, ENVELOPE, b"cdddfd", 0, Due::End(53)),
-    (HI, ENVELOPE, b"m", 0, Due::End(51)),
-    (HI, ENVELOPE, b"cdmd", 0, Due::End(51)),
-    (HI, ENVELOPE, b"cddddcf", 0, Due::Unlink(b"intd/1")),
-    (HI, ENVELOPE, b"cddddcfnd", 0, Due::End(53)),
-    (HI, ENVELOPE, b"cddddcff", 0, Due::End(53)),
-    (HI, ENVELOPE, b"cddddcddf", 0, Due::End(66)),
-    (HI, ENVELOPE, b"", 86_401, Due::End(52)),
-    (HI, b"X", b"cddddcdd", 0, Due::End(91)),
-    (HI, b"Fa@x\0Tb@y\0", b"cddddcdd", 0, Due::End(54)),
-    // after a whole envelope nothing counts
-    (HI, b"Fa@x\0Tb@y\0\0X", b"cddddcddd", 0, Due::End(0)),
-];
-
-/// Which write is due of a message in pieces; its first line has 68 bytes.
-const PIECES: [Case; 8] = [
-    (&[b'x'; 20_000], ENVELOPE, b"cdd", 0, Due::Append(1, 8192)),
-    (&[b'x'; 20_000], ENVELOPE, b"cddd", 0, Due::Append(1, 8192)),
-    (&[b'x'; 20_000], ENVELOPE, b"cdddd", 0, Due::Append(1, 3684)),
-    (&[b'x'; 20_000], ENVELOPE, b"cddddd", 0, Due::Sync(1)),
-    (&[b'x'; 8124], ENVELOPE, b"cdd", 0, Due::Append(1, 8192)),
-    (&[b'x'; 8124], ENVELOPE, b"cddd", 0, Due::Sync(1)),
-    (&[b'x'; 8125], ENVELOPE, b"cddd", 0, Due::Append(1, 1)),
-    (b"", ENVELOPE, b"cdd", 0, Due::Append(1, 68)),
-];
-
-/// Whether the injector does what the case says.
-fn comes_to(injector: &mut Injector, case: &Case) -> bool {
+/// Whether the injector does what a row says, of which the letters, the moment and what it needs then are these.
+fn comes_to(
+    injector: &mut Injector,
+    message: &[u8],
+    envelope: &[u8],
+    letters: &str,
+    moment: u64,
+    due: &str,
+) -> bool {
     let mut are_due = true;
-    for letter in case.2 {
-        supply(injector, case.0, case.1);
-        are_due = look(injector, case.3) && answer(injector, *letter) && are_due;
+    for letter in letters.as_bytes() {
+        supply(injector, message, envelope);
+        are_due = look(injector, moment) && answer(injector, *letter) && are_due;
     }
-    supply(injector, case.0, case.1);
-    look(injector, case.3) && are_due && is_due(injector.need(), &case.4)
+    supply(injector, message, envelope);
+    look(injector, moment) && are_due && is_due(injector.need(), due)
 }
 
-/// Whether an injector does what the case says.
-fn is_right(alloc: Global, case: &Case) -> bool {
-    match start(alloc) {
-        Ok(mut injector) => comes_to(&mut injector, case),
+/// Whether the injector does what a row says: the message, the envelope, the answers to its calls, the moment, and what it
+/// needs then.
+fn does(alloc: Global, injector: &mut Injector, row: &str) -> bool {
+    let (message, rest) = row.split_once(" | ").unwrap_or((row, ""));
+    let (envelope, rest) = rest.split_once(" | ").unwrap_or((rest, ""));
+    let (letters, rest) = rest.split_once(" | ").unwrap_or((rest, ""));
+    let (moment, due) = rest.split_once(" | ").unwrap_or((rest, "nothing"));
+    let message = bytes_of(alloc, message);
+    let envelope = bytes_of(alloc, envelope);
+    let is_so = comes_to(injector, &message, &envelope, letters, number(moment), due);
+    drop(message);
+    drop(envelope);
+    is_so
+}
+
+/// Whether an injector with process number 77 that is started at moment 0 does what a row says, or makes steps.
+fn is_right(alloc: Global, invoked: Invoked, text: &str, is_row: bool) -> bool {
+    match Injector::new(alloc, 1000, 77, invoked, 0, 8192) {
+        Ok(mut injector) => {
+            let is_so = if is_row {
+                does(alloc, &mut injector, text)
+            } else {
+                makes_all(alloc, &mut injector, text)
+            };
+            drop(injector);
+            is_so
+        }
         Err(_) => false,
     }
 }
 
+/// The first row that goes otherwise, if there is one.
+fn first_wrong(alloc: Global, rows: &'static str) -> Option<&'static str> {
+    for row in rows.lines() {
+        if !is_right(alloc, Invoked::Uid(1000), row, true) {
+            return Some(row);
+        }
+    }
+    None
+}
+
+/// The calls of an injection that nothing goes wrong with, each on the last second of its day.
+const CALLS: &str = "hi | Fa@x%00Tb@y%00%00 |  | 86400 | create pid/77.0.1
+hi | Fa@x%00Tb@y%00%00 | c | 86400 | link pid/77.0.1 mess/1/1
+hi | Fa@x%00Tb@y%00%00 | cd | 86400 | unlink pid/77.0.1
+hi | Fa@x%00Tb@y%00%00 | cdd | 86400 | append 1 70
+hi | Fa@x%00Tb@y%00%00 | cddd | 86400 | sync 1
+hi | Fa@x%00Tb@y%00%00 | cdddd | 86400 | create intd/1
+hi | Fa@x%00Tb@y%00%00 | cddddC | 86400 | append 2 20
+hi | Fa@x%00Tb@y%00%00 | cddddCd | 86400 | sync 2
+hi | Fa@x%00Tb@y%00%00 | cddddCdd | 86400 | link intd/1 todo/1
+hi | Fa@x%00Tb@y%00%00 | cddddCddd | 86400 | end 0";
+
+#[test]
+fn each_call_is_its_row(rt: HostRuntime) {
+    assert_eq!(rt; first_wrong(rt.alloc(), CALLS), None);
+}
+
+/// Which call is due after failures of calls; after a whole envelope nothing counts.
+const FAILURES: &str = "hi | Fa@x%00Tb@y%00%00 | eeeeeeeee | 0 | end 63
+hi | Fa@x%00Tb@y%00%00 | cf | 0 | end 64
+hi | Fa@x%00Tb@y%00%00 | cdf | 0 | unlink mess/1/1
+hi | Fa@x%00Tb@y%00%00 | cddddfd | 0 | end 65
+hi | Fa@x%00Tb@y%00%00 | cdddfd | 0 | end 53
+hi | Fa@x%00Tb@y%00%00 | m | 0 | end 51
+hi | Fa@x%00Tb@y%00%00 | cdmd | 0 | end 51
+hi | Fa@x%00Tb@y%00%00 | cddddcf | 0 | unlink intd/1
+hi | Fa@x%00Tb@y%00%00 | cddddcfnd | 0 | end 53
+hi | Fa@x%00Tb@y%00%00 | cddddcff | 0 | end 53
+hi | Fa@x%00Tb@y%00%00 | cddddcddf | 0 | end 66
+hi | Fa@x%00Tb@y%00%00 |  | 86401 | end 52
+hi | X | cddddcdd | 0 | end 91
+hi | Fa@x%00Tb@y%00 | cddddcdd | 0 | end 54
+hi | Fa@x%00Tb@y%00%00X | cddddcddd | 0 | end 0";
+
 #[test]
 fn each_failure_has_its_status(rt: HostRuntime) {
-    for case in &FAILURES {
-        assert!(rt; is_right(rt.alloc(), case), "after {:?}", case.2);
-    }
+    assert_eq!(rt; first_wrong(rt.alloc(), FAILURES), None);
 }
+
+/// Which write is due of a message in pieces; its first line has 68 bytes.
+const PIECES: &str = "x*20000 | Fa@x%00Tb@y%00%00 | cdd | 0 | append 1 8192
+x*20000 | Fa@x%00Tb@y%00%00 | cddd | 0 | append 1 8192
+x*20000 | Fa@x%00Tb@y%00%00 | cdddd | 0 | append 1 3684
+x*20000 | Fa@x%00Tb@y%00%00 | cddddd | 0 | sync 1
+x*8124 | Fa@x%00Tb@y%00%00 | cdd | 0 | append 1 8192
+x*8124 | Fa@x%00Tb@y%00%00 | cddd | 0 | sync 1
+x*8125 | Fa@x%00Tb@y%00%00 | cddd | 0 | append 1 1
+ | Fa@x%00Tb@y%00%00 | cdd | 0 | append 1 68";
 
 #[test]
 fn a_text_is_written_in_pieces(rt: HostRuntime) {
-    for case in &PIECES {
-        assert!(rt; is_right(rt.alloc(), case), "after {:?}", case.2);
+    assert_eq!(rt; first_wrong(rt.alloc(), PIECES), None);
+}
+
+/// The input of a bounce fails within the message, or is malformed there.
+const UNREAD: [&str; 2] = [
+    "feed hi
+failed
+answers cddd
+look 0
+needs end 54",
+    "feed hi
+malformed
+answers cddd
+look 0
+needs end 91",
+];
+
+#[test]
+fn an_input_that_cannot_be_read_ends_it(rt: HostRuntime) {
+    for steps in UNREAD {
+        assert!(rt;
+            is_right(rt.alloc(), Invoked::Bounce, steps, false),
+            "{steps}"
+        );
     }
 }
 
-/// The input fails within the message.
-const UNREAD: [Step; 5] = [
-    Step::Feed(HI),
-    Step::Fail(false),
-    Step::Answers(b"cddd"),
-    Step::Look(0),
-    Step::Needs(Due::End(54)),
+/// Steps of other injectors.
+const STEPS: [&str; 3] = [
+    // the message fails after its first piece, before the envelope has come
+    "feed x*8124
+makes c create pid/77.0.1
+makes d link pid/77.0.1 mess/1/1
+makes d unlink pid/77.0.1
+makes d append 1 8192
+feed x*68
+failed
+makes d unlink mess/1/1
+needs end 54",
+    // a message that ends with a full piece, which goes out before the next byte
+    "feed x*8124
+makes c create pid/77.0.1
+makes d link pid/77.0.1 mess/1/1
+makes d unlink pid/77.0.1
+makes d append 1 8192
+look 0
+needs wait
+ended
+makes d sync 1
+makes C create intd/1
+look 0
+needs wait
+feed Fa@x%00Tb@y%00%00
+makes d append 2 20
+makes d sync 2
+makes d link intd/1 todo/1
+needs end 0",
+    // nothing is fed, at the start and more than a day after it
+    "needs wait
+look 0
+needs wait
+look 86401
+needs wait",
 ];
 
 #[test]
-fn an_input_that_cannot_be_read_ends_it(rt: HostRuntime) -> Result<(), Fail> {
-    let mut injector = Injector::new(rt.alloc(), 1000, 77, Invoked::Bounce, 0, 8192)?;
-    assert_eq!(rt; first_wrong(&mut injector, &UNREAD), None);
-    Ok(())
-}
-
-/// The input is malformed within the message.
-const MALFORMED: [Step; 5] = [
-    Step::Feed(HI),
-    Step::Fail(true),
-    Step::Answers(b"cddd"),
-    Step::Look(0),
-    Step::Needs(Due::End(91)),
-];
-
-#[test]
-fn a_malformed_netstring_ends_it(rt: HostRuntime) -> Result<(), Fail> {
-    let mut injector = Injector::new(rt.alloc(), 1000, 77, Invoked::Bounce, 0, 8192)?;
-    assert_eq!(rt; first_wrong(&mut injector, &MALFORMED), None);
-    Ok(())
-}
-
-/// The message fails after its first piece, before the envelope has come.
-const MESSAGE_FAILS: [Step; 9] = [
-    Step::Feed(&[b'x'; 8124]),
-    Step::Makes(Due::Create(b"pid/77.0.1"), b'c'),
-    Step::Makes(Due::Link(b"pid/77.0.1", b"mess/1/1"), b'd'),
-    Step::Makes(Due::Unlink(b"pid/77.0.1"), b'd'),
-    Step::Makes(Due::Append(1, 8192), b'd'),
-    Step::Feed(&[b'x'; 68]),
-    Step::Fail(false),
-    Step::Makes(Due::Unlink(b"mess/1/1"), b'd'),
-    Step::Needs(Due::End(54)),
-];
-
-#[test]
-fn a_message_that_fails_needs_no_envelope(rt: HostRuntime) -> Result<(), Fail> {
-    let mut injector = start(rt.alloc())?;
-    assert_eq!(rt; first_wrong(&mut injector, &MESSAGE_FAILS), None);
-    Ok(())
-}
-
-/// A message that ends with a full piece.
-const FULL_PIECE: [Step; 17] = [
-    Step::Feed(&[b'x'; 8124]),
-    Step::Makes(Due::Create(b"pid/77.0.1"), b'c'),
-    Step::Makes(Due::Link(b"pid/77.0.1", b"mess/1/1"), b'd'),
-    Step::Makes(Due::Unlink(b"pid/77.0.1"), b'd'),
-    Step::Makes(Due::Append(1, 8192), b'd'),
-    Step::Look(0),
-    Step::Needs(Due::Wait),
-    Step::End,
-    Step::Makes(Due::Sync(1), b'd'),
-    Step::Makes(Due::Create(b"intd/1"), b'C'),
-    Step::Look(0),
-    Step::Needs(Due::Wait),
-    Step::Feed(ENVELOPE),
-    Step::Makes(Due::Append(2, 20), b'd'),
-    Step::Makes(Due::Sync(2), b'd'),
-    Step::Makes(Due::Link(b"intd/1", b"todo/1"), b'd'),
-    Step::Needs(Due::End(0)),
-];
-
-#[test]
-fn a_full_piece_goes_out_before_the_next_byte(rt: HostRuntime) -> Result<(), Fail> {
-    let mut injector = start(rt.alloc())?;
-    assert_eq!(rt; first_wrong(&mut injector, &FULL_PIECE), None);
-    Ok(())
-}
-
-/// Nothing is fed, at the start and more than a day after it.
-const FED_NOTHING: [Step; 4] = [
-    Step::Look(0),
-    Step::Needs(Due::Wait),
-    Step::Look(86_401),
-    Step::Needs(Due::Wait),
-];
-
-#[test]
-fn one_that_was_fed_nothing_waits(rt: HostRuntime) -> Result<(), Fail> {
-    let mut injector = start(rt.alloc())?;
-    assert_eq!(rt; first_wrong(&mut injector, &FED_NOTHING), None);
-    Ok(())
+fn an_injector_makes_its_steps(rt: HostRuntime) {
+    for steps in STEPS {
+        assert!(rt;
+            is_right(rt.alloc(), Invoked::Uid(1000), steps, false),
+            "{steps}"
+        );
+    }
 }

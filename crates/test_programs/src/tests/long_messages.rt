@@ -3,7 +3,6 @@
 use super::name_disk::NameDisk;
 use super::repeated::Repeated;
 use super::sources::pieces;
-use mail_bytes::ByteText;
 use outside::{MemClock, MemSource};
 use queue_command::{Form, inject};
 use received_line::Invoked;
@@ -28,19 +27,11 @@ const ROWS: [Row; 3] = [
     (Form::Netstrings, b"1073741824:", 91),
 ];
 
-/// The pieces of a valid envelope: one.
-fn envelope_pieces(alloc: Global) -> Vec<ByteText> {
-    match pieces(alloc, &[b"Fa@x\0Tb@y\0\0"]) {
-        Ok(pieces) => pieces,
-        Err(_) => Vec::new(alloc),
-    }
-}
-
 /// What comes of such a message: the exit status, whether the disk has no name after it, and how many of its bytes were taken.
 fn outcome(alloc: Global, form: Form, head: &'static [u8]) -> (u8, bool, usize) {
     let mut disk = NameDisk::new(alloc);
     let mut message = Repeated::new(head, LENGTH);
-    let mut envelope = MemSource::new(envelope_pieces(alloc), Vec::new(alloc));
+    let mut envelope = MemSource::new(pieces(alloc, &[b"Fa@x\0Tb@y\0\0"]), Vec::new(alloc));
     let mut clock = MemClock::new(Vec::new(alloc), 77);
     let status = inject(
         alloc,

@@ -1,10 +1,10 @@
 // Posts in memory.
 
 use super::byte_texts::same;
-use mail_bytes::{ByteText, Memory};
+use super::fields::bytes;
+use mail_bytes::ByteText;
 use outside::{MemPosts, Post, Posts, Waiting};
 use std::alloc::Global;
-use std::test::Fail;
 
 /// What an asking gives, the bytes that stand in a buffer of two then, and the count of failures.
 type Row = (Post, &'static [u8], u64);
@@ -19,15 +19,15 @@ const ROWS: [Row; 5] = [
 ];
 
 /// Bytes of channel 1, no bytes of channel 2, then its failure, and the end of channel 1.
-fn waiting(alloc: Global) -> Result<Vec<Waiting>, Memory> {
+fn waiting(alloc: Global) -> Vec<Waiting> {
     let mut waiting = Vec::new(alloc);
-    let bytes = ByteText::from_slice(alloc, b"abc")?;
-    waiting.push(Waiting::Bytes { chan: 1, bytes })?;
+    let bytes = ByteText::from_vec(bytes(alloc, "abc"));
+    let _ = waiting.push(Waiting::Bytes { chan: 1, bytes });
     let bytes = ByteText::new(alloc);
-    waiting.push(Waiting::Bytes { chan: 2, bytes })?;
-    waiting.push(Waiting::Failed { chan: 2 })?;
-    waiting.push(Waiting::End { chan: 1 })?;
-    Ok(waiting)
+    let _ = waiting.push(Waiting::Bytes { chan: 2, bytes });
+    let _ = waiting.push(Waiting::Failed { chan: 2 });
+    let _ = waiting.push(Waiting::End { chan: 1 });
+    waiting
 }
 
 /// Whether the posts give what the row says.
@@ -47,8 +47,7 @@ fn first_wrong(posts: &mut MemPosts, rows: &[Row]) -> Option<usize> {
 }
 
 #[test]
-fn posts_come_in_order(rt: HostRuntime) -> Result<(), Fail> {
-    let mut posts = MemPosts::new(waiting(rt.alloc())?);
+fn posts_come_in_order(rt: HostRuntime) {
+    let mut posts = MemPosts::new(waiting(rt.alloc()));
     assert_eq!(rt; first_wrong(&mut posts, &ROWS), None);
-    Ok(())
 }

@@ -1,8 +1,9 @@
 // The sink in memory.
 
 use super::byte_texts::same;
+use super::fields::numbers;
 use outside::{Gave, MemSink, Sink};
-use std::test::Fail;
+use std::alloc::Global;
 
 /// What is given, what comes of it, what the sink took so far, and its count of failures.
 struct Row {
@@ -64,21 +65,17 @@ fn takes(sink: &mut MemSink, row: &Row) -> bool {
     sink.give(row.bytes) == row.gave && same(sink.taken(), row.taken) && sink.faults() == row.faults
 }
 
-/// Which row the sink does otherwise first; none if it does all.
-fn first_wrong(sink: &mut MemSink, rows: &[Row]) -> Option<usize> {
-    for (at, row) in rows.iter().enumerate() {
-        if !takes(sink, row) {
-            return Some(at);
-        }
+/// Whether a new sink does what the rows say.
+fn takes_all(alloc: Global, rows: &[Row]) -> bool {
+    match MemSink::new(alloc, 5, numbers(alloc, "2")) {
+        Ok(mut sink) => rows.iter().all(|row| takes(&mut sink, row)),
+        Err(_) => false,
     }
-    None
 }
 
 #[test]
-fn a_sink_keeps_what_it_took(rt: HostRuntime) -> Result<(), Fail> {
-    let mut sink = MemSink::new(rt.alloc(), 5, vec![in rt.alloc(); 2u64]?)?;
-    assert_eq!(rt; first_wrong(&mut sink, &ROWS), None);
-    Ok(())
+fn a_sink_keeps_what_it_took(rt: HostRuntime) {
+    assert!(rt; takes_all(rt.alloc(), &ROWS));
 }
 
 /// How many bytes a sink has taken of pieces of 1,000 bytes when one first fails.
@@ -91,9 +88,15 @@ fn taken_of(sink: &mut MemSink, pieces: usize) -> usize {
     sink.taken().len()
 }
 
+/// Whether a sink with room for 90,500 bytes takes so many.
+fn is_filled(alloc: Global) -> bool {
+    match MemSink::new(alloc, 90_500, Vec::new(alloc)) {
+        Ok(mut sink) => taken_of(&mut sink, 100) == 90_500,
+        Err(_) => false,
+    }
+}
+
 #[test]
-fn a_sink_takes_as_much_as_it_has_room_for(rt: HostRuntime) -> Result<(), Fail> {
-    let mut sink = MemSink::new(rt.alloc(), 90_500, Vec::new(rt.alloc()))?;
-    assert_eq!(rt; taken_of(&mut sink, 100), 90_500);
-    Ok(())
+fn a_sink_takes_as_much_as_it_has_room_for(rt: HostRuntime) {
+    assert!(rt; is_filled(rt.alloc()));
 }

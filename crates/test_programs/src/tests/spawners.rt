@@ -1,8 +1,8 @@
 // The spawner in memory.
 
+use super::fields::numbers;
 use outside::{Gave, MemChild, MemSpawner, Spawner, Started, Status};
 use std::alloc::Global;
-use std::test::Fail;
 
 /// A call, and what comes of it.
 enum Step {
@@ -180,21 +180,26 @@ const CRASHES: MemChild = MemChild {
     status: Status::Crashed,
 };
 
-#[test]
-fn a_child_and_failures(rt: HostRuntime) -> Result<(), Fail> {
-    let alloc = rt.alloc();
-    let children = vec![in alloc; EXITS]?;
-    let mut spawner = MemSpawner::new(alloc, children, vec![in alloc; 1u64, 3, 6]?);
-    assert_eq!(rt; first_wrong(alloc, &mut spawner, &ROWS), None);
-    Ok(())
+/// These children.
+fn children_of(alloc: Global, planned: &[MemChild]) -> Vec<MemChild> {
+    let mut children = Vec::new(alloc);
+    for child in planned {
+        let _ = children.push(*child);
+    }
+    children
 }
 
 #[test]
-fn two_children_fed_in_turn(rt: HostRuntime) -> Result<(), Fail> {
-    let alloc = rt.alloc();
-    let children = vec![in alloc; EXITS, CRASHES]?;
-    let mut spawner = MemSpawner::new(alloc, children, Vec::new(alloc));
-    let wrong = first_wrong(alloc, &mut spawner, &TWO);
+fn a_child_and_failures(rt: HostRuntime) {
+    let children = children_of(rt.alloc(), &[EXITS]);
+    let mut spawner = MemSpawner::new(rt.alloc(), children, numbers(rt.alloc(), "1 3 6"));
+    assert_eq!(rt; first_wrong(rt.alloc(), &mut spawner, &ROWS), None);
+}
+
+#[test]
+fn two_children_fed_in_turn(rt: HostRuntime) {
+    let children = children_of(rt.alloc(), &[EXITS, CRASHES]);
+    let mut spawner = MemSpawner::new(rt.alloc(), children, Vec::new(rt.alloc()));
+    let wrong = first_wrong(rt.alloc(), &mut spawner, &TWO);
     assert!(rt; wrong.is_none() && are_kept(&spawner), "{wrong:?}");
-    Ok(())
 }

@@ -1,327 +1,204 @@
 // Words of the command line, and what they are.
 
 use command_words::{
-    Channels, Command, LocalWords, QueueWords, WordsError, channels, places, read_words,
+    Command, LocalWords, Places, QueueWords, WordsError, channels, places, read_words,
 };
-use mail_bytes::ByteText;
-use std::alloc::{AllocError, Global};
-use std::test::Fail;
+use mail_bytes::{ByteText, Memory};
+use std::alloc::Global;
 
-/// A line of words; the file of the envelope, `-` for none; the directory; the user; whether it is a bounce.
-type Row = (&'static str, &'static str, &'static str, u32, bool);
+/// In each line words, parted by spaces, of which `""` is the empty word; and after `->` what they are. That is the command
+/// with what it is told, in the order of the fields of its type; then the file of the envelope and the directory that the
+/// words name, each `-` if there is none, and the channels.
+const ROWS: &str = r#"play -> play; - -; Nothing
+queue - DIR -> queue - DIR 0 false; - DIR; Nothing
+queue ENV DIR -> queue ENV DIR 0 false; ENV DIR; Nothing
+queue - DIR --bounce -> queue - DIR 0 true; - DIR; Nothing
+queue - DIR --uid 1000 -> queue - DIR 1000 false; - DIR; Nothing
+queue - DIR --uid=1000 -> queue - DIR 1000 false; - DIR; Nothing
+queue - DIR --uid 0 -> queue - DIR 0 false; - DIR; Nothing
+queue --uid 4294967295 - --bounce DIR -> queue - DIR 4294967295 true; - DIR; Nothing
+queue --bounce -- - --uid -> queue - --uid 0 true; - --uid; Nothing
+audit DIR -> audit DIR; - DIR; Nothing
+audit -- -DIR -> audit -DIR; - -DIR; Nothing
+clean DIR -> clean DIR; - DIR; Nothing
+clean -- -DIR -> clean -DIR; - -DIR; Nothing
+lspawn DIR -> lspawn DIR; - DIR; InputAndChildren
+lspawn -- -DIR -> lspawn -DIR; - -DIR; InputAndChildren
+rspawn DIR p -> rspawn DIR p; - DIR; InputAndChildren
+rspawn -- -DIR -p -> rspawn -DIR -p; - -DIR; InputAndChildren
+rspawn DIR /usr/bin/deliver -> rspawn DIR /usr/bin/deliver; - DIR; InputAndChildren
+local DIR =j =h =j = = =x =a =l -> local DIR =j =h =j = = =x =a =l 0; - DIR; Children
+local DIR =j =home/j =j = = =localhost =a@x =./Maildir/ -> local DIR =j =home/j =j = = =localhost =a@x =./Maildir/ 0; - DIR; Children
+local --uid 1000 DIR =j =/home/j =J-%3d =- =%3D =x =%20%0A =l -> local DIR =j =/home/j =J-= =- == =x = \n =l 1000; - DIR; Children
+local DIR == =%00%ff =%25 =- =a-b =x = =|true --uid=4294967295 -> local DIR == =\x00\xff =% =- =a-b =x = =|true 4294967295; - DIR; Children"#;
 
-/// Words of `queue`.
-const QUEUE: [Row; 8] = [
-    ("queue - DIR", "-", "DIR", 0, false),
-    ("queue ENV DIR", "ENV", "DIR", 0, false),
-    ("queue - DIR --bounce", "-", "DIR", 0, true),
-    ("queue - DIR --uid 1000", "-", "DIR", 1000, false),
-    ("queue - DIR --uid=1000", "-", "DIR", 1000, false),
-    ("queue - DIR --uid 0", "-", "DIR", 0, false),
-    (
-        "queue --uid 4294967295 - --bounce DIR",
-        "-",
-        "DIR",
-        4_294_967_295,
-        true,
-    ),
-    ("queue --bounce -- - --uid", "-", "--uid", 0, true),
-];
+/// In each line words that are no command.
+const NO_COMMANDS: &str = r#"
+nosuch
+--help
+--version
+-h
+help
+Play
+play more
+play --help
+play --version
+queue
+queue -
+queue - DIR more
+queue - DIR --help
+queue - DIR -h
+queue - DIR --version
+queue - DIR --uid
+queue - DIR --uid 01
+queue - DIR --uid +1
+queue - DIR --uid -1
+queue - DIR --uid 1a
+queue - DIR --uid=
+queue - DIR --uid 4294967296
+queue - DIR --uid 18446744073709551616
+queue - DIR --uid 1 --uid 1
+queue - DIR --bounce --bounce
+queue - DIR --bounce=true
+queue - DIR --bounc
+queue - -DIR
+queue - DIR --nosuch
+audit
+audit DIR more
+audit --help
+audit DIR --uid 1
+clean
+clean DIR more
+lspawn
+lspawn DIR more
+lspawn DIR --help
+rspawn DIR
+rspawn DIR ""
+rspawn DIR p more
+rspawn DIR p --uid 1
+rspawn --version DIR p
+local DIR
+local DIR =j =h =j = = =x =a
+local DIR =j =h =j = = =x =a =l more
+local DIR =j h =j = = =x =a =l
+local DIR j =h =j = = =x =a =l
+local DIR =j =h =j = = =x =a l
+local DIR =j =h =j = = =x =% =l
+local DIR =j =h =j = = =x =a%4 =l
+local DIR =j =h =j = = =x%g0 =a =l
+local DIR =j =h =j = = =x =a =l --uid 01
+local DIR =j =h =j = = =x =a =l --uid 4294967296
+local DIR =j =h =j = = =x =a =l --bounce"#;
 
-/// Words that are no command.
-const NO_COMMANDS: [&str; 55] = [
-    "",
-    "nosuch",
-    "--help",
-    "--version",
-    "-h",
-    "help",
-    "Play",
-    "play more",
-    "play --help",
-    "play --version",
-    "queue",
-    "queue -",
-    "queue - DIR more",
-    "queue - DIR --help",
-    "queue - DIR -h",
-    "queue - DIR --version",
-    "queue - DIR --uid",
-    "queue - DIR --uid 01",
-    "queue - DIR --uid +1",
-    "queue - DIR --uid -1",
-    "queue - DIR --uid 1a",
-    "queue - DIR --uid=",
-    "queue - DIR --uid 4294967296",
-    "queue - DIR --uid 18446744073709551616",
-    "queue - DIR --uid 1 --uid 1",
-    "queue - DIR --bounce --bounce",
-    "queue - DIR --bounce=true",
-    "queue - DIR --bounc",
-    "queue - -DIR",
-    "queue - DIR --nosuch",
-    "audit",
-    "audit DIR more",
-    "audit --help",
-    "audit DIR --uid 1",
-    "clean",
-    "clean DIR more",
-    "lspawn",
-    "lspawn DIR more",
-    "lspawn DIR --help",
-    "rspawn DIR",
-    "rspawn DIR p more",
-    "rspawn DIR p --uid 1",
-    "rspawn --version DIR p",
-    "local DIR",
-    "local DIR =j =h =j = = =x =a",
-    "local DIR =j =h =j = = =x =a =l more",
-    "local DIR =j h =j = = =x =a =l",
-    "local DIR j =h =j = = =x =a =l",
-    "local DIR =j =h =j = = =x =a l",
-    "local DIR =j =h =j = = =x =% =l",
-    "local DIR =j =h =j = = =x =a%4 =l",
-    "local DIR =j =h =j = = =x%g0 =a =l",
-    "local DIR =j =h =j = = =x =a =l --uid 01",
-    "local DIR =j =h =j = = =x =a =l --uid 4294967296",
-    "local DIR =j =h =j = = =x =a =l --bounce",
-];
-
-/// A line of words of `local`, then what they stand for, in their order, and the user.
-type DeliveryRow = (&'static str, [&'static [u8]; 8], u32);
-
-/// Words of `local`.
-const LOCAL: [DeliveryRow; 3] = [
-    (
-        "local DIR =j =home/j =j = = =localhost =a@x =./Maildir/",
-        [
-            b"j",
-            b"home/j",
-            b"j",
-            b"",
-            b"",
-            b"localhost",
-            b"a@x",
-            b"./Maildir/",
-        ],
-        0,
-    ),
-    (
-        "local --uid 1000 DIR =j =/home/j =J-%3d =- =%3D =x =%20%0A =l",
-        [b"j", b"/home/j", b"J-=", b"-", b"=", b"x", b" \n", b"l"],
-        1000,
-    ),
-    (
-        "local DIR == =%00%ff =%25 =- =a-b =x = =|true --uid=4294967295",
-        [b"=", b"\x00\xff", b"%", b"-", b"a-b", b"x", b"", b"|true"],
-        4_294_967_295,
-    ),
-];
-
-/// What words are.
-#[derive(Clone, Copy, PartialEq, Eq)]
-enum Kind {
-    Play,
-    Queue,
-    Audit,
-    Clean,
-    Lspawn,
-    Rspawn,
-    Local,
-    Usage,
-    Memory,
-}
-
-/// The words of a line, parted by spaces.
-fn words_of(alloc: Global, line: &str) -> Result<Vec<String>, AllocError> {
+/// The words of a line.
+fn words_of(alloc: Global, line: &str) -> Result<Vec<String>, Memory> {
     let mut words = Vec::new(alloc);
     for word in line.split_whitespace() {
-        words.push(String::from_str(alloc, word)?)?;
+        words.push(String::from_str(alloc, word.trim_matches('"'))?)?;
     }
     Ok(words)
 }
 
-/// Whether there is a text, and it is this one; `-` stands for none.
-fn is_text(text: &Option<ByteText>, wanted: &str) -> bool {
+/// A text, or `-` for none.
+fn or_dash(text: &Option<ByteText>) -> &[u8] {
     match text {
-        Some(text) => text.is(wanted.as_bytes()),
-        None => wanted == "-",
+        Some(text) => text.as_slice(),
+        None => b"-",
     }
 }
 
-/// Whether `queue` is told this.
-fn is_told(queue: &QueueWords, row: &Row) -> bool {
-    is_text(&queue.env, row.1)
-        && queue.dir.is(row.2.as_bytes())
-        && queue.uid == row.3
-        && queue.bounce == row.4
+/// What `queue` is told.
+fn queue_text(alloc: Global, queue: &QueueWords) -> Result<String, Memory> {
+    let (env, dir) = (
+        or_dash(&queue.env).escape_ascii(),
+        queue.dir.as_slice().escape_ascii(),
+    );
+    let (uid, bounce) = (queue.uid, queue.bounce);
+    format!(in alloc; "queue {env} {dir} {uid} {bounce}")
 }
 
-/// Whether the words are `queue`, told this.
-fn are_queue(alloc: Global, words: &[String], row: &Row) -> bool {
-    match read_words(alloc, words) {
-        Ok(Command::Queue(queue)) => is_told(&queue, row),
-        _ => false,
-    }
-}
-
-/// Whether the words name this file and this directory; `-` stands for none.
-fn are_places(alloc: Global, words: &[String], env: &str, dir: &str) -> bool {
-    match places(alloc, words) {
-        Ok(at) => is_text(&at.env, env) && is_text(&at.dir, dir),
-        Err(_) => false,
-    }
-}
-
-/// Whether `local` is told this.
-fn is_delivery(told: &LocalWords, row: &DeliveryRow) -> bool {
+/// What `local` is told.
+fn local_text(alloc: Global, told: &LocalWords) -> Result<String, Memory> {
     let words = &told.words;
-    told.dir.is(b"DIR")
-        && words.user.is(row.1[0])
-        && words.home.is(row.1[1])
-        && words.local.is(row.1[2])
-        && words.dash.is(row.1[3])
-        && words.ext.is(row.1[4])
-        && words.domain.is(row.1[5])
-        && words.sender.is(row.1[6])
-        && words.line.is(row.1[7])
-        && told.uid == row.2
+    format!(in alloc;
+        "local {} ={} ={} ={} ={} ={} ={} ={} ={} {}",
+        told.dir.as_slice().escape_ascii(),
+        words.user.as_slice().escape_ascii(),
+        words.home.as_slice().escape_ascii(),
+        words.local.as_slice().escape_ascii(),
+        words.dash.as_slice().escape_ascii(),
+        words.ext.as_slice().escape_ascii(),
+        words.domain.as_slice().escape_ascii(),
+        words.sender.as_slice().escape_ascii(),
+        words.line.as_slice().escape_ascii(),
+        told.uid,
+    )
 }
 
-/// Whether the words are `local`, told this.
-fn are_local(alloc: Global, words: &[String], row: &DeliveryRow) -> bool {
-    match read_words(alloc, words) {
-        Ok(Command::Local(told)) => is_delivery(&told, row),
-        _ => false,
+/// A command with what it is told, or why words are none.
+fn text_of(alloc: Global, found: &Result<Command, WordsError>) -> Result<String, Memory> {
+    match found {
+        Ok(Command::Play) => String::from_str(alloc, "play"),
+        Ok(Command::Queue(queue)) => queue_text(alloc, queue),
+        Ok(Command::Audit(dir)) => named(alloc, "audit", dir, b""),
+        Ok(Command::Clean(dir)) => named(alloc, "clean", dir, b""),
+        Ok(Command::Lspawn(dir)) => named(alloc, "lspawn", dir, b""),
+        Ok(Command::Rspawn(told)) => named(alloc, "rspawn", &told.dir, told.program.as_slice()),
+        Ok(Command::Local(told)) => local_text(alloc, told),
+        Err(why) => format!(in alloc; "{why}"),
     }
 }
 
-/// Whether the words are `rspawn` with this program.
-fn are_rspawn(alloc: Global, words: &[String], program: &str) -> bool {
-    match read_words(alloc, words) {
-        Ok(Command::Rspawn(told)) => told.program.is(program.as_bytes()),
-        _ => false,
-    }
+/// A command of this name with its directory and one more text.
+fn named(alloc: Global, name: &str, dir: &ByteText, more: &[u8]) -> Result<String, Memory> {
+    let (dir, more) = (dir.as_slice().escape_ascii(), more.escape_ascii());
+    format!(in alloc; "{name} {dir} {more}")
 }
 
-/// Whether a command with these words has these channels.
-fn have_channels(alloc: Global, words: &[String], wanted: Channels) -> bool {
-    match channels(alloc, words) {
-        Ok(found) => found == wanted,
+/// What these words are, as a row says it.
+fn told(alloc: Global, words: &[String]) -> Result<String, Memory> {
+    let found = read_words(alloc, words);
+    let text = text_of(alloc, &found)?;
+    let at = places(alloc, words)?;
+    let (env, dir) = (
+        or_dash(&at.env).escape_ascii(),
+        or_dash(&at.dir).escape_ascii(),
+    );
+    let channels = channels(alloc, words)?;
+    let text = text.as_str().trim_end();
+    format!(in alloc; "{text}; {env} {dir}; {channels:?}")
+}
+
+/// What the words of a line are.
+fn told_of(alloc: Global, line: &str) -> Result<String, Memory> {
+    told(alloc, words_of(alloc, line)?.as_slice())
+}
+
+/// Whether the words of a line are this.
+fn are(alloc: Global, line: &str, wanted: &str) -> bool {
+    match told_of(alloc, line) {
+        Ok(told) => told.as_str() == wanted,
         Err(_) => false,
     }
 }
 
-/// What the words are.
-fn kind_of(alloc: Global, words: &[String]) -> Kind {
-    match read_words(alloc, words) {
-        Ok(Command::Play) => Kind::Play,
-        Ok(Command::Queue(_)) => Kind::Queue,
-        Ok(Command::Audit(_)) => Kind::Audit,
-        Ok(Command::Clean(_)) => Kind::Clean,
-        Ok(Command::Lspawn(_)) => Kind::Lspawn,
-        Ok(Command::Rspawn(_)) => Kind::Rspawn,
-        Ok(Command::Local(_)) => Kind::Local,
-        Err(WordsError::Usage) => Kind::Usage,
-        Err(WordsError::Memory) => Kind::Memory,
+#[test]
+fn words_are_what_they_say(rt: HostRuntime) {
+    for row in ROWS.lines() {
+        let (line, wanted) = row.split_once(" -> ").unwrap_or((row, ""));
+        assert!(rt; are(rt.alloc(), line, wanted), "{row}");
     }
 }
 
 #[test]
-fn words_of_queue(rt: HostRuntime) -> Result<(), Fail> {
-    for row in &QUEUE {
-        let words = words_of(rt.alloc(), row.0)?;
-        let are_told = are_queue(rt.alloc(), &words, row)
-            && are_places(rt.alloc(), &words, row.1, row.2);
-        assert!(rt; are_told, "{}", row.0);
+fn other_words_are_no_command(rt: HostRuntime) {
+    for line in NO_COMMANDS.lines() {
+        assert!(rt; are(rt.alloc(), line, "usage; - -; Nothing"), "{line}");
     }
-    Ok(())
 }
 
 #[test]
-fn words_that_are_no_command(rt: HostRuntime) -> Result<(), Fail> {
-    for line in &NO_COMMANDS {
-        let words = words_of(rt.alloc(), line)?;
-        let is_usage = kind_of(rt.alloc(), &words) == Kind::Usage
-            && are_places(rt.alloc(), &words, "-", "-");
-        assert!(rt; is_usage, "{line}");
-    }
-    Ok(())
-}
-
-#[test]
-fn words_of_play(rt: HostRuntime) -> Result<(), Fail> {
-    let words = words_of(rt.alloc(), "play")?;
-    let is_play = kind_of(rt.alloc(), &words) == Kind::Play
-        && are_places(rt.alloc(), &words, "-", "-");
-    assert!(rt; is_play);
-    Ok(())
-}
-
-#[test]
-fn words_with_a_directory(rt: HostRuntime) -> Result<(), Fail> {
-    for (line, kind, dir) in [
-        ("audit DIR", Kind::Audit, "DIR"),
-        ("audit -- -DIR", Kind::Audit, "-DIR"),
-        ("clean DIR", Kind::Clean, "DIR"),
-        ("clean -- -DIR", Kind::Clean, "-DIR"),
-        ("lspawn DIR", Kind::Lspawn, "DIR"),
-        ("lspawn -- -DIR", Kind::Lspawn, "-DIR"),
-        ("rspawn DIR p", Kind::Rspawn, "DIR"),
-        ("rspawn -- -DIR -p", Kind::Rspawn, "-DIR"),
-        ("local DIR =j =h =j = = =x =a =l", Kind::Local, "DIR"),
-    ] {
-        let words = words_of(rt.alloc(), line)?;
-        let is_known = kind_of(rt.alloc(), &words) == kind
-            && are_places(rt.alloc(), &words, "-", dir);
-        assert!(rt; is_known, "{line}");
-    }
-    Ok(())
-}
-
-#[test]
-fn words_of_local(rt: HostRuntime) -> Result<(), Fail> {
-    for row in &LOCAL {
-        let words = words_of(rt.alloc(), row.0)?;
-        let are_told = are_local(rt.alloc(), &words, row)
-            && are_places(rt.alloc(), &words, "-", "DIR");
-        assert!(rt; are_told, "{}", row.0);
-    }
-    Ok(())
-}
-
-#[test]
-fn words_of_rspawn(rt: HostRuntime) -> Result<(), Fail> {
-    let alloc = rt.alloc();
-    let words = words_of(alloc, "rspawn DIR /usr/bin/deliver")?;
-    assert!(rt; are_rspawn(alloc, &words, "/usr/bin/deliver"));
-    let mut words = words_of(alloc, "rspawn DIR")?;
-    words.push(String::new(alloc))?;
-    assert!(rt; kind_of(alloc, &words) == Kind::Usage);
-    Ok(())
-}
-
-#[test]
-fn channels_of_words(rt: HostRuntime) -> Result<(), Fail> {
-    for (line, wanted) in [
-        ("play", Channels::Nothing),
-        ("queue - DIR", Channels::Nothing),
-        ("audit DIR", Channels::Nothing),
-        ("clean DIR", Channels::Nothing),
-        ("lspawn DIR", Channels::InputAndChildren),
-        ("rspawn DIR p", Channels::InputAndChildren),
-        ("local DIR =j =h =j = = =x =a =l", Channels::Children),
-        ("lspawn", Channels::Nothing),
-    ] {
-        let words = words_of(rt.alloc(), line)?;
-        assert!(rt; have_channels(rt.alloc(), &words, wanted), "{line}");
-    }
-    Ok(())
-}
-
-#[test]
-fn a_refusal_has_its_text(rt: HostRuntime) -> Result<(), Fail> {
-    let texts = format!(in rt.alloc(); "{}, {}", WordsError::Usage, WordsError::Memory)?;
-    assert_eq!(rt; texts.as_str(), "usage, out of memory");
-    Ok(())
+fn a_lack_of_memory_has_its_text(rt: HostRuntime) {
+    let text = text_of(rt.alloc(), &Err(WordsError::Memory));
+    assert!(rt; text.is_ok_and(|text| text.as_str() == "out of memory"));
 }

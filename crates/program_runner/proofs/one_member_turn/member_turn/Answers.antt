@@ -38,7 +38,7 @@ bytes_read-read-requires g c =
 
 pub returns-in_err-gather : goal.returns-in_err-gather
 returns-in_err-gather g c =
-    turn_cut _ _ _ _ _ _ c.from_residual.result _ _ _ _ c.from_residual.ensures.0
+    turn_cut _ _ _ _ _ _ _ c.from_residual.result _ _ _ _ c.from_residual.ensures.0
     (inr (asks_posts _ _ _ c.gather.new.self c.in_err-gather.ensures refl refl))
 
 pub returns-in_ok-done-in-File : goal.returns-in_ok-done-in-File
@@ -57,7 +57,7 @@ returns-in_ok-done-in-File g c = inl
 
 pub returns-in_err-done-in-File : goal.returns-in_err-done-in-File
 returns-in_err-done-in-File g c =
-    turn_cut _ _ _ _ _ _ c.from_residual-in_err-done-in-File.result _ _ _ _ c.from_residual-in_err-done-in-File.ensures.0
+    turn_cut _ _ _ _ _ _ _ c.from_residual-in_err-done-in-File.result _ _ _ _ c.from_residual-in_err-done-in-File.ensures.0
     (inl
     (acts (g.C.ChildWords.words c.args.words.now) _ _ c.gather.new.self c.in_ok-gather.ensures g.M.Machine.next (g.M.Machine.stands c.args.machine.now) (g.M.Machine.stands c.look.new.self)
     (g.M.Machine.present c.look.new.self) c.now-now.result (g.M.Machine.found c.look.new.self) c.ready-ready.result (g.M.Machine.due c.look.new.self) (due_of c.need-asked.result)
@@ -81,7 +81,7 @@ returns-in-Ended g c =
 
 pub returns-in_err-served-in_default : goal.returns-in_err-served-in_default
 returns-in_err-served-in_default g c =
-    turn_cut _ _ _ _ _ _ c.from_residual-in_err-served-in_default.result _ _ _ _ c.from_residual-in_err-served-in_default.ensures.0
+    turn_cut _ _ _ _ _ _ _ c.from_residual-in_err-served-in_default.result _ _ _ _ c.from_residual-in_err-served-in_default.ensures.0
     (inr
     (asks_all _ _ _ _ c.gather.new.self c.now-now.result c.in_ok-gather.ensures c.now-now.ensures.told c.now-now.ensures.later c.now-now.ensures.last refl
     (ap (λ x. g.O.Sink.taken x) c.in_err-served-in_default.ensures.output) (ap (λ x. g.O.Sink.faults x) c.in_err-served-in_default.ensures.output)
@@ -89,7 +89,7 @@ returns-in_err-served-in_default g c =
 
 pub returns-in_err-done-in_default : goal.returns-in_err-done-in_default
 returns-in_err-done-in_default g c =
-    turn_cut _ _ _ _ _ _ c.from_residual-in_err-done-in_default.result _ _ _ _ c.from_residual-in_err-done-in_default.ensures.0 (inl (acts (g.C.ChildWords.words c.args.words.now) _ _ c.gather.new.self c.in_ok-gather.ensures g.M.Machine.next (g.M.Machine.stands c.args.machine.now) (g.M.Machine.stands c.look.new.self)
+    turn_cut _ _ _ _ _ _ _ c.from_residual-in_err-done-in_default.result _ _ _ _ c.from_residual-in_err-done-in_default.ensures.0 (inl (acts (g.C.ChildWords.words c.args.words.now) _ _ c.gather.new.self c.in_ok-gather.ensures g.M.Machine.next (g.M.Machine.stands c.args.machine.now) (g.M.Machine.stands c.look.new.self)
     (g.M.Machine.present c.look.new.self) c.now-now.result (g.M.Machine.found c.look.new.self) c.ready-ready.result (g.M.Machine.due c.look.new.self) (due_of c.need-asked.result)
     c.look.ensures.stands c.look.ensures.present c.look.ensures.found c.need-asked.ensures.due (λ args past s. c.need-asked.ensures.next args past c.look.ensures.looked s)
     c.ready-ready.ensures c.now-now.ensures.told
@@ -117,5 +117,6 @@ returns-else-is_done g c =
     (g.M.Machine.present c.look.new.self) c.now-now.result (g.M.Machine.found c.look.new.self) c.ready-ready.result (g.M.Machine.due c.look.new.self) (due_of c.need-asked.result)
     c.look.ensures.stands c.look.ensures.present c.look.ensures.found c.need-asked.ensures.due (λ args past s. c.need-asked.ensures.next args past c.look.ensures.looked s)
     c.ready-ready.ensures c.now-now.ensures.told
+    (λ read found. g.M.Machine.looks c.args.machine.now read found c.look.new.self) c.look.ensures.looks
     (due_of c.need-asked.result) _ _ refl (looks_quiet _ _ c.now-now.result c.now-now.ensures.moment c.now-now.ensures.later tt c.now-now.ensures.last refl (ap (λ x. g.O.Sink.taken x) (c.in_ok-served-in_default.ensures.quiet (sym c.is_done.ensures ∙ c.if-is_done.false))) (ap (λ x. g.O.Sink.faults x) (c.in_ok-served-in_default.ensures.quiet (sym c.is_done.ensures ∙ c.if-is_done.false))))
     (not_yet (g.C.ChildWords.words c.args.words.now) (due_of c.need-asked.result) c.taking_room-most.result c.in_ok-served-in_default.served (came_with c.in_ok-served-in_default.served c.serve.new.into) c.gather.new.self c.serve.new.lines _ _ (sym c.is_done.ensures ∙ c.if-is_done.false) c.in_ok-served-in_default.ensures.served).2 (not_yet (g.C.ChildWords.words c.args.words.now) (due_of c.need-asked.result) c.taking_room-most.result c.in_ok-served-in_default.served (came_with c.in_ok-served-in_default.served c.serve.new.into) c.gather.new.self c.serve.new.lines _ _ (sym c.is_done.ensures ∙ c.if-is_done.false) c.in_ok-served-in_default.ensures.served).0 (not_yet (g.C.ChildWords.words c.args.words.now) (due_of c.need-asked.result) c.taking_room-most.result c.in_ok-served-in_default.served (came_with c.in_ok-served-in_default.served c.serve.new.into) c.gather.new.self c.serve.new.lines _ _ (sym c.is_done.ensures ∙ c.if-is_done.false) c.in_ok-served-in_default.ensures.served).1)

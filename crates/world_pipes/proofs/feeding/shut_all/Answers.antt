@@ -4,7 +4,6 @@ use Rattle.std.specs.List.{slice_get}
 use Rattle.world_pipes.specs.declared.mouths.Mouths.{Mouths}
 use Rattle.world_pipes.specs.Exchanges.{HasShut, gives_at}
 use Rattle.world_pipes.proofs.Lists.{get_set}
-use Rattle.actor_names.specs.Members.{seat_of}
 use Rattle.world_pipes.proofs.feeding.shut_all.Goals as goal
 
 pub loop-place-preserved : goal.loop-place-preserved
@@ -14,13 +13,13 @@ loop-place-preserved c =
     let old = c.index-mouths-place.result in
     let here : slice_get l.mouths at ≡ Some old =
     slice_get_read l.mouths (length l.mouths) at old refl (omega (arith, c.loop-place.auto.mouths, c.loop-place-test.true)) c.index-mouths-place.is in
-    let shut = subst (λ (x : Mouths). HasShut (gives_at (seat_of c.args.member) at) x c.shut_at.new.mouths) (sym c.index-mouths-place.is) c.shut_at.ensures in
+    let shut = subst (λ (x : Mouths). HasShut (gives_at c.args.member at) x c.shut_at.new.mouths) (sym c.index-mouths-place.is) c.shut_at.ensures in
     λ i x y is now. ⊎_elim
     (λ f.
     let was : slice_get l.mouths i ≡ Some old = ap (slice_get l.mouths) f.0 ∙ here in
     let same : old ≡ x = (l.invariant i x old is was).1 (omega (arith, f.0)) in (
-      (λ lt. subst (λ (y : Mouths). HasShut (gives_at (seat_of c.args.member) i) x y) f.1 (subst (λ (x : Mouths). HasShut (gives_at (seat_of c.args.member) i) x c.shut_at.new.mouths) same
-          (subst (λ (k : ℕ). HasShut (gives_at (seat_of c.args.member) k) old c.shut_at.new.mouths) (sym f.0) shut))),
+      (λ lt. subst (λ (y : Mouths). HasShut (gives_at c.args.member i) x y) f.1 (subst (λ (x : Mouths). HasShut (gives_at c.args.member i) x c.shut_at.new.mouths) same
+          (subst (λ (k : ℕ). HasShut (gives_at c.args.member k) old c.shut_at.new.mouths) (sym f.0) shut))),
       (λ le. absurd (omega (arith, f.0))),
     ))
     (λ f.

@@ -1,4 +1,4 @@
-use Rattle.std.proofs.Common.{◌≡◌, inl, ℕ, List, [], ◌∷◌, ◌++◌, length, false, Option, Some, Result, Ok, Err, refl, sym, ap, ◌∙◌, subst}
+use Rattle.std.proofs.Common.{◌≡◌, inl, List, [], ◌∷◌, ◌++◌, length, false, Option, Some, Result, Ok, Err, refl, sym, ap, ◌∙◌, subst}
 use Rattle.call_fs.specs.declared.calls.Fd.{Fd}
 use Rattle.call_fs.specs.declared.past.NeedData.{NeedData}
 use Rattle.call_fs.specs.Program.{IsKind}
@@ -13,7 +13,7 @@ use Rattle.mail_bytes.specs.Told.{Meets}
 use Rattle.mail_world.specs.declared.world.Did.{Did}
 use Rattle.call_fs.specs.Disk.{Disk}
 use Rattle.mail_world.specs.History.{next_of}
-use Rattle.mail_world.specs.Acting.{IsAct, IsMade, IsUntouched, IsNoAct, IsSeated, IsStated, IsReadAt, SuitsPlace, HasStepped, is_due_of_child, has_actor, due_by, opened_by, shut}
+use Rattle.mail_world.specs.Acting.{IsAct, IsMade, IsUntouched, IsNoAct, IsStated, IsReadAt, SuitsPlace, HasStepped, is_due_of_child, has_actor, due_by, opened_by, shut}
 use Rattle.world_pipes.proofs.Shuts.{shuts_after}
 use Rattle.mail_world.proofs.Machines.{own_is, call_kind, call_within}
 use Rattle.mail_world.proofs.Passes.{only_waits, gives_no_actor}

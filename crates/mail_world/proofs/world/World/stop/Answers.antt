@@ -1,6 +1,5 @@
-use Rattle.std.proofs.Common.{◌≡◌, ℕ, ◌<◌, ◌^◌, List, [], ◌∷◌, ◌++◌, length, reverse, set, arith, Some, None, IsSomeAnd, Ok, refl, sym, ap, ◌∙◌, subst}
+use Rattle.std.proofs.Common.{◌≡◌, ℕ, ◌<◌, ◌^◌, List, [], ◌∷◌, ◌++◌, length, reverse, set, arith, Some, None, Ok, refl, sym, ap, ◌∙◌, subst}
 use Rattle.std.proofs.lemmas.Result.{err_from_is_err_and}
-use Rattle.std.specs.List.{slice_get}
 use Rattle.mail_world.specs.declared.actor.Actor.{Actor as Held}
 use Rattle.world_events.specs.declared.event.Event.TheVariants as kept
 use Rattle.mail_world.specs.Places.{place_of}
@@ -13,10 +12,10 @@ use Rattle.mail_world.proofs.Booked.{entry_within, one_booked}
 use Rattle.world_pipes.specs.declared.mouths.Mouths.{Mouths}
 use Rattle.mail_world.specs.Children.{child_place, HasLeft}
 use Rattle.mail_world.specs.History.{finished}
-use Rattle.mail_world.proofs.Leaving.{leaves, child_at}
+use Rattle.mail_world.proofs.Leaving.{leaves}
 use Rattle.mail_world.proofs.Lists.{written_back}
 use Rattle.mail_world.proofs.Living.{living_less, living_some, room_less, left_many, left_living}
-use Rattle.mail_world.proofs.Steps.{AreKept, is_seated, left_booked, left_piped}
+use Rattle.mail_world.proofs.Steps.{is_seated, left_booked, left_piped}
 use Rattle.mail_world.specs.Books.{entries_of}
 use Rattle.mail_world.specs.History.Life.{Stopped}
 use Rattle.mail_world.proofs.Acts.{stop_finishes}
@@ -25,10 +24,11 @@ use Rattle.world_events.specs.declared.event.Event.{Event as Kept}
 use Rattle.mail_world.specs.Generations.{starts_of}
 use Rattle.mail_world.specs.Starts.{AreStarts}
 use Rattle.mail_world.proofs.Starting.{still_starts}
-use Rattle.mail_world.proofs.Worlds.{StandsAt, stopped_keeps, stopped_leads_on, stands_at, in_range, may_end}
-use Rattle.mail_world.proofs.Refusals.{no_end, not_gone, gone_exactly, ok_other}
+use Rattle.mail_world.proofs.Stepping.{acting_at, child_within, keeps, no_end_yet}
+use Rattle.mail_world.proofs.Worlds.{stopped_keeps, stopped_leads_on, in_range, may_end}
+use Rattle.mail_world.proofs.Refusals.{not_gone, gone_exactly, ok_other}
 use Rattle.mail_world.proofs.world.World.stop.Goals as goal
-use Rattle.mail_world.proofs.world.World.stop.Goals.{After-index_mut-stopped, After-child_at-child, After-leave}
+use Rattle.mail_world.proofs.world.World.stop.Goals.{After-child_at-child, After-leave}
 
 pub living-requires : goal.living-requires
 living-requires g c =
@@ -51,47 +51,29 @@ index_mut-stopped-requires g c =
     let within = in_range (g.D.CallFs.disk i.disk) (among_all i.crew (place_of i.places)) i.actors.items (known i.history.events.items) i.history.events.items i.present i.next_pid (counted i.bounces i.deliveries) c.args.actor.now c.self.invariant.world c.in_ok-place.place c.in_ok-place.ensures.ok.0 in
     omega (arith, i.actors.ok.0)
 
--- the actor that is stopped
-standing : (g : _) (c : After-index_mut-stopped g) →
-    StandsAt (among_all c.self.inside.crew (place_of c.self.inside.places)) c.self.inside.actors.items (known c.self.inside.history.events.items) c.self.inside.history.events.items c.self.inside.present c.in_ok-place.place c.index_mut-stopped.result.now
-    × (c.index_mut-stopped.result.now.name ≡ c.args.actor.now)
-standing g c =
-    let i = c.self.inside in
-    let place = c.in_ok-place.place in
-    let ok = c.in_ok-place.ensures.ok in
-    stands_at (g.D.CallFs.disk i.disk) (among_all i.crew (place_of i.places)) i.actors.items (known i.history.events.items) i.history.events.items i.present i.next_pid (counted i.bounces i.deliveries) place c.args.actor.now c.index_mut-stopped.result.now
-    c.self.invariant.world ok.0 (subst (λ (l : List Held). IsSomeAnd (slice_get l place) (λ x. x.ended ≡ None)) c.deref.ensures.value ok.1) c.index_mut-stopped.ensures.value
-
 pub stop-requires-clause-opens : goal.stop-requires-clause-opens
 stop-requires-clause-opens g c =
     let i = c.self.inside in
-    let at = standing g (goal.at.stop-requires-clause-opens g c).After-index_mut-stopped in
+    let at = acting_at c.self.invariant c.args.actor.now c.deref.ensures.value c.in_ok-place.ensures.ok c.index_mut-stopped.ensures.value in
     may_end (g.D.CallFs.disk i.disk) (among_all i.crew (place_of i.places)) i.actors.items (known i.history.events.items) i.history.events.items i.present i.next_pid (counted i.bounces i.deliveries) c.in_ok-place.place c.index_mut-stopped.result.now c.self.invariant.world at.0
 
 pub stop-requires-clause-room : goal.stop-requires-clause-room
 stop-requires-clause-room g c =
     let i = c.self.inside in
-    let at = standing g (goal.at.stop-requires-clause-room g c).After-index_mut-stopped in
+    let at = acting_at c.self.invariant c.args.actor.now c.deref.ensures.value c.in_ok-place.ensures.ok c.index_mut-stopped.ensures.value in
     room_less i.history (living i.actors.items) 1 (living_some i.actors.items c.in_ok-place.place c.index_mut-stopped.result.now at.0.is at.0.lives) c.self.invariant.room
-
--- what the world keeps
-keeps : (g : _) (c : After-index_mut-stopped g) →
-    AreKept (g.D.CallFs.disk c.self.inside.disk) c.self.inside.crew (place_of c.self.inside.places) c.self.inside.actors.items c.self.inside.mouths.items c.self.inside.books.entries.items
-    c.self.inside.history.events.items c.self.inside.present c.self.inside.next_pid (counted c.self.inside.bounces c.self.inside.deliveries)
-keeps g c = record { world = c.self.invariant.world; booked = c.self.invariant.booked; piped = c.self.invariant.piped }
 
 pub stop-requires-clause-seat : goal.stop-requires-clause-seat
 stop-requires-clause-seat g c =
     let i = c.self.inside in
-    let here = (goal.at.stop-requires-clause-seat g c).After-index_mut-stopped in
-    let at = standing g here in
+    let at = acting_at c.self.invariant c.args.actor.now c.deref.ensures.value c.in_ok-place.ensures.ok c.index_mut-stopped.ensures.value in
     is_seated (g.D.CallFs.disk i.disk) i.crew (place_of i.places) i.actors.items i.mouths.items i.books.entries.items i.history.events.items i.present i.next_pid (counted i.bounces i.deliveries) c.in_ok-place.place c.index_mut-stopped.result.now
-    (keeps g here) at.0.is at.0.lives
+    (keeps c.self.invariant) at.0.is at.0.lives
 
 pub note-requires : goal.note-requires
 note-requires g c =
     let i = c.self.inside in
-    let at = standing g (goal.at.note-requires g c).After-index_mut-stopped in
+    let at = acting_at c.self.invariant c.args.actor.now c.deref.ensures.value c.in_ok-place.ensures.ok c.index_mut-stopped.ensures.value in
     λ k own. entry_within i.crew i.books.entries.items i.actors.items i.history.events.items c.in_ok-place.place k c.index_mut-stopped.result.now c.self.invariant.booked at.0.is own
 
 -- the place of its child, if there is one
@@ -100,22 +82,11 @@ placed g c =
     let i = c.self.inside in
     subst (λ (l : List Mouths). c.child_at-child.result ≡ child_place l c.index_mut-stopped.result.now.wire 0 i.crew (place_of i.places)) c.deref-2.ensures.value c.child_at-child.ensures
 
--- it is within
-within : (g : _) (c : After-index_mut-stopped g) (k : ℕ) → slice_get c.self.inside.actors.items c.in_ok-place.place ≡ Some c.index_mut-stopped.result.now → c.index_mut-stopped.result.now.ended ≡ None
-    → child_place c.self.inside.mouths.items c.index_mut-stopped.result.now.wire 0 c.self.inside.crew (place_of c.self.inside.places) ≡ Some k → k < length c.self.inside.actors.items
-within g c k is lives at =
-    let i = c.self.inside in
-    let x = c.index_mut-stopped.result.now in
-    let there = child_at i.crew (place_of i.places) i.mouths.items i.actors.items (known i.history.events.items) i.history.events.items x.name x.wire c.self.invariant.piped (c.self.invariant.piped.places c.in_ok-place.place x is lives) k at in
-    in_range (g.D.CallFs.disk i.disk) (among_all i.crew (place_of i.places)) i.actors.items (known i.history.events.items) i.history.events.items i.present i.next_pid (counted i.bounces i.deliveries) there.name c.self.invariant.world k there.at
-
 pub child_at-child-requires : goal.child_at-child-requires
 child_at-child-requires g c =
     let i = c.self.inside in
-    let here = (goal.at.child_at-child-requires g c).After-index_mut-stopped in
-    let at = standing g here in
     subst (λ (l : List Mouths). (k : ℕ) → child_place l c.index_mut-stopped.result.now.wire 0 i.crew (place_of i.places) ≡ Some k → k < 2 ^ 64) (sym c.deref-2.ensures.value)
-    (λ k found. let low = within g here k at.0.is at.0.lives found in omega (arith, low, i.actors.ok.0))
+    (λ k found. let low = child_within c.self.invariant c.args.actor.now c.deref.ensures.value c.in_ok-place.ensures.ok c.index_mut-stopped.ensures.value k found in omega (arith, low, i.actors.ok.0))
 
 -- the actors before and after that child is given no input any more
 stood : (g : _) (c : After-leave g) → HasLeft c.child_at-child.result (set c.self.inside.actors.items c.in_ok-place.place c.stop.new.self) c.leave.new.actors
@@ -124,14 +95,10 @@ stood g c =
 
 pub leave-requires : goal.leave-requires
 leave-requires g c =
-    let i = c.self.inside in
-    let place = c.in_ok-place.place in
-    let here = goal.at.leave-requires g c in
-    let at = standing g here.After-index_mut-stopped in
-    let same = placed g here.After-child_at-child in
+    let same = placed g (goal.at.leave-requires g c).After-child_at-child in
     λ k found.
-    let low = within g here.After-index_mut-stopped k at.0.is at.0.lives (sym same ∙ found) in
-    subst (λ (l : List Held). k < length l) (sym c.deref_mut.ensures.value) (subst (λ (n : ℕ). k < n) (sym (length-set i.actors.items place c.stop.new.self)) low)
+    let low = child_within c.self.invariant c.args.actor.now c.deref.ensures.value c.in_ok-place.ensures.ok c.index_mut-stopped.ensures.value k (sym same ∙ found) in
+    subst (λ (l : List Held). k < length l) (sym c.deref_mut.ensures.value) (subst (λ (n : ℕ). k < n) (sym (length-set c.self.inside.actors.items c.in_ok-place.place c.stop.new.self)) low)
 
 pub invariant_of-self : goal.invariant_of-self
 invariant_of-self g c =
@@ -142,7 +109,7 @@ invariant_of-self g c =
     let stands = set i.actors.items place y in
     let events = i.history.events.items in
     let later = c.stop.new.history.events.items in
-    let at = standing g (goal.at.invariant_of-self g c).After-index_mut-stopped in
+    let at = acting_at c.self.invariant c.args.actor.now c.deref.ensures.value c.in_ok-place.ensures.ok c.index_mut-stopped.ensures.value in
     let left = stood g (goal.at.invariant_of-self g c).After-leave in
     let over = c.stop.ensures.stopped in
     let fewer = living_less i.actors.items place x y (length events) at.0.is at.0.lives over.ended in
@@ -171,13 +138,13 @@ invariant_of-self g c =
 pub returns-clause-event : goal.returns-clause-event
 returns-clause-event g c =
     let i = c.self.inside in
-    let at = standing g (goal.at.returns-clause-event g c).After-index_mut-stopped in
+    let at = acting_at c.self.invariant c.args.actor.now c.deref.ensures.value c.in_ok-place.ensures.ok c.index_mut-stopped.ensures.value in
     rw (← c.self.view_is) (c.stop.ensures.stopped.event ∙ ap (λ (a : List ℕ). i.history.events.items ++ kept.Stop a ∷ []) at.1, refl)
 
 pub returns-clause-goes_on : goal.returns-clause-goes_on
 returns-clause-goes_on g c =
     let i = c.self.inside in
-    let at = standing g (goal.at.returns-clause-goes_on g c).After-index_mut-stopped in
+    let at = acting_at c.self.invariant c.args.actor.now c.deref.ensures.value c.in_ok-place.ensures.ok c.index_mut-stopped.ensures.value in
     let old = g.D.CallFs.disk i.disk in
     let new = g.D.CallFs.disk c.stop.new.disk in
     let before = i.history.events.items in
@@ -188,8 +155,4 @@ returns-clause-goes_on g c =
 
 pub returns-clause-gone : goal.returns-clause-gone
 returns-clause-gone g c =
-    let i = c.self.inside in
-    let ok = c.in_ok-place.ensures.ok in
-    let lives = subst (λ (l : List Held). IsSomeAnd (slice_get l c.in_ok-place.place) (λ x. x.ended ≡ None)) c.deref.ensures.value ok.1 in
-    rw (← c.self.view_is) (not_gone (Ok tt) i.history.events.items c.args.actor.now (ok_other tt)
-    (no_end (among_all i.crew (place_of i.places)) i.actors.items (known i.history.events.items) i.history.events.items i.present c.args.actor.now c.in_ok-place.place c.self.invariant.world.kept ok.0 lives))
+    rw (← c.self.view_is) (not_gone (Ok tt) c.self.inside.history.events.items c.args.actor.now (ok_other tt) (no_end_yet c.self.invariant c.args.actor.now c.deref.ensures.value c.in_ok-place.ensures.ok))
