@@ -34,14 +34,23 @@ streams: build
 test:
 	rt ci
 
-# make install  puts ./qmail and its manual pages below PREFIX, /usr/local if none is given
+# make install  puts QMAIL (./qmail), its manual pages, contrib's programs and the unit for systemd below PREFIX, /usr/local if
+# none is given. The programs find each other there; `run` for runit or daemontools is below lib/qmail
 PREFIX = /usr/local
+QMAIL = qmail
+PROGRAMS = qmail-queue qmail-send qmail-first-queue remote-msmtp
+INTO = $(DESTDIR)$(PREFIX)
 
 .PHONY: install
 
 install:
-	@test -x qmail || { echo "there is no ./qmail yet: make build"; exit 1; }
-	install -d $(DESTDIR)$(PREFIX)/bin $(DESTDIR)$(PREFIX)/share/man/man1 $(DESTDIR)$(PREFIX)/share/man/man8
-	install -m 755 qmail $(DESTDIR)$(PREFIX)/bin/qmail
-	install -m 644 man/*.1 $(DESTDIR)$(PREFIX)/share/man/man1
-	install -m 644 man/*.8 $(DESTDIR)$(PREFIX)/share/man/man8
+	@test -x $(QMAIL) || { echo "there is no $(QMAIL) yet: make build"; exit 1; }
+	install -d $(INTO)/bin $(INTO)/share/man/man1 $(INTO)/share/man/man8 $(INTO)/lib/qmail $(INTO)/lib/systemd/system
+	install -m 755 $(QMAIL) $(INTO)/bin/qmail
+	for name in $(PROGRAMS); do \
+		sed 's:/usr/local:$(PREFIX):g' contrib/$$name > $(INTO)/bin/$$name && chmod 755 $(INTO)/bin/$$name || exit 1; \
+	done
+	sed 's:/usr/local:$(PREFIX):g' contrib/run > $(INTO)/lib/qmail/run && chmod 755 $(INTO)/lib/qmail/run
+	sed 's:/usr/local:$(PREFIX):g' contrib/qmail-send.service > $(INTO)/lib/systemd/system/qmail-send.service
+	install -m 644 man/*.1 $(INTO)/share/man/man1
+	install -m 644 man/*.8 $(INTO)/share/man/man8

@@ -1,5 +1,5 @@
 -- Words of `local` that aren't written out.
-use Rattle.std.proofs.Common.{◌≡◌, ◌≢◌, ◌^◌, ◌<◌, ℕ, List, [], ◌∷◌, Option, Some, None, cond, codes, fold, option_and_then, option_map, refl, ap, ◌∙◌, arith}
+use Rattle.std.proofs.Common.{◌≡◌, ◌^◌, ◌<◌, ℕ, List, [], ◌∷◌, Option, Some, None, cond, codes, fold, option_and_then, option_map, refl, ap, ◌∙◌, arith}
 use Rattle.std.specs.Result.{result_ok}
 use Rattle.std.proofs.lemmas.Bool.{lt-ltb}
 use Rattle.call_fs.specs.declared.past.DeliveryWordsData.{DeliveryWordsData}
@@ -7,7 +7,7 @@ use Rattle.mail_bytes.specs.Decimal.{digits}
 use Rattle.mail_bytes.specs.Escape.{escaped}
 use Rattle.mail_bytes.proofs.Digits.{digits_only, number_of-digits}
 use Rattle.mail_bytes.proofs.Escaped.{unescaped-escaped}
-use Rattle.clap.specs.Words.{first_of, matches_of}
+use Rattle.clap.specs.Words.{matches_of}
 use Rattle.clap.specs.Kinds.{Kinds}
 use Rattle.clap.specs.Walk.{Row, Text, Walk, finished, is_empty, nothing_held, walked}
 use Rattle.clap.specs.Walk.Waiting.{idle, option}
@@ -16,7 +16,7 @@ use Rattle.clap.specs.Faults.{fault_of, walk_fault}
 use Rattle.clap.proofs.OnLiterals.{clap_on_literals}
 use Rattle.command_words.specs.declared.command.Command.TheVariants.{Local}
 use Rattle.command_words.specs.declared.command.LocalWords.{LocalWords}
-use Rattle.command_words.specs.Delivery.{AreBytes, HasBytes, delivery, delivery_told, delivery_words, local_told, local_told_by, local_words, marked, written}
+use Rattle.command_words.specs.Delivery.{AreBytes, HasBytes, delivery, delivery_words, local_told, local_told_by, local_words, marked, written}
 use Rattle.command_words.specs.Lines.{local_line}
 use Rattle.command_words.specs.Numbers.{as_u32, uid_of}
 use Rattle.command_words.specs.Reads.{IsNoOption, Reads, command_of}

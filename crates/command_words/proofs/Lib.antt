@@ -6,5 +6,7 @@ pub mod Parses
 pub mod Steps
 -- words of `queue` that aren't written out
 pub mod Walks
+-- words of the members of a generation that aren't written out
+pub mod Members
 -- words of `local` that aren't written out
 pub mod Delivered

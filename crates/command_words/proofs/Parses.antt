@@ -9,12 +9,13 @@ use Rattle.clap.specs.declared.parser.matches.ArgMatches.{ArgMatches}
 use Rattle.clap.specs.declared.parser.matches.Found.{Found}
 use Rattle.clap.proofs.WalkLemmas.{first_value-rows}
 use Rattle.call_fs.specs.declared.past.DeliveryWordsData.{DeliveryWordsData}
-use Rattle.command_words.specs.Lines.{local_line, play_line, queue_line, rspawn_line, takes_words}
+use Rattle.command_words.specs.Lines.{local_line, play_line, queue_line, rspawn_line, send_line, takes_words}
 use Rattle.command_words.specs.declared.command.Command.TheVariants.{Play, Queue}
 use Rattle.command_words.specs.declared.command.QueueWords.{QueueWords}
+use Rattle.command_words.specs.declared.command.RspawnWords.{RspawnWords}
 use Rattle.command_words.specs.Delivery.{delivery_told, local_told, local_told_by, local_words, marked, told_as}
-use Rattle.command_words.specs.Numbers.{uid_of}
-use Rattle.command_words.specs.Reads.{dir_words, env_of, is_on, play_words, queue_words, rspawn_words, spawner_told, spawner_told_by, told, told_by}
+use Rattle.command_words.specs.Numbers.{turns_of, uid_of}
+use Rattle.command_words.specs.Reads.{dir_words, env_of, is_on, play_words, queue_words, rspawn_words, send_words, sender_told, sender_told_by, spawner_told, spawner_told_by, told, told_by}
 
 -- an `Ok` says that no step failed
 pub taken : (a line : App) (words : List Text) (m : ArgMatches) → a ≡ line → is_simple_and_free line ≡ true → (is_simple_and_free a ≡ true → FailsBy (fault_of a words) (Ok m)) → takes_words line words ≡ true
@@ -99,6 +100,35 @@ spawner_found found dir program d p =
 pub no_program : (dir : Option Text) → spawner_told dir None ≡ None
 no_program None = refl
 no_program (Some dir) = refl
+
+-- the words of `send` that are taken tell it what clap found; what it is told, by what the getters of the matches read
+pub send_read : (words : List Text) (rows : List Row) → takes_words send_line words ≡ true → rows ≡ matches_of send_line words → send_words words ≡ sender_told_by rows
+unfolding send_words
+send_read words rows takes is = ap (λ t. cond t (sender_told_by (matches_of send_line words)) None) takes ∙ ap sender_told_by (sym is)
+
+pub send_refused : (words : List Text) → takes_words send_line words ≡ false → send_words words ≡ None
+unfolding send_words
+send_refused words refuses = ap (λ t. cond t (sender_told_by (matches_of send_line words)) None) refuses
+
+sender_found : (found : Found) (turns : Option Text) → turns ≡ first_value found (codes "turns") → sender_told_by (rows_of found) ≡ sender_told (spawner_told_by (rows_of found)) (turns_of turns)
+sender_found found turns t = ap (λ x. sender_told (spawner_told_by (rows_of found)) (turns_of x)) (sym (t ∙ first_value-rows found (codes "turns")))
+
+no_turns : (told : Option RspawnWords) → sender_told told None ≡ None
+no_turns None = refl
+no_turns (Some told) = refl
+
+-- without turns, or without one of the words, it is told nothing
+pub turns_lacked : (found : Found) (turns : Option Text) (number : Option ℕ) → turns ≡ first_value found (codes "turns") → number ≡ turns_of turns → number ≡ None → sender_told_by (rows_of found) ≡ None
+turns_lacked found turns number t is none =
+    sender_found found turns t ∙ ap (sender_told (spawner_told_by (rows_of found))) (sym is ∙ none) ∙ no_turns (spawner_told_by (rows_of found))
+
+pub words_lacked : (found : Found) (turns : Option Text) → turns ≡ first_value found (codes "turns") → spawner_told_by (rows_of found) ≡ None → sender_told_by (rows_of found) ≡ None
+words_lacked found turns t none = sender_found found turns t ∙ ap (λ o. sender_told o (turns_of turns)) none
+
+pub all_told : (found : Found) (turns : Option Text) (number : Option ℕ) (told : RspawnWords) (n : ℕ) → turns ≡ first_value found (codes "turns") → number ≡ turns_of turns → number ≡ Some n → spawner_told_by (rows_of found) ≡ Some told
+    → sender_told_by (rows_of found) ≡ Some (record { dir = told.dir; program = told.program; turns = n })
+all_told found turns number told n t is some both =
+    sender_found found turns t ∙ ap (λ o. sender_told o (turns_of turns)) both ∙ ap (sender_told (Some told)) (sym is ∙ some)
 
 -- the words of `local` that are taken tell it what clap found; what it is told, by what the getters of the matches read
 pub local_read : (words : List Text) (rows : List Row) → takes_words local_line words ≡ true → rows ≡ matches_of local_line words → local_words words ≡ local_told_by rows

@@ -42,10 +42,17 @@ with_word line id = with_rule line (word_rule id)
 abbrev pub lspawn_line : App
 lspawn_line = with_word (new_app (codes "lspawn")) (codes "dir")
 
--- `rspawn DIR PROGRAM`; the empty word is no program
+-- the word of a program; the empty one is none
+abbrev pub with_program : App → App
+with_program line = with_rule line (record (word_rule (codes "program")) { parser = Some NonEmptyString })
+
+-- `rspawn DIR PROGRAM`
 abbrev pub rspawn_line : App
-rspawn_line =
-    with_rule (with_word (new_app (codes "rspawn")) (codes "dir")) (record (word_rule (codes "program")) { parser = Some NonEmptyString })
+rspawn_line = with_program (with_word (new_app (codes "rspawn")) (codes "dir"))
+
+-- `send DIR PROGRAM --turns N`
+abbrev pub send_line : App
+send_line = with_rule (with_program (with_word (new_app (codes "send")) (codes "dir"))) (option_rule (codes "turns"))
 
 -- `local DIR =USER =HOME =LOCAL =DASH =EXT =DOMAIN =SENDER =LINE --uid N`
 abbrev pub local_line : App

@@ -1,5 +1,5 @@
 -- A number of the command line.
-use Rattle.std.specs.Prelude.{◌^◌, ℕ, Option, Some, None, if◌then◌else◌, nat_lt, option_and_then}
+use Rattle.std.specs.Prelude.{◌&&◌, ◌^◌, ℕ, Option, Some, None, if◌then◌else◌, nat_lt, option_and_then}
 use Rattle.mail_bytes.specs.Decimal.{number_of}
 use Rattle.clap.specs.Words.{Text}
 
@@ -11,3 +11,12 @@ as_u32 n = if nat_lt n (2 ^ 32) then Some n else None
 abbrev pub uid_of : Option Text → Option ℕ
 uid_of None = Some 0
 uid_of (Some text) = option_and_then as_u32 (number_of text)
+
+-- the number, if it is from 1 to 1,000,000
+abbrev pub as_turns : ℕ → Option ℕ
+as_turns n = if nat_lt 0 n && nat_lt n 1000001 then Some n else None
+
+-- the turns of a decimal text, which has to stand
+abbrev pub turns_of : Option Text → Option ℕ
+turns_of None = None
+turns_of (Some text) = option_and_then as_turns (number_of text)

@@ -4,12 +4,13 @@ use Rattle.std.specs.Option.{option_map_or}
 use Rattle.std.specs.Str.{bytes_eq}
 use Rattle.clap.specs.Words.{App, Row, Text, first_of, matches_of}
 use Rattle.command_words.specs.declared.command.Command.{Command}
-use Rattle.command_words.specs.declared.command.Command.TheVariants.{Play, Queue, Audit, Clean, Lspawn, Rspawn, Local}
+use Rattle.command_words.specs.declared.command.Command.TheVariants.{Play, Queue, Send, Audit, Clean, Lspawn, Rspawn, Local}
 use Rattle.command_words.specs.declared.command.QueueWords.{QueueWords}
 use Rattle.command_words.specs.declared.command.RspawnWords.{RspawnWords}
+use Rattle.command_words.specs.declared.command.SendWords.{SendWords}
 use Rattle.command_words.specs.Delivery.{local_words}
-use Rattle.command_words.specs.Numbers.{uid_of}
-use Rattle.command_words.specs.Lines.{audit_line, clean_line, lspawn_line, play_line, queue_line, rspawn_line, takes_words}
+use Rattle.command_words.specs.Numbers.{turns_of, uid_of}
+use Rattle.command_words.specs.Lines.{audit_line, clean_line, lspawn_line, play_line, queue_line, rspawn_line, send_line, takes_words}
 
 -- the file of the envelope; `-` is none
 abbrev pub env_of : Text → Option Text
@@ -54,14 +55,28 @@ spawner_told_by rows = spawner_told (first_of (codes "dir") rows) (first_of (cod
 unfoldable pub rspawn_words : List Text → Option RspawnWords
 rspawn_words words = if takes_words rspawn_line words then spawner_told_by (matches_of rspawn_line words) else None
 
+-- what `send` is told, if both words stand and the turns are a number in range
+abbrev pub sender_told : Option RspawnWords → Option ℕ → Option SendWords
+sender_told (Some told) (Some turns) = Some (record { dir = told.dir; program = told.program; turns = turns })
+sender_told _ _ = None
+
+-- the same, of what clap found
+abbrev pub sender_told_by : List Row → Option SendWords
+sender_told_by rows = sender_told (spawner_told_by rows) (turns_of (first_of (codes "turns") rows))
+
+-- the words after the name `send`, whatever the first word is
+unfoldable pub send_words : List Text → Option SendWords
+send_words words = if takes_words send_line words then sender_told_by (matches_of send_line words) else None
+
 -- the command that this name names, if it isn't `play`
 abbrev pub others_named : Text → List Text → Option Command
 others_named name words = if bytes_eq name (codes "queue") then queue_words words
+    else (if bytes_eq name (codes "send") then option_map Send (send_words words)
     else (if bytes_eq name (codes "audit") then option_map Audit (dir_words audit_line words)
     else (if bytes_eq name (codes "clean") then option_map Clean (dir_words clean_line words)
     else (if bytes_eq name (codes "lspawn") then option_map Lspawn (dir_words lspawn_line words)
     else (if bytes_eq name (codes "rspawn") then option_map Rspawn (rspawn_words words)
-    else (if bytes_eq name (codes "local") then option_map Local (local_words words) else None)))))
+    else (if bytes_eq name (codes "local") then option_map Local (local_words words) else None))))))
 
 -- the command that the first word names
 abbrev pub command_named : Option Text → List Text → Option Command

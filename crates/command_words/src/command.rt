@@ -12,6 +12,8 @@ pub enum Command {
     Play,
     /// `queue`: puts a message into a queue.
     Queue(QueueWords),
+    /// `send`: runs the sender, with its cleaner and its spawners.
+    Send(SendWords),
     /// `audit`: prints what a queue holds; with the directory of the queue.
     Audit(ByteText),
     /// `clean`: runs the cleaner; with the directory of the queue.
@@ -35,6 +37,17 @@ pub struct QueueWords {
     pub uid: u32,
     /// Whether the message is a bounce.
     pub bounce: bool,
+}
+
+/// What `send` is told.
+#[derive(Drop)]
+pub struct SendWords {
+    /// The directory of the queue.
+    pub dir: ByteText,
+    /// The program that delivers to remote recipients. It isn't empty.
+    pub program: ByteText,
+    /// How many turns the sender makes, from 1 to 1,000,000.
+    pub turns: u64,
 }
 
 /// What `rspawn` is told.
@@ -75,6 +88,21 @@ pub enum Channels {
     Children,
     /// Its input, and those of its children.
     InputAndChildren,
+    /// Those of a sender's links and of its children; it has no input.
+    Links,
+}
+
+/// A member of a generation, of which a queue has one at a time.
+#[derive(Clone, Copy, Debug, PartialEq, Eq)]
+pub enum Member {
+    /// The sender.
+    Send,
+    /// The cleaner.
+    Clean,
+    /// The local spawner.
+    Lspawn,
+    /// The remote spawner.
+    Rspawn,
 }
 
 /// Why words weren't read.

@@ -1,9 +1,9 @@
 // What follows of words alone.
-ghost use Rattle.std.specs.Prelude.{◌≡◌, ◌<◌, ◌^◌, ◌↔◌, ◌∷◌, [], List, ℕ, Some, None, true, false, codes, slice_get};
+ghost use Rattle.std.specs.Prelude.{◌≡◌, ◌≢◌, ◌<◌, ◌≤◌, ◌^◌, ◌↔◌, ◌∷◌, [], List, ℕ, Some, None, true, false, codes, slice_get};
 ghost use Rattle.call_fs.specs.declared.past.DeliveryWordsData.{DeliveryWordsData};
 ghost use Rattle.mail_bytes.specs.Decimal.{digits};
 ghost use Rattle.command_words.specs.declared.command.Command.{Command as Told};
-ghost use Rattle.command_words.specs.declared.command.Command.TheVariants.{Play, Queue, Audit, Clean, Lspawn, Rspawn, Local};
+ghost use Rattle.command_words.specs.declared.command.Command.TheVariants.{Play, Queue, Send, Audit, Clean, Lspawn, Rspawn, Local};
 ghost use Rattle.command_words.specs.Delivery.{HasBytes, delivery_words};
 ghost use Rattle.command_words.specs.Lines.{play_line, takes_words};
 ghost use Rattle.command_words.specs.Reads.{IsNoCommand, IsNoOption, Reads};
@@ -26,6 +26,14 @@ pub fn words_by_row()
         (Queue (record { env = Some (codes "ENV"); dir = codes "DIR"; uid = 0; bounce = false })) }
     ensures options { Reads (codes "queue" ∷ codes "--bounce" ∷ codes "-" ∷ codes "--uid" ∷ codes "7" ∷ codes "DIR" ∷ [])
         (Queue (record { env = None; dir = codes "DIR"; uid = 7; bounce = true })) }
+    ensures send { Reads (codes "send" ∷ codes "DIR" ∷ codes "PROGRAM" ∷ codes "--turns" ∷ codes "5" ∷ [])
+        (Send (record { dir = codes "DIR"; program = codes "PROGRAM"; turns = 5 })) }
+    ensures turns_first { Reads (codes "send" ∷ codes "--turns=1000000" ∷ codes "--" ∷ codes "DIR" ∷ codes "-p" ∷ [])
+        (Send (record { dir = codes "DIR"; program = codes "-p"; turns = 1000000 })) }
+    ensures no_turns { IsNoCommand (codes "send" ∷ codes "DIR" ∷ codes "PROGRAM" ∷ []) }
+    ensures zero_turns { IsNoCommand (codes "send" ∷ codes "DIR" ∷ codes "PROGRAM" ∷ codes "--turns" ∷ codes "0" ∷ []) }
+    ensures too_many_turns { IsNoCommand (codes "send" ∷ codes "DIR" ∷ codes "PROGRAM" ∷ codes "--turns" ∷ codes "1000001" ∷ []) }
+    ensures send_no_program { IsNoCommand (codes "send" ∷ codes "DIR" ∷ codes "--turns" ∷ codes "5" ∷ []) }
     ensures audit { Reads (codes "audit" ∷ codes "DIR" ∷ []) (Audit (codes "DIR")) }
     ensures audit_no_directory { IsNoCommand (codes "audit" ∷ []) }
     ensures audit_extra { IsNoCommand (codes "audit" ∷ codes "DIR" ∷ codes "more" ∷ []) }
@@ -84,4 +92,16 @@ pub fn words_of_queue()
 pub fn words_of_local()
     ensures { (dir : List ℕ) (d : DeliveryWordsData) (n : ℕ) → IsNoOption dir → HasBytes d → n < 2 ^ 32
         → Reads (codes "local" ∷ dir ∷ delivery_words d n) (Local (record { dir = dir; words = d; uid = n })) }
+{}
+
+/// Words of the members of a generation that are written out except for DIR, PROGRAM and N: what a caller wrote is what is
+/// read. The conditions: DIR and PROGRAM don't begin with `-`, PROGRAM isn't empty, and N is from 1 to 1,000,000.
+pub fn words_of_members()
+    ensures send { (dir program : List ℕ) (n : ℕ) → IsNoOption dir → IsNoOption program → program ≢ [] → 0 < n → n ≤ 1000000
+        → Reads (codes "send" ∷ dir ∷ program ∷ codes "--turns" ∷ digits n ∷ [])
+        (Send (record { dir = dir; program = program; turns = n })) }
+    ensures clean { (dir : List ℕ) → IsNoOption dir → Reads (codes "clean" ∷ dir ∷ []) (Clean dir) }
+    ensures lspawn { (dir : List ℕ) → IsNoOption dir → Reads (codes "lspawn" ∷ dir ∷ []) (Lspawn dir) }
+    ensures rspawn { (dir program : List ℕ) → IsNoOption dir → IsNoOption program → program ≢ []
+        → Reads (codes "rspawn" ∷ dir ∷ program ∷ []) (Rspawn (record { dir = dir; program = program })) }
 {}

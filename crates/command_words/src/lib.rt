@@ -9,21 +9,22 @@
 //! |---|---|
 //! | `play` | plays a script |
 //! | `queue ENV DIR --uid N --bounce` | puts a message into the queue of DIR, as qmail-queue(8) |
+//! | `send DIR PROGRAM --turns N` | runs the sender of the queue of DIR for N turns, from 1 to 1,000,000, as qmail-send(8) |
 //! | `audit DIR` | prints what the queue of DIR holds |
 //! | `clean DIR` | runs the cleaner over the queue of DIR |
 //! | `lspawn DIR` | runs the local spawner over the queue of DIR |
 //! | `rspawn DIR PROGRAM` | runs the remote spawner, which delivers by PROGRAM; the empty word is no program |
 //! | `local DIR =USER =HOME =LOCAL =DASH =EXT =DOMAIN =SENDER =LINE --uid N` | makes a local delivery, as qmail-local(8) |
 //!
-//! Each word of `local` after DIR begins with `=`, which isn't part of it, and is escaped as in scripts: `%` and two
+//! `--turns` has to stand. Each word of `local` after DIR begins with `=`, which isn't part of it, and is escaped as in scripts: `%` and two
 //! hexadecimal digits stand for a byte. So it may hold any bytes.
 //!
 //! # What is claimed
 //!
 //! - Which command the words are, as a simple `clap` command for each takes them, and what it is told; the
-//!   places that they name, and which channels it has: `read_words`: `ok` (by `Reads`), `usage` (by `IsNoCommand`);
-//!   `places`; `channels`; the laws
-//!   `words_are_one_command`, `words_by_row`, `words_of_queue`, `words_of_local`.
+//!   places that they name, which channels it has, and as which member of a generation it runs: `read_words`: `ok` (by
+//!   `Reads`), `usage` (by `IsNoCommand`); `places`; `channels`; `member`; the laws `words_are_one_command`,
+//!   `words_by_row`, `words_of_queue`, `words_of_local`, `words_of_members`.
 #![tactic(auto)]
 
 mod command;
@@ -32,8 +33,13 @@ mod given;
 mod laws;
 mod lines;
 mod read;
+mod sender;
 
-pub use command::{Channels, Command, LocalWords, Places, QueueWords, RspawnWords, WordsError};
-pub use given::{channels, places};
-pub use laws::{words_are_one_command, words_by_row, words_of_local, words_of_queue};
+pub use command::{
+    Channels, Command, LocalWords, Member, Places, QueueWords, RspawnWords, SendWords, WordsError,
+};
+pub use given::{channels, member, places};
+pub use laws::{
+    words_are_one_command, words_by_row, words_of_local, words_of_members, words_of_queue,
+};
 pub use read::read_words;

@@ -1,7 +1,7 @@
 // The simple `clap` commands.
 ghost use Rattle.std.specs.Prelude.{◌≡◌, IfOk};
 ghost use Rattle.clap.specs.Words.{app_of};
-ghost use Rattle.command_words.specs.Lines.{audit_line, clean_line, local_line, lspawn_line, play_line, queue_line, rspawn_line, with_word};
+ghost use Rattle.command_words.specs.Lines.{audit_line, clean_line, local_line, lspawn_line, play_line, queue_line, rspawn_line, send_line, with_program, with_word};
 
 use clap::builder::ValueParser;
 use clap::{Arg, ArgAction, Command};
@@ -51,15 +51,20 @@ pub fn lspawn_line<'a>(alloc: Global) -> Result<Command<'a>, Memory>
     with_word(alloc, Command::new(alloc, "lspawn"), "dir")
 }
 
-/// The words of `rspawn`, of which the program isn't empty. The error: out of memory.
+/// The words of `rspawn`. The error: out of memory.
 pub fn rspawn_line<'a>(alloc: Global) -> Result<Command<'a>, Memory>
     ensures { IfOk result (λ line. app_of line ≡ rspawn_line) }
 {
-    with_word(alloc, Command::new(alloc, "rspawn"), "dir")?.arg(
-        Arg::new(alloc, "program")
-            .required(true)
-            .value_parser(ValueParser::NonEmptyString),
-    )
+    let line = with_word(alloc, Command::new(alloc, "rspawn"), "dir")?;
+    with_program(alloc, line)
+}
+
+/// The words of `send`. The error: out of memory.
+pub fn send_line<'a>(alloc: Global) -> Result<Command<'a>, Memory>
+    ensures { IfOk result (λ line. app_of line ≡ send_line) }
+{
+    let line = with_word(alloc, Command::new(alloc, "send"), "dir")?;
+    with_program(alloc, line)?.arg(Arg::new(alloc, "turns").long("turns"))
 }
 
 /// The words of `local`. The error: out of memory.
@@ -83,4 +88,15 @@ fn with_word<'a>(alloc: Global, line: Command<'a>, id: &'a str) -> Result<Comman
     ensures { IfOk result (λ more. app_of more ≡ with_word (app_of line.entry) id.entry.now) }
 {
     line.arg(Arg::new(alloc, id).required(true))
+}
+
+/// This command with the word of a program, which isn't empty. The error: out of memory.
+fn with_program<'a>(alloc: Global, line: Command<'a>) -> Result<Command<'a>, Memory>
+    ensures { IfOk result (λ more. app_of more ≡ with_program (app_of line.entry)) }
+{
+    line.arg(
+        Arg::new(alloc, "program")
+            .required(true)
+            .value_parser(ValueParser::NonEmptyString),
+    )
 }

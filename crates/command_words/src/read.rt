@@ -8,6 +8,7 @@ ghost use Rattle.command_words.specs.Numbers.{uid_of};
 
 use crate::delivery::read_local;
 use crate::lines::{audit_line, clean_line, lspawn_line, play_line, queue_line, rspawn_line};
+use crate::sender::read_send;
 use crate::{Command, QueueWords, RspawnWords, WordsError};
 use clap::error::ErrorKind;
 use clap::{ArgMatches, Command as Line};
@@ -27,6 +28,10 @@ pub fn read_words(alloc: Global, words: &[String]) -> Result<Command, WordsError
     match name.as_str() {
         "play" => read_play(alloc, words),
         "queue" => read_queue(alloc, words),
+        "send" => match read_send(alloc, words) {
+            Ok(sender) => Ok(Command::Send(sender)),
+            Err(why) => Err(why),
+        },
         "audit" => match read_dir(alloc, audit_line(alloc)?, words) {
             Ok(dir) => Ok(Command::Audit(dir)),
             Err(why) => Err(why),
@@ -106,7 +111,10 @@ fn read_rspawn(alloc: Global, words: &[String]) -> Result<RspawnWords, WordsErro
 }
 
 /// What `rspawn` is told by what `clap` found. `Usage` only if a word is missing.
-fn spawner_told(alloc: Global, matches: &ArgMatches<'_>) -> Result<RspawnWords, WordsError>
+pub(crate) fn spawner_told(
+    alloc: Global,
+    matches: &ArgMatches<'_>,
+) -> Result<RspawnWords, WordsError>
     ensures ok { IfOk result (λ told. spawner_told_by (rows_of (found_of matches.now)) ≡ Some told) }
     ensures usage { result ≡ Err WordsError.Usage → spawner_told_by (rows_of (found_of matches.now)) ≡ None }
 {

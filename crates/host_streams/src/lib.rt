@@ -1,6 +1,6 @@
 //! The streams of a real system: sources over readers, as standard input and a file that is opened late, and a sink over
 //! a writer, as standard output and standard error. Also the clock of the system, what stands for words of the command
-//! line that couldn't be read, and the exit status.
+//! line that couldn't be read, the exit status, and the locks by which a queue has one generation at a time.
 //!
 //! The contract of this crate: each is what its trait in outside asks for, and counts a failure of the stream below it as
 //! one. What a real stream or clock holds no contract can say, so a source and a clock don't tell; of a writer that tells
@@ -15,10 +15,13 @@
 //!   memory ran out, which is an error. The exit status is the call's, or 51 if memory ran out before it: `impl
 //!   Source`, `impl Sink` (`give`: `cause`, `all`, `some`), `impl Clock`; `next_moment`; `LateFile::read`: `none`;
 //!   `unread_words`; `status_of`.
+//!
+//! Of the locks nothing is claimed: they are a help for who runs a queue (qmail-send(8)).
 #![tactic(auto)]
 
 mod host_clock;
 mod late_file;
+mod queue_locks;
 mod reader_source;
 mod status;
 mod unread;
@@ -26,6 +29,7 @@ mod writer_sink;
 
 pub use host_clock::HostClock;
 pub use late_file::LateFile;
+pub use queue_locks::{MemberLock, lock_member, lock_sender};
 pub use reader_source::ReaderSource;
 pub use status::status_of;
 pub use unread::unread_words;

@@ -10,5 +10,3 @@ pub mod Own
 pub mod Posted
 -- children that run
 pub mod Running
--- how long a child may run after its input ended
-pub mod Drain

@@ -21,7 +21,8 @@
 //! spawner keeps). At one byte more it is killed: its channel is cut off, which is told as its end and counted
 //! (`ChildPosts::cuts`), and its status is that of a signal, also if it exited with 0 before. What lies before a writer is what the
 //! program fed, copied once. Room for a child, its reader and its pass are taken before it is started, so that no child runs that
-//! isn't known. Nobody spins: the program's thread rests in `RestingGate`, until a piece is pushed or a limit is over.
+//! isn't known. Nobody spins: the program's thread rests in a gate (resting_gates), until a piece is pushed or a limit
+//! is over.
 //!
 //! What a child may touch: descriptors 0 and 1, and no other of ours; descriptor 2 is ours for this same program, and
 //! /dev/null for the programs of others. A local delivery and a remote program have a session, and so a process group, of
@@ -45,24 +46,20 @@
 
 mod children;
 mod desk;
-mod drain;
 mod host_system;
 mod line;
 mod outflow;
 mod own_input;
 mod posts;
-mod resting;
 mod running;
 mod shared;
 mod start;
 mod system;
 
 pub use children::{Children, MOST_PRINTED};
-pub use drain::{DRAIN, LONGEST_DRAIN, drain_limit};
 pub use host_system::{HostProcess, HostSystem, StdReader};
 pub use own_input::{OwnReading, read_own_input};
 pub use posts::ChildPosts;
-pub use resting::RestingGate;
 pub use shared::{Opener, Reader, Shared, Taker, Through, share};
 pub use start::{Kind, Start};
 pub use system::{Born, Exit, Process, Readable, System};

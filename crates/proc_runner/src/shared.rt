@@ -1,7 +1,7 @@
 // What the program's thread and its readers hold of the shared queue.
-ghost use Rattle.std.specs.Prelude.{◌≡◌, ◌≤◌, ◌+◌, ◌^◌, ◌++◌, ◌∷◌, [], true, IfOk, IfErr, IfSome, IfNone};
+ghost use Rattle.std.specs.Prelude.{◌≡◌, ◌≤◌, ◌+◌, ◌^◌, ◌++◌, ◌∷◌, [], true, max, IfOk, IfErr, IfSome, IfNone, OnErr};
 ghost use Rattle.std.specs.Arc.{arc_value};
-ghost use Rattle.crossbeam_queue.specs.Passes.{view, IsPassOf};
+ghost use Rattle.crossbeam_queue.specs.Passes.{view, IsPassOf, ruled_capacity};
 ghost use Rattle.piece_queue.specs.Pieces.{Agree, HasLast, IsNext};
 ghost use Rattle.piece_queue.specs.Readings.{HasPushed};
 ghost use Rattle.piece_queue.specs.Rule.{FailsAtOnce, opener, reader, taker};
@@ -52,6 +52,7 @@ pub fn share(alloc: Global, room: usize) -> Result<(Opener, Taker), Memory>
     ensures opener { IfOk result (λ ends. ends.0.next ≡ 0) }
     ensures taker { IfOk result (λ ends. (view ends.1.pass).got ≡ []) }
     ensures queue { IfOk result (λ ends. arc_value ends.1.queue ≡ arc_value ends.0.queue) }
+    ensures room { IfOk result (λ ends. ruled_capacity (arc_value ends.0.queue).line ≡ max room 1) }
 {
     let (queue, opening, taking) = PieceQueue::new(alloc, room.max(1))?;
     let queue = Arc::new(alloc, queue)?;
@@ -73,6 +74,7 @@ impl Opener {
     pub fn open(&mut self) -> Result<Option<Reader>, Memory>
         ensures next { IfOk result (λ opened. IfSome opened (λ r. (r.chan ≡ self.old.next) × (self.new.next ≡ self.old.next + 1))) }
         ensures none { IfOk result (λ opened. IfNone opened (2 ^ 32 ≤ self.old.next + 1)) }
+        ensures err { OnErr result (self.new.next ≡ self.old.next) }
         ensures queue { IfOk result (λ opened. IfSome opened (λ r. arc_value r.queue ≡ arc_value self.old.queue)) }
         ensures kept { arc_value self.new.queue ≡ arc_value self.old.queue }
     {

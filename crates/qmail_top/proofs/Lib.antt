@@ -6,3 +6,5 @@ pub mod Injections
 pub mod Families
 -- which status a spawner never ends with
 pub mod Spawners
+-- which status a sender never ends with
+pub mod Senders

@@ -1,10 +1,11 @@
--- The commands that have children: the spawners and a local delivery.
+-- The commands that have children: the spawners, a local delivery and the sender.
 use Rattle.std.specs.Prelude.{◌≡◌, ◌⊎◌, ℕ, List, [], map, Option, String, string_bytes}
 use Rattle.std.specs.declared.alloc.Global.{Global}
 use Rattle.command_words.specs.declared.command.Channels.TheVariants.{Nothing}
-use Rattle.command_words.specs.declared.command.Command.TheVariants.{Lspawn, Rspawn, Local}
+use Rattle.command_words.specs.declared.command.Command.TheVariants.{Lspawn, Rspawn, Local, Send}
 use Rattle.command_words.specs.declared.command.LocalWords.{LocalWords}
 use Rattle.command_words.specs.declared.command.RspawnWords.{RspawnWords}
+use Rattle.command_words.specs.declared.command.SendWords.{SendWords}
 use Rattle.command_words.specs.Places.{channels_of}
 use Rattle.command_words.specs.Reads.{Reads, command_of}
 use Rattle.local_command.specs.Delivered.{WasDelivered}
@@ -19,10 +20,11 @@ use Rattle.program_runner.specs.Outside.{Outside}
 use Rattle.program_runner.specs.Serving.{PostsTold, SpawnerTold}
 use Rattle.queue_limits.specs.declared.statuses.TheConstants.{MEMORY}
 use Rattle.remote_spawn.specs.Table.{Next as RemoteNext}
+use Rattle.send_command.specs.Sent.{Logged, WasSent, no_lines}
 use Rattle.spawn_command.specs.Spawned.{WasSpawned, begun_lines}
 use Rattle.spawner_parts.specs.Causes.{IsEnded}
 
--- the words are `lspawn` with this directory, `rspawn` or `local` with what it is told
+-- the words are `lspawn` with this directory; `rspawn`, `local` or `send` with what it is told
 abbrev pub IsLspawn : List (String Global) → List ℕ → Type 0
 IsLspawn words dir = Reads (map string_bytes words) (Lspawn dir)
 
@@ -32,21 +34,27 @@ IsRspawn words told = Reads (map string_bytes words) (Rspawn told)
 abbrev pub IsLocal : List (String Global) → LocalWords → Type 0
 IsLocal words told = Reads (map string_bytes words) (Local told)
 
--- one of the two spawners; a delivery; any of these
+abbrev pub IsSend : List (String Global) → SendWords → Type 0
+IsSend words told = Reads (map string_bytes words) (Send told)
+
+-- one of the two spawners; a delivery; a sender; any of these
 abbrev pub IsSpawner : List (String Global) → Type 0
 IsSpawner words = ((dir : List ℕ) × IsLspawn words dir) ⊎ ((told : RspawnWords) × IsRspawn words told)
 
 abbrev pub IsDelivery : List (String Global) → Type 0
 IsDelivery words = (told : LocalWords) × IsLocal words told
 
+abbrev pub IsSender : List (String Global) → Type 0
+IsSender words = (told : SendWords) × IsSend words told
+
 abbrev pub IsParent : List (String Global) → Type 0
-IsParent words = IsSpawner words ⊎ IsDelivery words
+IsParent words = IsSpawner words ⊎ (IsDelivery words ⊎ IsSender words)
 
 -- a command without channels, or none
 abbrev pub HasNoChannels : List (String Global) → Type 0
 HasNoChannels words = channels_of (command_of (map string_bytes words)) ≡ Nothing
 
--- What stands around a spawner besides its disk, the last moment and its output.
+-- What stands around a spawner or a sender besides its disk, the last moment and its output.
 pub record Family : Type 0 where
   pub moments : Option (List ℕ)
   pub posts : PostsTold
@@ -77,3 +85,9 @@ abbrev pub WasDelivery : LocalWords → ℕ → Outside → Outside → Children
 WasDelivery told pid old new children now status =
     WasDelivered (words_of (dir_word told.dir) []) (local_args told.words told.uid pid) old new children now status
     ⊎ IsUntouched status old new children now
+
+-- It was the sender that the words tell, with its children over its directory.
+abbrev pub HasSent : SendWords → ℕ → Outside → Outside → Family → Family → Logged → Logged → Type 0
+HasSent told status old new family now log logged =
+    ((lines : LineState) × WasSent (dir_word told.dir) told.program told.turns status old new (with_lines family no_lines) (with_lines now lines) log logged)
+    ⊎ (IsUntouched status old new family now × (logged ≡ log))

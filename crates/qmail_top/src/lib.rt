@@ -3,8 +3,8 @@
 //! The command `play` reads a script of mails and steps, and plays it over a disk in memory; the crate `scenario` says
 //! what a script is and what it prints. `queue` puts a message into a queue (the crate `queue_command`), `audit` prints
 //! what a queue holds (`audit_command`), and `clean` runs the cleaner (`clean_command`). `lspawn` and `rspawn` run the
-//! spawners (`spawn_command`), and `local` makes a local delivery (`local_command`). The exit statuses are those of
-//! qmail-queue(8) if it has one.
+//! spawners (`spawn_command`), and `local` makes a local delivery (`local_command`). `send` starts the cleaner and the spawners,
+//! and is the sender (`send_command`). The exit statuses are those of qmail-queue(8) if it has one.
 //!
 //! # What is claimed
 //!
@@ -18,6 +18,8 @@
 //! - `lspawn`, `rspawn`: a whole run of the spawner, with deliveries by the words' directory or program: `qmail`: `lspawn` (by
 //!   `WasLspawned`), `rspawn` (by `WasRspawned`).
 //! - `local`: a whole delivery, of what the words say: `qmail`: `local` (by `WasDelivery`).
+//! - `send`: a whole run of the sender with the children that it starts, and the lines of its past in the log: `qmail`: `send` (by
+//!   `HasSent`).
 //! - The words by which these start this same program are the command that is meant: `children_are_commands`.
 //! - `play`: with status 0 the output took exactly what the script prints, and the script was read to its end. The
 //!   history that it played is its own, from a disk that has controls, legal, and as promised at each prefix by
@@ -31,11 +33,14 @@
 //!   `malformed`, `checked`, `output`, `input`, `unfailed`, `complete`, `known`.
 #![tactic(auto)]
 
+mod called;
 mod laws;
 mod play_command;
 mod refusing;
+mod sending;
 mod top;
 
+pub use called::Qmail;
 pub use command_words::{Places, places};
 pub use laws::children_are_commands;
 pub use top::qmail;

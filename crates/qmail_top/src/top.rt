@@ -4,6 +4,7 @@ ghost use Rattle.mail_bytes.specs.Told.{Rose, Meets, OnTold};
 ghost use Rattle.command_words.specs.declared.command.LocalWords.{LocalWords as Told};
 ghost use Rattle.command_words.specs.declared.command.QueueWords.{QueueWords as Wanted};
 ghost use Rattle.command_words.specs.declared.command.RspawnWords.{RspawnWords as Spawns};
+ghost use Rattle.command_words.specs.declared.command.SendWords.{SendWords as Sends};
 ghost use Rattle.command_words.specs.Reads.{IsNoCommand};
 ghost use Rattle.script_lines.specs.Contents.{Content};
 ghost use Rattle.script_lines.specs.Lines.{IsScript, IsRefused, most_bytes};
@@ -13,11 +14,12 @@ ghost use Rattle.local_command.specs.Delivered.{WasDelivered};
 ghost use Rattle.local_parts.specs.Arguments.{local_args};
 ghost use Rattle.program_runner.specs.ChildWords.{dir_word, words_of};
 ghost use Rattle.program_runner.specs.Members.{uncounted};
-ghost use Rattle.qmail_top.specs.Families.{HasNoChannels, IsDelivery, IsLocal, IsLspawn, IsParent, IsRspawn, IsSpawner, WasDelivery, WasLspawned, WasRspawned};
+ghost use Rattle.qmail_top.specs.Families.{HasNoChannels, HasSent, IsDelivery, IsLocal, IsLspawn, IsParent, IsRspawn, IsSend, IsSender, IsSpawner, WasDelivery, WasLspawned, WasRspawned};
 ghost use Rattle.qmail_top.specs.SafePlays.{IsSafePrefixAtMost, PrintsSafely};
 ghost use Rattle.qmail_top.specs.Command.{IsPlay, IsPrintedAtEnd, IsQueue, IsAudit, IsClean, HasRunQueue, NoneFailed, WasCleaned, usage_line};
 
 use crate::play_command::play_script;
+use crate::sending::be_sender;
 use audit_command::print_audit;
 use call_fs::CallFs;
 use clean_command::clean;
@@ -53,13 +55,19 @@ use std::alloc::Global;
 /// before has its report. 51: out of memory, or it hasn't ended after 18,446,744,073,709,551,615 turns. 53: `out` failed. 54:
 /// `posts` failed. They are the programs of qmail-lspawn(8) and qmail-rspawn(8).
 ///
+/// `send` starts the cleaner and the spawners of the queue as children of `spawn`, and is the sender over `disk` for as many turns
+/// as it is told; `log` gets its lines. Their reports are channels of `posts`, and injectors of bounces are children too. 0: all
+/// turns were made. 81, 82, 83: the link of the cleaner, the local or the remote spawner was lost. 84: a child couldn't be started,
+/// or a file call failed in the start, or a directory of the queue is missing. 85: a control file is bad. 53: `log` failed. 51: out
+/// of memory, or it hasn't ended after 18,446,744,073,709,551,615 events and looks. It is the program of qmail-send(8).
+///
 /// `local` makes one local delivery of the message that `message` gives, one netstring; `out` gets a line of what came of it.
 /// Commands of the user and the injector of forwards are children of `spawn`, whose ends `posts` tell. 0: the instructions
 /// were carried out. 100: no later try would go well. 111: a later try may go well. 51: out of memory. It is the program of
 /// qmail-local(8).
 ///
-/// A command that waits for children rests at `gate`. Other words write the line `usage` to `log`, with exit status 100. What a
-/// command doesn't use stays untouched.
+/// A command that waits for children rests at `gate`; the sender also between its turns. Other words write the line `usage` to
+/// `log`, with exit status 100. What a command doesn't use stays untouched.
 pub fn qmail<
     R,
     D: CallFs,
@@ -128,7 +136,16 @@ pub fn qmail<
         (record { moments = K.calls clock.old; posts = record { waiting = P.waiting posts.old; asked = P.calls posts.old; faults = P.faults posts.old }; spawner = record { children = S.children spawn.old; calls = S.calls spawn.old; faults = S.faults spawn.old } })
         (record { moments = K.calls clock.new; posts = record { waiting = P.waiting posts.new; asked = P.calls posts.new; faults = P.faults posts.new }; spawner = record { children = S.children spawn.new; calls = S.calls spawn.new; faults = S.faults spawn.new } }) }
 
-    // `local`: the same, and what it took
+    // `send`: the same, without the output; its log took the lines of its past
+    ensures send { (w : Sends) → IsSend words.now w → HasSent w result
+        (record { disk = D.disk disk.old; calls = D.calls disk.old; disk_faults = D.faults disk.old; moments = None; last = K.last clock.old; left = None; input_faults = uncounted; taken = None; output_faults = 0 })
+        (record { disk = D.disk disk.new; calls = D.calls disk.new; disk_faults = D.faults disk.new; moments = None; last = K.last clock.new; left = None; input_faults = uncounted; taken = None; output_faults = 0 })
+        (record { moments = K.calls clock.old; posts = record { waiting = P.waiting posts.old; asked = P.calls posts.old; faults = P.faults posts.old }; spawner = record { children = S.children spawn.old; calls = S.calls spawn.old; faults = S.faults spawn.old } })
+        (record { moments = K.calls clock.new; posts = record { waiting = P.waiting posts.new; asked = P.calls posts.new; faults = P.faults posts.new }; spawner = record { children = S.children spawn.new; calls = S.calls spawn.new; faults = S.faults spawn.new } })
+        (record { taken = L.taken log.old; faults = L.faults log.old })
+        (record { taken = L.taken log.new; faults = L.faults log.new }) }
+
+    // `local`: the same as the spawners, and what it took
     ensures local { (d : Told) → IsLocal words.now d → WasDelivery d (K.pid clock.old)
         (record { disk = D.disk disk.old; calls = D.calls disk.old; disk_faults = D.faults disk.old; moments = K.calls clock.old; last = K.last clock.old; left = M.left message.old; input_faults = M.faults message.old; taken = O.taken out.old; output_faults = O.faults out.old })
         (record { disk = D.disk disk.new; calls = D.calls disk.new; disk_faults = D.faults disk.new; moments = K.calls clock.new; last = K.last clock.new; left = M.left message.new; input_faults = M.faults message.new; taken = O.taken out.new; output_faults = O.faults out.new })
@@ -174,10 +191,12 @@ pub fn qmail<
     ensures told_end { IsPlay words.now → result ≡ DONE → OnTold (M.ended message.new) (λ is. is ≡ true) }
 
     // what stays untouched
-    ensures unread { IsNoCommand (map string_bytes words.now) ⊎ (IsAudit words.now ⊎ IsSpawner words.now) → message.new ≡ message.old }
+    ensures unread { IsNoCommand (map string_bytes words.now) ⊎ (IsAudit words.now ⊎ (IsSpawner words.now ⊎ IsSender words.now))
+        → message.new ≡ message.old }
     ensures unwritten { IsNoCommand (map string_bytes words.now) ⊎ (IsPlay words.now × (result ≡ INPUT)) → out.new ≡ out.old }
     ensures unprinted { (q : Wanted) → IsQueue words.now q → out.new ≡ out.old }
-    ensures unlogged { (result ≢ USAGE) ⊎ IsDelivery words.now → log.new ≡ log.old }
+    ensures unsaid { IsSender words.now → out.new ≡ out.old }
+    ensures unlogged { ¬ (IsSender words.now) → (result ≢ USAGE) ⊎ IsDelivery words.now → log.new ≡ log.old }
     ensures disk { IsNoCommand (map string_bytes words.now) ⊎ IsPlay words.now → disk.new ≡ disk.old }
     ensures envelope { IsNoCommand (map string_bytes words.now) ⊎ (IsPlay words.now ⊎ (IsAudit words.now ⊎ (IsClean words.now ⊎ IsParent words.now)))
         → envelope.new ≡ envelope.old }
@@ -190,6 +209,7 @@ pub fn qmail<
     match read_words(alloc, words) {
         Ok(Command::Play) => play_script(alloc, message, out),
         Ok(Command::Queue(queue)) => queue_message(alloc, queue, disk, message, envelope, clock),
+        Ok(Command::Send(told)) => be_sender(alloc, told, disk, log, clock, posts, spawn, gate),
         Ok(Command::Audit(_)) => print_audit(alloc, disk, out),
         Ok(Command::Clean(_)) => clean(alloc, disk, message, out, clock),
         Ok(Command::Lspawn(dir)) => {

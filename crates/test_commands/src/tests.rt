@@ -1,8 +1,9 @@
 // What can't be made shows in the answer.
+mod counting_gate;
 mod fields;
 mod locals;
 mod made;
-mod resting;
+mod paced_posts;
 mod rows;
-mod slow_posts;
+mod senders;
 mod spawners;

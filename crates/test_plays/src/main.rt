@@ -48,6 +48,9 @@
 //! Pieces and directories are parted by ` | `, and words, numbers and names by spaces. In bytes, `%` and two hexadecimal digits
 //! are one byte, and `%*` is the byte of the line `times`, as often as it says. The line printed of the file says how many rows
 //! came as they should, after those that didn't.
+//!
+//! At last a message is sent by real processes from a real directory, and `send ok` is printed if it came to where it belongs. These
+//! processes are this same program: if it is told words, it does what `qmail` does with them.
 #![tactic(auto)]
 
 mod calling;
@@ -55,21 +58,52 @@ mod crowded_disk;
 mod disks;
 mod fields;
 mod plays;
+mod real_sender;
 mod rows;
 mod stages;
 mod stops;
 mod survivors;
 mod told;
 
+use host_streams::status_of;
 use plays::prints;
+use qmail_process::{run, words_of};
+use qmail_top::Qmail;
+use real_sender::is_sent;
 use rows::make_rows;
+use std::process::ExitCode;
 use std::{fs, io};
 use stops::stop_everywhere;
 
-fn main(rt: HostRuntime) -> io::Result<()> {
-    play_all(&rt)?;
-    stop_all(&rt)?;
-    make_all(&rt)
+fn main(rt: HostRuntime) -> ExitCode {
+    let called = match words_of(&rt, rt.alloc()) {
+        Ok(words) => {
+            if words.is_empty() {
+                Ok(play_folder(&rt))
+            } else {
+                run(&Qmail, &rt, rt, rt.alloc(), &words)
+            }
+        }
+        Err(why) => Err(why),
+    };
+    ExitCode::from(status_of(called))
+}
+
+/// Plays what the folder has, and answers the exit status: 1 if something of it can't be read or printed.
+fn play_folder(rt: &HostRuntime) -> u8 {
+    match play_each(rt) {
+        Ok(()) => 0,
+        Err(_) => 1,
+    }
+}
+
+/// Plays what the folder has, and sends a message.
+fn play_each(rt: &HostRuntime) -> io::Result<()> {
+    play_all(rt)?;
+    stop_all(rt)?;
+    make_all(rt)?;
+    let verdict = if is_sent(rt)? { "ok" } else { "differs" };
+    println!(rt; "send {verdict}")
 }
 
 /// Plays each script that is a pair of files.

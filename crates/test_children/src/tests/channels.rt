@@ -3,9 +3,8 @@
 use super::scripted::{Script, Scripted, unordered};
 use super::yard::{Came, Yard, gather};
 use outside::{Gate, Gave, Post, Posts, Spawner, Started, Status};
-use proc_runner::{
-    ChildPosts, MOST_PRINTED, OwnReading, RestingGate, drain_limit, read_own_input, share,
-};
+use proc_runner::{ChildPosts, MOST_PRINTED, OwnReading, read_own_input, share};
+use resting_gates::{RestingGate, drain_limit};
 use std::alloc::{AllocError, Global};
 use std::sync::Wait;
 use std::test::*;

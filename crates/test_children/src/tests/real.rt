@@ -2,7 +2,7 @@
 
 use super::large::{MANY_TIMES, TEXT, counts, gives_back, sleepers};
 use super::many::all_print;
-use super::shells::{commands, floods, keeps_apart, refuses, strangers};
+use super::shells::{commands, floods, itself, keeps_apart, refuses, strangers};
 use super::yard::Yard;
 use proc_runner::{HostSystem, System};
 use std::alloc::{AllocError, Global};
@@ -46,6 +46,9 @@ fn wrong_of_few<R: Wait + Drop, S: System>(yard: &mut Yard<R, S>, alloc: Global)
     }
     if !strangers(yard, alloc) {
         return "programs of others";
+    }
+    if !itself(yard, alloc) {
+        return "this same program";
     }
     if !refuses(yard, alloc) {
         return "feedings that fail";

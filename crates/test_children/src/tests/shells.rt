@@ -97,6 +97,18 @@ pub fn strangers<R: Wait + Drop, S: System>(yard: &mut Yard<R, S>, alloc: Global
     are_crashed && is_silent && wrong == Started::Failed
 }
 
+/// Whether this same program is started as a member, and told its words: it prints, and ends, as when a shell starts the program
+/// that its parent is by the same word, which has it list its tests.
+pub fn itself<R: Wait + Drop, S: System>(yard: &mut Yard<R, S>, alloc: Global) -> bool {
+    let member = run(yard, alloc, &[b"", b"--list"], b"");
+    let chan = yard.start(alloc, &[b"sh", b"-c", b"exec /proc/$PPID/exe --list"]);
+    yard.children.finish(chan);
+    let is_whole = yard.collect();
+    let by_shell = yard.children.status(chan);
+    let is_same = is_whole && member == by_shell && matches!(member, Status::Ended(_));
+    is_same && (yard.bytes.is_empty() || is_twice(yard.bytes.as_slice()))
+}
+
 /// Whether a child whose input was ended, and a channel that no child has, can't be fed, each counted once.
 pub fn refuses<R: Wait + Drop, S: System>(yard: &mut Yard<R, S>, alloc: Global) -> bool {
     let before = yard.children.faults();

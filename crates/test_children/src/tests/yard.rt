@@ -2,7 +2,8 @@
 ghost use Rattle.outside.specs.Children.{FillsFront};
 
 use outside::{Gate, Post, Posts, Spawner, Started};
-use proc_runner::{ChildPosts, Children, RestingGate, System, share};
+use proc_runner::{ChildPosts, Children, System, share};
+use resting_gates::RestingGate;
 use std::alloc::{AllocError, Global};
 use std::sync::Wait;
 use std::thread::Threads;

@@ -1,7 +1,6 @@
 // Local deliveries to `j@localhost`, from `a@x`, each over a message, a disk and children.
 
 use super::rows::first_wrong;
-use outside::OpenGate;
 
 const GONE_WELL: &str = r#"# by the default line into a maildir
 run local; input 71:Received: (qmail 77 invoked by uid 1000)%3B 1 Jan 1970 00:00:00 -0000%0Ahi%0A,; room 40; status 0; given did 1+0+0%0A; dropped Return-Path: <a@x>%0ADelivered-To: j@localhost%0AReceived: (qmail 77 invoked by uid 1000)%3B 1 Jan 1970 00:00:00 -0000%0Ahi%0A
@@ -41,6 +40,6 @@ run local; qmail &a@b%0A; input 3:hi%0A,; children 83/18446744073709551615/0; ro
 
 #[test]
 fn deliveries_do_what_the_rows_say(rt: HostRuntime) {
-    assert_eq!(rt; first_wrong(rt.alloc(), GONE_WELL, false, &OpenGate), None);
-    assert_eq!(rt; first_wrong(rt.alloc(), GONE_WRONG, false, &OpenGate), None);
+    assert_eq!(rt; first_wrong(rt.alloc(), GONE_WELL, 0), None);
+    assert_eq!(rt; first_wrong(rt.alloc(), GONE_WRONG, 0), None);
 }

@@ -1,33 +1,54 @@
 // Rows, each of a command that is run over what it says, with what comes of it.
 
+use super::counting_gate::CountingGate;
 use super::fields::{field, is_text, is_well_formed, number, numbers};
-use super::made::{fill, posts_of, source_of, spawner_of, words_of};
-use super::slow_posts::SlowPosts;
+use super::made::{make_dirs, posts_of, put_files, source_of, spawner_of, take_away, words_of};
+use super::paced_posts::{LateClock, PacedPosts};
+use call_fs::CallFs;
 use local_command::deliver;
 use mail_bytes::ByteText;
 use mem_fs::MemFs;
-use outside::{Gate, MemClock, MemPosts, MemSink, MemSpawner, Posts};
+use outside::{MemPosts, MemSink, MemSpawner, Posts, Sink, Spawner};
+use send_command::send;
 use spawn_command::{spawn_local, spawn_remote};
 use std::alloc::Global;
 
+/// How often slow posts bring nothing before each thing that they bring.
+pub const SLOW_ASKS: u64 = 12;
+
 /// What a row may say:
 ///
-/// - `run`: `rspawn` and the program, `lspawn` and the directory, or `local`, a delivery to `j@localhost` from `a@x` in process
-///   82, with the uid 1000;
+/// - `run`: `rspawn` and the program, `lspawn` and the directory, `send` and how many turns, over the directory `d` with the
+///   program `p`, or `local`, a delivery to `j@localhost` from `a@x` in process 82, with the uid 1000;
+/// - `lacks`: a directory that isn't there; `gone`: the names that were taken away since the run before; `mail`: the files that
+///   are put there then, each a name and after `=` its bytes, or `queued` or `known`: message 1 as it is queued, or once it was
+///   preprocessed;
 /// - `qmail`: the instructions of `j`; `input`: the input of a delivery;
-/// - `posts`: what the posts bring: a channel, and after `:` bytes, `end` or `failed`;
-/// - `children`: those that can be started: the number of the process, for how many bytes it has room, and the exit status or
-///   `crashed`; `fails`, `disk_fails`: which calls for children, and which of the disk, fail;
-/// - `room`: for how many bytes the output has room;
+/// - `posts`: what the posts bring: a channel, and after `:` bytes, `end` or `failed`; `pace`: how often the command pauses at its
+///   gate before each of them comes;
+/// - `moment`: what the clock tells after so many pauses as `later` says, and 0 before;
+/// - `children`: those that can be started: the number of the process, for how many bytes it has room, and the exit status,
+///   `crashed`, or `failed` if it can't be had; `fails`, `disk_fails`: which calls for children, and which of the disk, fail;
+/// - `room`: for how many bytes the output has room, or the log of a sender;
 /// - `letters`: for how many letters `a` the `{letters}` of a text stands;
-/// - `status`, `given`: the exit status, and what the output got; `words`, `fed`, `words2`, `fed2`: the words of the first and
-///   the second child that were started, of which `""` is an empty one, and what each was fed; `dropped`: the file in the
-///   maildir. No other child is started, and without `dropped` there is no file.
-const NAMES: [&str; 16] = [
+/// - `status`, `given`: the exit status, and what the output got, or the log; `words`, `fed`, `words2`, `fed2`: the words of the
+///   first and the second child that were started, of which `""` is an empty one, and what each was fed; `started`: how many
+///   were started as a sender's, and what two more were fed is `fed3` and `fed4`; `dropped`: the file in the maildir. No other
+///   child is started, and without `dropped` there is no file;
+/// - `counted`: how many calls have failed: of children, of the disk, of the posts and of the output;
+/// - `rests`: how often it paused at its gate, and the sum of the steps, with a thousand for each that was of a mail;
+/// - `then`: what follows is another run over the same disk.
+const NAMES: [&str; 27] = [
     "run",
+    "lacks",
+    "gone",
+    "mail",
     "qmail",
     "input",
     "posts",
+    "pace",
+    "moment",
+    "later",
     "children",
     "fails",
     "disk_fails",
@@ -39,68 +60,115 @@ const NAMES: [&str; 16] = [
     "fed",
     "words2",
     "fed2",
+    "fed3",
+    "fed4",
+    "started",
     "dropped",
+    "counted",
+    "rests",
+];
+
+/// Of each channel: the part of a row with its words, that with what it was fed, and its words if it is a sender's.
+const CHILDREN: [(u32, &str, &str, &str); 4] = [
+    (1, "words", "fed", "\"\" clean d"),
+    (2, "words2", "fed2", "\"\" lspawn d"),
+    (3, "", "fed3", "\"\" rspawn d p"),
+    (4, "", "fed4", "\"\" queue - d --bounce"),
 ];
 
 /// Makes a local delivery; its exit status.
-fn deliver_row<P: Posts, G: Gate>(
+fn deliver_row(
     alloc: Global,
     row: &str,
     disk: &mut MemFs,
-    posts: &mut P,
+    posts: &mut PacedPosts<'_>,
     spawner: &mut MemSpawner,
     output: &mut MemSink,
-    gate: &G,
+    gate: &CountingGate,
 ) -> u8 {
-    let mut clock = MemClock::new(Vec::new(alloc), 82);
+    let mut clock = LateClock::new(gate, 0, 0, 82);
     let mut input = source_of(alloc, row);
-    let status = match words_of(alloc) {
-        Ok(words) => deliver(
-            alloc, b"d", words, 1000, disk, &mut input, output, &mut clock, posts, spawner, gate,
-        ),
-        Err(_) => 255,
-    };
-    drop(clock);
+    let words = words_of(alloc);
+    let status = deliver(
+        alloc, b"d", words, 1000, disk, &mut input, output, &mut clock, posts, spawner, gate,
+    );
     drop(input);
     status
 }
 
-/// Runs the command of a row; its exit status.
-fn run<P: Posts, G: Gate>(
+/// Runs the remote spawner; its exit status.
+fn spawn_remote_row(
     alloc: Global,
     row: &str,
     disk: &mut MemFs,
-    posts: &mut P,
+    posts: &mut PacedPosts<'_>,
     spawner: &mut MemSpawner,
     output: &mut MemSink,
-    gate: &G,
+    gate: &CountingGate,
 ) -> u8 {
-    let (name, told) = field(row, "run").split_once(' ').unwrap_or(("local", ""));
-    let told = told.as_bytes();
-    let mut clock = MemClock::new(Vec::new(alloc), 77);
-    match name {
-        "rspawn" => spawn_remote(alloc, told, disk, &mut clock, posts, spawner, output, gate),
-        "lspawn" => spawn_local(alloc, told, disk, &mut clock, posts, spawner, output, gate),
-        _ => deliver_row(alloc, row, disk, posts, spawner, output, gate),
-    }
+    let program = told(row).as_bytes();
+    let mut clock = LateClock::new(gate, 0, 0, 77);
+    spawn_remote(
+        alloc, program, disk, &mut clock, posts, spawner, output, gate,
+    )
 }
 
-/// Runs it with posts that bring one thing at a time, or all at once.
-fn run_by<G: Gate>(
+/// Runs the local spawner; its exit status.
+fn spawn_local_row(
     alloc: Global,
     row: &str,
-    is_slow: bool,
     disk: &mut MemFs,
-    posts: &mut MemPosts,
+    posts: &mut PacedPosts<'_>,
     spawner: &mut MemSpawner,
     output: &mut MemSink,
-    gate: &G,
+    gate: &CountingGate,
 ) -> u8 {
-    if is_slow {
-        let mut posts = SlowPosts::new(posts);
-        return run(alloc, row, disk, &mut posts, spawner, output, gate);
+    let dir = told(row).as_bytes();
+    let mut clock = LateClock::new(gate, 0, 0, 77);
+    spawn_local(alloc, dir, disk, &mut clock, posts, spawner, output, gate)
+}
+
+/// Runs the sender; its exit status.
+fn send_row(
+    alloc: Global,
+    row: &str,
+    disk: &mut MemFs,
+    posts: &mut PacedPosts<'_>,
+    spawner: &mut MemSpawner,
+    output: &mut MemSink,
+    gate: &CountingGate,
+) -> u8 {
+    let turns = told(row).parse::<u64>().unwrap_or(0);
+    let moment = field(row, "moment").parse::<u32>().unwrap_or(0);
+    let mut clock = LateClock::new(gate, number(row, "later"), moment, 77);
+    send(
+        alloc, b"d", b"p", turns, disk, output, &mut clock, posts, spawner, gate,
+    )
+}
+
+/// What the command of a row is told.
+fn told(row: &str) -> &str {
+    let (_, told) = field(row, "run").split_once(' ').unwrap_or(("", ""));
+    told
+}
+
+/// Runs the command of a row; its exit status.
+fn run(
+    alloc: Global,
+    row: &str,
+    disk: &mut MemFs,
+    posts: &mut PacedPosts<'_>,
+    spawner: &mut MemSpawner,
+    output: &mut MemSink,
+    gate: &CountingGate,
+) -> u8 {
+    let (name, _) = field(row, "run").split_once(' ').unwrap_or(("local", ""));
+    match name {
+        "rspawn" => spawn_remote_row(alloc, row, disk, posts, spawner, output, gate),
+        "lspawn" => spawn_local_row(alloc, row, disk, posts, spawner, output, gate),
+        "send" => send_row(alloc, row, disk, posts, spawner, output, gate),
+        _ => deliver_row(alloc, row, disk, posts, spawner, output, gate),
     }
-    run(alloc, row, disk, posts, spawner, output, gate)
 }
 
 /// Whether these are the words of a text.
@@ -142,21 +210,18 @@ fn is_started(
 
 /// Whether the children were started and fed as the row says, and no more of them.
 fn are_started(alloc: Global, row: &str, spawner: &MemSpawner) -> bool {
-    is_started(
-        alloc,
-        row,
-        spawner,
-        1,
-        field(row, "words"),
-        field(row, "fed"),
-    ) && is_started(
-        alloc,
-        row,
-        spawner,
-        2,
-        field(row, "words2"),
-        field(row, "fed2"),
-    ) && spawner.words(3).is_none()
+    let links = number(row, "started");
+    for (chan, words, fed, link) in CHILDREN {
+        let words = if u64::from(chan) <= links {
+            link
+        } else {
+            field(row, words)
+        };
+        if !is_started(alloc, row, spawner, chan, words, field(row, fed)) {
+            return false;
+        }
+    }
+    spawner.words(5).is_none()
 }
 
 /// Whether the maildir has the file that the row says, or none.
@@ -168,37 +233,64 @@ fn is_dropped(alloc: Global, row: &str, disk: &MemFs) -> bool {
     }
 }
 
-/// Whether the command of a row over this disk and this output does what the row says.
-fn is_right_into<G: Gate>(
+/// Whether a part of the row that has this name has these numbers; or there is none.
+fn are_numbers(alloc: Global, row: &str, name: &str, found: &[u64]) -> bool {
+    let wanted = numbers(alloc, row, name);
+    let is_so = wanted.is_empty() || wanted.as_slice() == found;
+    drop(wanted);
+    is_so
+}
+
+/// Whether a run over this disk into this output does what it says.
+fn is_right_by(
     alloc: Global,
     row: &str,
-    is_slow: bool,
+    asks: u64,
     disk: &mut MemFs,
     posts: &mut MemPosts,
     spawner: &mut MemSpawner,
     output: &mut MemSink,
-    gate: &G,
 ) -> bool {
-    let status = run_by(alloc, row, is_slow, disk, posts, spawner, output, gate);
+    let gate = CountingGate::new();
+    let mut paced = PacedPosts::new(posts, &gate, asks, number(row, "pace"));
+    let status = run(alloc, row, disk, &mut paced, spawner, output, &gate);
+    let counted = [
+        spawner.faults(),
+        disk.faults(),
+        paced.faults(),
+        output.faults(),
+    ];
     (u64::from(status) == number(row, "status"))
         & is_text(alloc, row, field(row, "given"), output.taken())
         & are_started(alloc, row, spawner)
         & is_dropped(alloc, row, disk)
+        & are_numbers(alloc, row, "counted", &counted)
+        & are_numbers(alloc, row, "rests", &[gate.pauses(), gate.steps()])
+}
+
+/// The same, with its own posts and children, and once its files are there.
+fn is_right_into(
+    alloc: Global,
+    row: &str,
+    asks: u64,
+    disk: &mut MemFs,
+    output: &mut MemSink,
+) -> bool {
+    let is_gone = take_away(disk, row);
+    put_files(alloc, disk, row);
+    let mut posts = posts_of(alloc, row);
+    let mut spawner = spawner_of(alloc, row);
+    let is_so = is_right_by(alloc, row, asks, disk, &mut posts, &mut spawner, output);
+    drop(posts);
+    drop(spawner);
+    is_gone & is_so & is_well_formed(alloc, row, &NAMES)
 }
 
 /// The same, into a new output.
-fn is_right_on<G: Gate>(
-    alloc: Global,
-    row: &str,
-    is_slow: bool,
-    disk: &mut MemFs,
-    posts: &mut MemPosts,
-    spawner: &mut MemSpawner,
-    gate: &G,
-) -> bool {
+fn is_right_on(alloc: Global, row: &str, asks: u64, disk: &mut MemFs) -> bool {
     match MemSink::new(alloc, number(row, "room") as usize, Vec::new(alloc)) {
         Ok(mut output) => {
-            let is_so = is_right_into(alloc, row, is_slow, disk, posts, spawner, &mut output, gate);
+            let is_so = is_right_into(alloc, row, asks, disk, &mut output);
             drop(output);
             is_so
         }
@@ -206,19 +298,22 @@ fn is_right_on<G: Gate>(
     }
 }
 
+/// Whether all runs of a row do what it says, one after another over this disk.
+fn are_right_on(alloc: Global, row: &str, asks: u64, disk: &mut MemFs) -> bool {
+    for part in row.split("; then; ") {
+        if !is_right_on(alloc, part, asks, disk) {
+            return false;
+        }
+    }
+    true
+}
+
 /// The same, over a new disk.
-fn is_right_by<G: Gate>(
-    alloc: Global,
-    row: &str,
-    is_slow: bool,
-    posts: &mut MemPosts,
-    spawner: &mut MemSpawner,
-    gate: &G,
-) -> bool {
+fn are_right(alloc: Global, row: &str, asks: u64) -> bool {
     match MemFs::new(alloc, Vec::new(alloc), numbers(alloc, row, "disk_fails")) {
         Ok(mut disk) => {
-            fill(alloc, &mut disk, row);
-            let is_so = is_right_on(alloc, row, is_slow, &mut disk, posts, spawner, gate);
+            make_dirs(alloc, &mut disk, row);
+            let is_so = are_right_on(alloc, row, asks, &mut disk);
             drop(disk);
             is_so
         }
@@ -226,25 +321,11 @@ fn is_right_by<G: Gate>(
     }
 }
 
-/// Whether the command of a row does what the row says, with posts that bring one thing at a time or all at once.
-fn is_right<G: Gate>(alloc: Global, row: &str, is_slow: bool, gate: &G) -> bool {
-    let mut posts = posts_of(alloc, row);
-    let mut spawner = spawner_of(alloc, row);
-    let is_so = is_right_by(alloc, row, is_slow, &mut posts, &mut spawner, gate);
-    drop(posts);
-    drop(spawner);
-    is_so & is_well_formed(alloc, row, &NAMES)
-}
-
-/// The first row that goes otherwise, if there is one. A line that begins with `#` is a comment.
-pub fn first_wrong<G: Gate>(
-    alloc: Global,
-    rows: &'static str,
-    is_slow: bool,
-    gate: &G,
-) -> Option<&'static str> {
+/// The first row that goes otherwise, if there is one, with posts that bring nothing for so many asks before each thing. A line
+/// that begins with `#` is a comment.
+pub fn first_wrong(alloc: Global, rows: &'static str, asks: u64) -> Option<&'static str> {
     for row in rows.lines() {
-        if !row.starts_with('#') && !is_right(alloc, row, is_slow, gate) {
+        if !row.starts_with('#') && !are_right(alloc, row, asks) {
             return Some(row);
         }
     }

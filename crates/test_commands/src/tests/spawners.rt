@@ -1,7 +1,6 @@
 // The spawners, each over posts, children and a disk.
 
-use super::rows::first_wrong;
-use outside::OpenGate;
+use super::rows::{SLOW_ASKS, first_wrong};
 
 /// Of the remote spawner with the program `p`, which has the message `hi` in `mess/1/1`.
 const RSPAWN: &str = r#"# a delivery
@@ -27,9 +26,11 @@ run rspawn p; posts 0:%001/1%00a@x%00b@y%00 0:end; children 78/100/0; fails 1; r
 run rspawn p; posts 0:%001/1%00a@x%00b@y%00 0:end 1:Kok%00 1:end; children 78/100/0; fails 3; room 40; status 0; given x%00Zqmail-remote crashed.%0A%00; words p y a@x b@y; fed hi
 run rspawn p; posts 0:%001/1%00a@x%00b@y%00 0:end 1:Kok%00 1:end; children 78/1/0; room 40; status 0; given x%00Kok%00; words p y a@x b@y; fed h"#;
 
-/// What comes if the posts bring one thing at a time: of two deliveries the later one ends first.
-const SLOW: &str =
-    r#"run rspawn p; posts 0:%001/1%00a@x%00b@y%00 0:%011/1%00a@x%00c@z%00 1:r%00K 2:hno 0:end 2:%00Dnever%00 2:end 1:ok%00 1:end; children 78/100/0 78/100/0; room 40; status 0; given x%01Dnonever%00%00Kok%00; words p y a@x b@y; fed hi; words2 p z a@x c@z; fed2 hi"#;
+/// What comes if the posts bring one thing at a time.
+const SLOW: &str = r#"# of two deliveries the later one ends first
+run rspawn p; posts 0:%001/1%00a@x%00b@y%00 0:%011/1%00a@x%00c@z%00 1:r%00K 2:hno 0:end 2:%00Dnever%00 2:end 1:ok%00 1:end; children 78/100/0 78/100/0; room 40; status 0; given x%01Dnonever%00%00Kok%00; words p y a@x b@y; fed hi; words2 p z a@x c@z; fed2 hi
+# a spawner that waits pauses at each look that finds nothing to do: the posts bring nothing twelve times, once of them before its first byte is given
+run rspawn p; posts 0:end; room 1; status 0; given x; rests 11 66"#;
 
 /// Of the local spawner in the directory `d`, which has one user, `j`, whose home is `home/j n`.
 const LSPAWN: &str = r#"# a delivery
@@ -45,13 +46,13 @@ run lspawn d; posts 0:%051/1%00a%25@x%00j@h%00 1:did 1:failed 0:end; children 78
 
 #[test]
 fn remote_spawners_do_what_the_rows_say(rt: HostRuntime) {
-    assert_eq!(rt; first_wrong(rt.alloc(), RSPAWN, false, &OpenGate), None);
-    assert_eq!(rt; first_wrong(rt.alloc(), RSPAWN, true, &OpenGate), None);
-    assert_eq!(rt; first_wrong(rt.alloc(), SLOW, true, &OpenGate), None);
+    assert_eq!(rt; first_wrong(rt.alloc(), RSPAWN, 0), None);
+    assert_eq!(rt; first_wrong(rt.alloc(), RSPAWN, SLOW_ASKS), None);
+    assert_eq!(rt; first_wrong(rt.alloc(), SLOW, SLOW_ASKS), None);
 }
 
 #[test]
 fn local_spawners_do_what_the_rows_say(rt: HostRuntime) {
-    assert_eq!(rt; first_wrong(rt.alloc(), LSPAWN, false, &OpenGate), None);
-    assert_eq!(rt; first_wrong(rt.alloc(), LSPAWN, true, &OpenGate), None);
+    assert_eq!(rt; first_wrong(rt.alloc(), LSPAWN, 0), None);
+    assert_eq!(rt; first_wrong(rt.alloc(), LSPAWN, SLOW_ASKS), None);
 }

@@ -7,9 +7,8 @@ use host_streams::HostClock;
 use local_command::deliver;
 use mail_bytes::{ByteText, Memory};
 use outside::{Gate, MemSink, MemSource, Posts, Spawner};
-use proc_runner::{
-    ChildPosts, Children, DRAIN, HostSystem, Opener, RestingGate, Taker, read_own_input, share,
-};
+use proc_runner::{ChildPosts, Children, HostSystem, Opener, Taker, read_own_input, share};
+use resting_gates::{DRAIN, RestingGate};
 use spawn_command::spawn_remote;
 use std::alloc::Global;
 use std::fs;

@@ -1,7 +1,7 @@
 // Words of the command line, and what they are.
 
 use command_words::{
-    Command, LocalWords, Places, QueueWords, WordsError, channels, places, read_words,
+    Command, LocalWords, Places, QueueWords, SendWords, WordsError, channels, places, read_words,
 };
 use mail_bytes::{ByteText, Memory};
 use std::alloc::Global;
@@ -27,6 +27,9 @@ lspawn -- -DIR -> lspawn -DIR; - -DIR; InputAndChildren
 rspawn DIR p -> rspawn DIR p; - DIR; InputAndChildren
 rspawn -- -DIR -p -> rspawn -DIR -p; - -DIR; InputAndChildren
 rspawn DIR /usr/bin/deliver -> rspawn DIR /usr/bin/deliver; - DIR; InputAndChildren
+send DIR p --turns 5 -> send DIR p 5; - DIR; Links
+send --turns=1000000 DIR ./deliver -> send DIR ./deliver 1000000; - DIR; Links
+send --turns 1 -- -DIR p -> send -DIR p 1; - -DIR; Links
 local DIR =j =h =j = = =x =a =l -> local DIR =j =h =j = = =x =a =l 0; - DIR; Children
 local DIR =j =home/j =j = = =localhost =a@x =./Maildir/ -> local DIR =j =home/j =j = = =localhost =a@x =./Maildir/ 0; - DIR; Children
 local --uid 1000 DIR =j =/home/j =J-%3d =- =%3D =x =%20%0A =l -> local DIR =j =/home/j =J-= =- == =x = \n =l 1000; - DIR; Children
@@ -77,6 +80,18 @@ rspawn DIR ""
 rspawn DIR p more
 rspawn DIR p --uid 1
 rspawn --version DIR p
+send DIR p
+send DIR --turns 1
+send DIR "" --turns 1
+send DIR p more --turns 1
+send DIR p --turns
+send DIR p --turns 0
+send DIR p --turns 01
+send DIR p --turns +1
+send DIR p --turns 1000001
+send DIR p --turns 18446744073709551616
+send DIR p --turns 1 --turns 1
+send DIR p --turns 1 --help
 local DIR
 local DIR =j =h =j = = =x =a
 local DIR =j =h =j = = =x =a =l more
@@ -135,6 +150,16 @@ fn local_text(alloc: Global, told: &LocalWords) -> Result<String, Memory> {
     )
 }
 
+/// What `send` is told.
+fn send_text(alloc: Global, told: &SendWords) -> Result<String, Memory> {
+    let (dir, program) = (
+        told.dir.as_slice().escape_ascii(),
+        told.program.as_slice().escape_ascii(),
+    );
+    let turns = told.turns;
+    format!(in alloc; "send {dir} {program} {turns}")
+}
+
 /// A command with what it is told, or why words are none.
 fn text_of(alloc: Global, found: &Result<Command, WordsError>) -> Result<String, Memory> {
     match found {
@@ -145,6 +170,7 @@ fn text_of(alloc: Global, found: &Result<Command, WordsError>) -> Result<String,
         Ok(Command::Lspawn(dir)) => named(alloc, "lspawn", dir, b""),
         Ok(Command::Rspawn(told)) => named(alloc, "rspawn", &told.dir, told.program.as_slice()),
         Ok(Command::Local(told)) => local_text(alloc, told),
+        Ok(Command::Send(told)) => send_text(alloc, told),
         Err(why) => format!(in alloc; "{why}"),
     }
 }

@@ -1,35 +1,102 @@
-use Rattle.std.proofs.Common.{refl}
-use Rattle.mail_bytes.specs.Decimal.{digits, number_of, value}
+use Rattle.std.proofs.Common.{◌≡◌, ℕ, List, [], Option, Some, None, true, false, codes, option_and_then, option_map, refl, ap, arith, rules}
+use Rattle.std.proofs.lemmas.List.Elements.{All-from_recursion}
+use Rattle.mail_bytes.specs.Decimal.{IsDigit, digits, number_of, value}
+use Rattle.mail_bytes.proofs.Digits.{number_of_text}
+use Rattle.call_fs.specs.declared.past.DeliveryWordsData.{DeliveryWordsData}
 use Rattle.clap.proofs.OnLiterals.{clap_on_literals}
-use Rattle.command_words.specs.Delivery.{local_words}
-use Rattle.command_words.specs.Reads.{dir_words, command_of, play_words, queue_words, rspawn_words}
+use Rattle.command_words.specs.declared.command.Command.{Command}
+use Rattle.command_words.specs.declared.command.Command.TheVariants.{Queue, Send, Local}
+use Rattle.command_words.specs.Delivery.{local_told, local_words}
+use Rattle.command_words.specs.Numbers.{as_turns, as_u32}
+use Rattle.command_words.specs.Reads.{dir_words, command_of, play_words, queue_words, rspawn_words, send_words, sender_told, told}
 use Rattle.command_words.proofs.laws.words_by_row.Goals as goal
 
+-- Numbers that are written out. The digits of a large one aren't computed.
+
+zero_is : number_of (codes "0") ≡ Some 0
+unfolding number_of value digits
+zero_is = refl
+
+five_is : number_of (codes "5") ≡ Some 5
+unfolding number_of value digits
+five_is = refl
+
+seven_is : number_of (codes "7") ≡ Some 7
+unfolding number_of value digits
+seven_is = refl
+
+thousand_is : number_of (codes "1000") ≡ Some 1000
+unfolding number_of value digits
+thousand_is = refl
+
+none_is : number_of (codes "01") ≡ None
+unfolding number_of value digits
+none_is = refl
+
+most_is : number_of (codes "1000000") ≡ Some 1000000
+unfolding value
+most_is = number_of_text (codes "1000000") (record {
+  some = omega arith;
+  only = All-from_recursion IsDigit (codes "1000000") (search rules);
+  no_zero = λ e. absurd (omega arith);
+  fits = omega arith;
+})
+
+too_many_is : number_of (codes "1000001") ≡ Some 1000001
+unfolding value
+too_many_is = number_of_text (codes "1000001") (record {
+  some = omega arith;
+  only = All-from_recursion IsDigit (codes "1000001") (search rules);
+  no_zero = λ e. absurd (omega arith);
+  fits = omega arith;
+})
+
 pub returns : goal.returns
-unfolding command_of play_words queue_words dir_words rspawn_words local_words clap_on_literals number_of value digits
-returns c = record {
-  play = refl;
-  queue = refl;
-  file = refl;
-  options = refl;
-  audit = refl;
-  audit_no_directory = refl;
-  audit_extra = refl;
-  clean = refl;
-  clean_no_directory = refl;
-  lspawn = refl;
-  rspawn = refl;
-  no_program = refl;
-  empty_program = refl;
-  local = refl;
-  unmarked = refl;
-  bad_escape = refl;
-  help = refl;
-  version = refl;
-  no_directory = refl;
-  extra = refl;
-  zero = refl;
-  twice = refl;
-  unknown = refl;
-  nothing = refl;
-}
+unfolding command_of play_words queue_words dir_words rspawn_words send_words local_words clap_on_literals
+returns c =
+    let sender : List ℕ → Option ℕ → Option Command = λ program number. option_map Send (sender_told (Some (record { dir = codes "DIR"; program = program })) (option_and_then as_turns number)) in
+    let queue : Option ℕ → Option Command = λ number. option_map Queue (told (Some (codes "-")) (Some (codes "DIR")) (option_and_then as_u32 number) false) in
+    let bounce : Option ℕ → Option Command = λ number. option_map Queue (told (Some (codes "-")) (Some (codes "DIR")) (option_and_then as_u32 number) true) in
+    let delivery : DeliveryWordsData = record {
+      user = codes "j";
+      home = codes "home/j";
+      local = codes "j";
+      dash = [];
+      ext = [];
+      domain = codes "x";
+      sender = codes "a@x";
+      line = codes "./Maildir/";
+    } in
+    let local : Option ℕ → Option Command = λ number. option_map Local (local_told (Some (codes "DIR")) (Some delivery) (option_and_then as_u32 number)) in
+    record {
+      play = refl;
+      queue = refl;
+      file = refl;
+      options = ap bounce seven_is;
+      send = ap (sender (codes "PROGRAM")) five_is;
+      turns_first = ap (sender (codes "-p")) most_is;
+      no_turns = refl;
+      zero_turns = ap (sender (codes "PROGRAM")) zero_is;
+      too_many_turns = ap (sender (codes "PROGRAM")) too_many_is;
+      send_no_program = refl;
+      audit = refl;
+      audit_no_directory = refl;
+      audit_extra = refl;
+      clean = refl;
+      clean_no_directory = refl;
+      lspawn = refl;
+      rspawn = refl;
+      no_program = refl;
+      empty_program = refl;
+      local = ap local thousand_is;
+      unmarked = refl;
+      bad_escape = refl;
+      help = refl;
+      version = refl;
+      no_directory = refl;
+      extra = refl;
+      zero = ap queue none_is;
+      twice = refl;
+      unknown = refl;
+      nothing = refl;
+    }

@@ -3,7 +3,7 @@ use Rattle.std.specs.String.{string_bytes}
 use Rattle.std.specs.Option.{option_copied}
 use Rattle.std.proofs.lemmas.Result.{IfOk-weaker}
 use Rattle.std.specs.Option.{option_map}
-use Rattle.command_words.specs.declared.command.Command.TheVariants.{Audit, Clean, Lspawn, Rspawn, Local}
+use Rattle.command_words.specs.declared.command.Command.TheVariants.{Send, Audit, Clean, Lspawn, Rspawn, Local}
 use Rattle.command_words.specs.Reads.{dir_words}
 use Rattle.command_words.proofs.Commands.{named, named_word, names_none}
 use Rattle.command_words.proofs.read.read_words.Goals as goal
@@ -31,39 +31,49 @@ returns-in-queue-clause-usage c =
     let queue = named_word _ c.in-Some.name.now _ (codes "queue") (sym c.first.ensures.value ∙ ap option_copied c.in-Some.is) c.as_str.ensures.value c.in-queue.is in
     λ usage. queue ∙ c.read_queue.ensures.usage usage
 
-pub returns-in_default-as_str-clause-usage : goal.returns-in_default-as_str-clause-usage
-returns-in_default-as_str-clause-usage c =
-    λ usage. names_none _ c.in-Some.name.now _ (sym c.first.ensures.value ∙ ap option_copied c.in-Some.is) c.as_str.ensures.value c.in_default-as_str.not-play c.in_default-as_str.not-queue c.in_default-as_str.not-audit c.in_default-as_str.not-clean c.in_default-as_str.not-lspawn c.in_default-as_str.not-rspawn c.in_default-as_str.not-local
-
 pub returns-in-Ok-clause-ok : goal.returns-in-Ok-clause-ok
 returns-in-Ok-clause-ok c =
-    let audit = named_word _ c.in-Some.name.now _ (codes "audit") (sym c.first.ensures.value ∙ ap option_copied c.in-Some.is) c.as_str.ensures.value c.in-audit.is in
-    audit ∙ ap (option_map Audit) (ap (λ l. dir_words l (map string_bytes c.args.words.now)) (sym c.in_ok-audit_line-in-audit.ensures) ∙ c.in-Ok.ensures.ok)
+    let send = named_word _ c.in-Some.name.now _ (codes "send") (sym c.first.ensures.value ∙ ap option_copied c.in-Some.is) c.as_str.ensures.value c.in-send.is in
+    send ∙ ap (option_map Send) c.in-Ok.ensures.ok
 
 pub returns-in-Err-clause-usage : goal.returns-in-Err-clause-usage
 returns-in-Err-clause-usage c =
-    let audit = named_word _ c.in-Some.name.now _ (codes "audit") (sym c.first.ensures.value ∙ ap option_copied c.in-Some.is) c.as_str.ensures.value c.in-audit.is in
-    λ is. audit ∙ ap (option_map Audit) (ap (λ l. dir_words l (map string_bytes c.args.words.now)) (sym c.in_ok-audit_line-in-audit.ensures) ∙ c.in-Err.ensures.usage (cc))
+    let send = named_word _ c.in-Some.name.now _ (codes "send") (sym c.first.ensures.value ∙ ap option_copied c.in-Some.is) c.as_str.ensures.value c.in-send.is in
+    λ is. send ∙ ap (option_map Send) (c.in-Err.ensures.usage (cc))
+
+pub returns-in_default-as_str-clause-usage : goal.returns-in_default-as_str-clause-usage
+returns-in_default-as_str-clause-usage c =
+    λ usage. names_none _ c.in-Some.name.now _ (sym c.first.ensures.value ∙ ap option_copied c.in-Some.is) c.as_str.ensures.value c.in_default-as_str.not-play c.in_default-as_str.not-queue c.in_default-as_str.not-send c.in_default-as_str.not-audit c.in_default-as_str.not-clean c.in_default-as_str.not-lspawn c.in_default-as_str.not-rspawn c.in_default-as_str.not-local
 
 pub returns-in-Ok-read_dir-clause-ok : goal.returns-in-Ok-read_dir-clause-ok
 returns-in-Ok-read_dir-clause-ok c =
-    let clean = named_word _ c.in-Some.name.now _ (codes "clean") (sym c.first.ensures.value ∙ ap option_copied c.in-Some.is) c.as_str.ensures.value c.in-clean.is in
-    clean ∙ ap (option_map Clean) (ap (λ l. dir_words l (map string_bytes c.args.words.now)) (sym c.in_ok-clean_line-in-clean.ensures) ∙ c.in-Ok-read_dir.ensures.ok)
+    let audit = named_word _ c.in-Some.name.now _ (codes "audit") (sym c.first.ensures.value ∙ ap option_copied c.in-Some.is) c.as_str.ensures.value c.in-audit.is in
+    audit ∙ ap (option_map Audit) (ap (λ l. dir_words l (map string_bytes c.args.words.now)) (sym c.in_ok-audit_line-in-audit.ensures) ∙ c.in-Ok-read_dir.ensures.ok)
 
 pub returns-in-Err-read_dir-clause-usage : goal.returns-in-Err-read_dir-clause-usage
 returns-in-Err-read_dir-clause-usage c =
-    let clean = named_word _ c.in-Some.name.now _ (codes "clean") (sym c.first.ensures.value ∙ ap option_copied c.in-Some.is) c.as_str.ensures.value c.in-clean.is in
-    λ is. clean ∙ ap (option_map Clean) (ap (λ l. dir_words l (map string_bytes c.args.words.now)) (sym c.in_ok-clean_line-in-clean.ensures) ∙ c.in-Err-read_dir.ensures.usage (cc))
+    let audit = named_word _ c.in-Some.name.now _ (codes "audit") (sym c.first.ensures.value ∙ ap option_copied c.in-Some.is) c.as_str.ensures.value c.in-audit.is in
+    λ is. audit ∙ ap (option_map Audit) (ap (λ l. dir_words l (map string_bytes c.args.words.now)) (sym c.in_ok-audit_line-in-audit.ensures) ∙ c.in-Err-read_dir.ensures.usage (cc))
 
 pub returns-in-Ok-read_dir-2-clause-ok : goal.returns-in-Ok-read_dir-2-clause-ok
 returns-in-Ok-read_dir-2-clause-ok c =
-    let lspawn = named_word _ c.in-Some.name.now _ (codes "lspawn") (sym c.first.ensures.value ∙ ap option_copied c.in-Some.is) c.as_str.ensures.value c.in-lspawn.is in
-    lspawn ∙ ap (option_map Lspawn) (ap (λ l. dir_words l (map string_bytes c.args.words.now)) (sym c.in_ok-lspawn_line-in-lspawn.ensures) ∙ c.in-Ok-read_dir-2.ensures.ok)
+    let clean = named_word _ c.in-Some.name.now _ (codes "clean") (sym c.first.ensures.value ∙ ap option_copied c.in-Some.is) c.as_str.ensures.value c.in-clean.is in
+    clean ∙ ap (option_map Clean) (ap (λ l. dir_words l (map string_bytes c.args.words.now)) (sym c.in_ok-clean_line-in-clean.ensures) ∙ c.in-Ok-read_dir-2.ensures.ok)
 
 pub returns-in-Err-read_dir-2-clause-usage : goal.returns-in-Err-read_dir-2-clause-usage
 returns-in-Err-read_dir-2-clause-usage c =
+    let clean = named_word _ c.in-Some.name.now _ (codes "clean") (sym c.first.ensures.value ∙ ap option_copied c.in-Some.is) c.as_str.ensures.value c.in-clean.is in
+    λ is. clean ∙ ap (option_map Clean) (ap (λ l. dir_words l (map string_bytes c.args.words.now)) (sym c.in_ok-clean_line-in-clean.ensures) ∙ c.in-Err-read_dir-2.ensures.usage (cc))
+
+pub returns-in-Ok-read_dir-3-clause-ok : goal.returns-in-Ok-read_dir-3-clause-ok
+returns-in-Ok-read_dir-3-clause-ok c =
     let lspawn = named_word _ c.in-Some.name.now _ (codes "lspawn") (sym c.first.ensures.value ∙ ap option_copied c.in-Some.is) c.as_str.ensures.value c.in-lspawn.is in
-    λ is. lspawn ∙ ap (option_map Lspawn) (ap (λ l. dir_words l (map string_bytes c.args.words.now)) (sym c.in_ok-lspawn_line-in-lspawn.ensures) ∙ c.in-Err-read_dir-2.ensures.usage (cc))
+    lspawn ∙ ap (option_map Lspawn) (ap (λ l. dir_words l (map string_bytes c.args.words.now)) (sym c.in_ok-lspawn_line-in-lspawn.ensures) ∙ c.in-Ok-read_dir-3.ensures.ok)
+
+pub returns-in-Err-read_dir-3-clause-usage : goal.returns-in-Err-read_dir-3-clause-usage
+returns-in-Err-read_dir-3-clause-usage c =
+    let lspawn = named_word _ c.in-Some.name.now _ (codes "lspawn") (sym c.first.ensures.value ∙ ap option_copied c.in-Some.is) c.as_str.ensures.value c.in-lspawn.is in
+    λ is. lspawn ∙ ap (option_map Lspawn) (ap (λ l. dir_words l (map string_bytes c.args.words.now)) (sym c.in_ok-lspawn_line-in-lspawn.ensures) ∙ c.in-Err-read_dir-3.ensures.usage (cc))
 
 pub returns-in-Ok-read_rspawn-clause-ok : goal.returns-in-Ok-read_rspawn-clause-ok
 returns-in-Ok-read_rspawn-clause-ok c =

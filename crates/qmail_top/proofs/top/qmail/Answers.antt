@@ -2,8 +2,9 @@ use Rattle.std.proofs.Common.{inl, inr, refl}
 use Rattle.scenario.proofs.TakenLines.{line_taken}
 use Rattle.audit_command.proofs.Audits.{nothing_done}
 use Rattle.qmail_top.specs.Command.{usage_line}
-use Rattle.qmail_top.proofs.Families.{delivery_from, lspawned_from, one_local, one_lspawn, one_rspawn, rspawned_from}
+use Rattle.qmail_top.proofs.Families.{delivery_from, lspawned_from, one_local, one_lspawn, one_rspawn, one_send, rspawned_from, sent_from}
 use Rattle.qmail_top.proofs.Injections.{ends_otherwise}
+use Rattle.qmail_top.proofs.Senders.{sent_otherwise}
 use Rattle.qmail_top.proofs.Spawners.{ended_otherwise, locally_otherwise, spawned_otherwise}
 use Rattle.qmail_top.proofs.top.qmail.Goals as goal
 
@@ -60,3 +61,16 @@ returns-in-Ok-Rspawn-clause-rspawn g c = λ told is.
 pub returns-in-Ok-Local-clause-local : goal.returns-in-Ok-Local-clause-local
 returns-in-Ok-Local-clause-local g c = λ told is.
     delivery_from told c.in-Ok-Local.told _ _ _ _ _ _ (one_local _ _ _ (rw c.in-Ok-Local.field-0-is at c.in-Ok-Local.ensures.ok) is) c.deliver_message.ensures
+
+pub returns-clause-send : goal.returns-clause-send
+returns-clause-send g c = λ told is. inr ((refl, refl, refl), refl)
+
+pub returns-in-Ok-Send-clause-usage : goal.returns-in-Ok-Send-clause-usage
+returns-in-Ok-Send-clause-usage g c = λ is. absurd (sent_otherwise _ _ _ _ _ _ _ _ _ _ c.be_sender.ensures.1 is)
+
+pub returns-in-Ok-Send-clause-send : goal.returns-in-Ok-Send-clause-send
+returns-in-Ok-Send-clause-send g c = λ told is.
+    sent_from told c.in-Ok-Send.told _ _ _ _ _ _ _ (one_send _ _ _ (rw c.in-Ok-Send.field-0-is at c.in-Ok-Send.ensures.ok) is) c.be_sender.ensures
+
+pub returns-in-Ok-Send-clause-unlogged : goal.returns-in-Ok-Send-clause-unlogged
+returns-in-Ok-Send-clause-unlogged g c = λ other is. absurd (other (c.in-Ok-Send.told, rw c.in-Ok-Send.field-0-is at c.in-Ok-Send.ensures.ok))

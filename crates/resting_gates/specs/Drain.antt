@@ -1,7 +1,7 @@
 -- How long a child may run after its input ended.
 use Rattle.std.specs.Prelude.{ℕ, List, Option, None, Some, nat_le, if◌then◌else◌}
 use Rattle.mail_bytes.specs.Decimal.{number_of}
-use Rattle.proc_runner.specs.declared.drain.TheConstants.{DRAIN, LONGEST_DRAIN}
+use Rattle.resting_gates.specs.declared.drain.TheConstants.{DRAIN, LONGEST_DRAIN}
 
 -- a number of milliseconds that isn't past a day
 abbrev pub within_a_day : Option ℕ → Option ℕ

@@ -2,9 +2,10 @@
 ghost use Rattle.std.specs.Prelude.{◌≡◌};
 ghost use Rattle.std.specs.Arc.{arc_value};
 
-use crate::shared::Shared;
 use outside::Gate;
-use std::sync::Wait;
+use piece_queue::PieceQueue;
+use std::alloc::Global;
+use std::sync::{Arc, Wait};
 use std::time::Duration;
 
 /// The longest rest, in milliseconds: a program that reads the clock, or looks into a directory, does so at least so often.
@@ -18,12 +19,12 @@ const SHORTEST: u64 = 10;
 #[derive(Drop)]
 pub struct RestingGate<R: Wait + Drop> {
     rt: R,
-    queue: Shared,
+    queue: Arc<PieceQueue, Global>,
 }
 
 impl<R: Wait + Drop> RestingGate<R> {
     /// A gate that rests on this queue.
-    pub fn new(rt: R, queue: Shared) -> Self
+    pub fn new(rt: R, queue: Arc<PieceQueue, Global>) -> Self
         ensures { arc_value result.queue ≡ arc_value queue }
     {
         RestingGate { rt, queue }
@@ -40,7 +41,7 @@ impl<R: Wait + Drop> Gate for RestingGate<R> {
 }
 
 /// The limit of the k-th rest in a row, in milliseconds.
-fn limit(step: u64) -> u64 {
+pub(crate) fn limit(step: u64) -> u64 {
     let mut limit = SHORTEST;
     for _ in 1..step.min(8) {
         limit = limit.saturating_mul(2);

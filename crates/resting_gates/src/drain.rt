@@ -1,7 +1,7 @@
 // How long a child may run after its input ended.
 ghost use Rattle.std.specs.Prelude.{◌≡◌};
 ghost use Rattle.std.specs.Option.{option_map};
-ghost use Rattle.proc_runner.specs.Drain.{drain_of};
+ghost use Rattle.resting_gates.specs.Drain.{drain_of};
 
 use mail_bytes::undec;
 

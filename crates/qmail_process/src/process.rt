@@ -1,0 +1,277 @@
+// A command over the real things.
+
+use call_fs::CallFs;
+use command_words::{Channels, Member, channels, member, places};
+use host_fs::HostFs;
+use host_streams::{
+    HostClock, LateFile, MemberLock, ReaderSource, WriterSink, lock_member, lock_sender,
+    unread_words,
+};
+use mail_bytes::Memory;
+use mem_fs::MemFs;
+use outside::{Gate, MemPosts, MemSpawner, OpenGate, Posts, Source, Spawner};
+use proc_runner::{ChildPosts, Children, HostSystem, read_own_input, share};
+use queue_limits::NO_START;
+use resting_gates::{RestingGate, SendingGate, drain_limit, idle_limit};
+use std::alloc::{AllocError, Global};
+use std::env::{self, VarError};
+use std::process::{self, OpenProcess, Processes};
+use std::sync::Wait;
+use std::thread::Threads;
+use std::time::Clock;
+use top_call::TopCall;
+
+/// The environment variable that tells how long a child may run after its input ended, in milliseconds.
+const DRAIN: &str = "QMAIL_DRAIN_MS";
+
+/// The one that tells how long a sender rests after an idle turn, in milliseconds.
+const IDLE: &str = "QMAIL_IDLE_MS";
+
+/// For how many pieces of what channels bring there is room.
+const ROOM: usize = 64;
+
+/// The same for a sender: for the reports of all deliveries in flight, 240 of up to three pieces each, and for all ends, so that no
+/// reader waits for room once the sender takes no more.
+const SENDERS_ROOM: usize = 1024;
+
+/// What the environment tells, in milliseconds.
+#[derive(Clone, Copy)]
+struct Limits {
+    /// How long a child may run after its input ended.
+    drain: u64,
+    /// How long a sender rests after an idle turn.
+    idle: u64,
+}
+
+/// Makes the call with these words, with children if their command has them, and answers the exit status; `handle` is that of the
+/// program. The error: out of memory before the call.
+pub fn run<C: TopCall, R: Threads + Wait + Processes + Clock + Copy + Send + Sync + Drop + 'static>(
+    call: &C,
+    rt: &HostRuntime,
+    handle: R,
+    alloc: Global,
+    words: &[String],
+) -> Result<u8, Memory>
+where
+    R::Started: Drop + Send + 'static,
+    <R::Started as OpenProcess>::Stdin: Send + 'static,
+    <R::Started as OpenProcess>::Stdout: Send + 'static,
+    <R::Started as OpenProcess>::Stderr: Send + 'static,
+{
+    let channels = channels(alloc, words)?;
+    let Some(limits) = told_limits(rt, channels)? else {
+        return run_alone(call, rt, alloc, &[]);
+    };
+    let Some(_lock) = lock(rt, alloc, words)? else {
+        return Ok(NO_START);
+    };
+    match channels {
+        Channels::Nothing => run_alone(call, rt, alloc, words),
+        _ => run_parent(call, rt, handle, alloc, words, channels, limits),
+    }
+}
+
+/// The words after the program's name. If one isn't UTF-8 there are none, which is no command; `Err` if memory runs out.
+pub fn words_of(rt: &HostRuntime, alloc: Global) -> Result<Vec<String>, Memory> {
+    match env::args(rt) {
+        Ok(words) => words.skip(1).collect(alloc),
+        Err(why) => unread_words(alloc, why.kind()),
+    }
+}
+
+/// What the environment tells a command with these channels, as far as it concerns it: that with children how long they may
+/// run, and a sender also how long it rests. None if it tells no number that this can be; the words are no command then.
+fn told_limits(rt: &HostRuntime, channels: Channels) -> Result<Option<Limits>, Memory> {
+    let mut limits = Limits { drain: 0, idle: 0 };
+    if channels != Channels::Nothing {
+        match drain(rt)? {
+            Some(drain) => limits.drain = drain,
+            None => return Ok(None),
+        }
+    }
+    if channels == Channels::Links {
+        match idle(rt)? {
+            Some(idle) => limits.idle = idle,
+            None => return Ok(None),
+        }
+    }
+    Ok(Some(limits))
+}
+
+/// How long a child may run after its input ended, in milliseconds; None if the environment tells no number that this can be.
+fn drain(rt: &HostRuntime) -> Result<Option<u64>, Memory> {
+    match env::var(rt, DRAIN) {
+        Ok(told) => Ok(drain_limit(Some(told.as_bytes()))),
+        Err(VarError::NotPresent) => Ok(drain_limit(None)),
+        Err(VarError::NotUnicode) => Ok(None),
+        Err(VarError::OutOfMemory) => Err(AllocError),
+    }
+}
+
+/// How long a sender rests after an idle turn, in milliseconds; None if the environment tells no number that this can be.
+fn idle(rt: &HostRuntime) -> Result<Option<u64>, Memory> {
+    match env::var(rt, IDLE) {
+        Ok(told) => Ok(idle_limit(Some(told.as_bytes()))),
+        Err(VarError::NotPresent) => Ok(idle_limit(None)),
+        Err(VarError::NotUnicode) => Ok(None),
+        Err(VarError::OutOfMemory) => Err(AllocError),
+    }
+}
+
+/// The lock of the member that a command with these words is, if it is one; None if it is a sender and there is another one. It
+/// waits for the members of an earlier generation.
+fn lock(rt: &HostRuntime, alloc: Global, words: &[String]) -> Result<Option<MemberLock>, Memory> {
+    let places = places(alloc, words)?;
+    let (Some(kind), Some(dir)) = (member(alloc, words)?, places.dir) else {
+        return Ok(Some(MemberLock::none()));
+    };
+    let dir = dir.as_slice();
+    Ok(match kind {
+        Member::Send => lock_sender(rt, alloc, dir)?,
+        Member::Clean => Some(lock_member(rt, alloc, dir, b"clean")?),
+        Member::Lspawn => Some(lock_member(rt, alloc, dir, b"lspawn")?),
+        Member::Rspawn => Some(lock_member(rt, alloc, dir, b"rspawn")?),
+    })
+}
+
+/// Makes the call with these words of a command that has no children.
+fn run_alone<C: TopCall>(
+    call: &C,
+    rt: &HostRuntime,
+    alloc: Global,
+    words: &[String],
+) -> Result<u8, Memory> {
+    run_over(
+        call,
+        rt,
+        alloc,
+        words,
+        &mut MemPosts::new(Vec::new(alloc)),
+        &mut MemSpawner::new(alloc, Vec::new(alloc), Vec::new(alloc)),
+        &OpenGate,
+    )
+}
+
+/// Makes the call with these words of a command that has these channels.
+fn run_parent<
+    C: TopCall,
+    R: Threads + Wait + Processes + Clock + Copy + Send + Sync + Drop + 'static,
+>(
+    call: &C,
+    rt: &HostRuntime,
+    handle: R,
+    alloc: Global,
+    words: &[String],
+    channels: Channels,
+    limits: Limits,
+) -> Result<u8, Memory>
+where
+    R::Started: Drop + Send + 'static,
+    <R::Started as OpenProcess>::Stdin: Send + 'static,
+    <R::Started as OpenProcess>::Stdout: Send + 'static,
+    <R::Started as OpenProcess>::Stderr: Send + 'static,
+{
+    let (mut opener, taker) = share(alloc, room_of(channels))?;
+    let own = opener.open()?;
+    let queue = opener.queue()?;
+    let mut posts = ChildPosts::new(handle, taker);
+    let system = HostSystem::new(handle, process::id(rt.process()));
+    let mut children = Children::new(handle, alloc, system, opener, limits.drain)?;
+    if let (Channels::InputAndChildren, Some(own)) = (channels, own) {
+        read_own_input(handle, alloc, own, rt.stdin())?;
+    }
+    match channels {
+        Channels::Links => {
+            let gate = SendingGate::new(handle, queue, limits.idle, limits.drain);
+            run_over(call, rt, alloc, words, &mut posts, &mut children, &gate)
+        }
+        _ => {
+            let gate = RestingGate::new(handle, queue);
+            run_over(call, rt, alloc, words, &mut posts, &mut children, &gate)
+        }
+    }
+}
+
+/// For how many pieces there is room in a command with these channels.
+fn room_of(channels: Channels) -> usize {
+    match channels {
+        Channels::Links => SENDERS_ROOM,
+        _ => ROOM,
+    }
+}
+
+/// Makes the call with these words over standard input and over the places that they name.
+fn run_over<C: TopCall, P: Posts, S: Spawner, G: Gate>(
+    call: &C,
+    rt: &HostRuntime,
+    alloc: Global,
+    words: &[String],
+    posts: &mut P,
+    spawn: &mut S,
+    gate: &G,
+) -> Result<u8, Memory> {
+    let places = places(alloc, words)?;
+    let mut message = ReaderSource::new(rt.stdin());
+    let mut envelope = ReaderSource::new(LateFile::new(rt, places.env));
+    Ok(match places.dir {
+        Some(dir) => {
+            let mut disk = HostFs::open(rt, alloc, dir.as_slice())?;
+            run_on(
+                call,
+                rt,
+                alloc,
+                words,
+                &mut disk,
+                &mut message,
+                &mut envelope,
+                posts,
+                spawn,
+                gate,
+            )
+        }
+        None => {
+            let mut disk = MemFs::new(alloc, Vec::new(alloc), Vec::new(alloc))?;
+            run_on(
+                call,
+                rt,
+                alloc,
+                words,
+                &mut disk,
+                &mut message,
+                &mut envelope,
+                posts,
+                spawn,
+                gate,
+            )
+        }
+    })
+}
+
+/// Makes the call over this disk.
+fn run_on<C: TopCall, D: CallFs, M: Source, E: Source, P: Posts, S: Spawner, G: Gate>(
+    call: &C,
+    rt: &HostRuntime,
+    alloc: Global,
+    words: &[String],
+    disk: &mut D,
+    message: &mut M,
+    envelope: &mut E,
+    posts: &mut P,
+    spawn: &mut S,
+    gate: &G,
+) -> u8 {
+    call.call(
+        rt,
+        alloc,
+        words,
+        disk,
+        message,
+        envelope,
+        &mut WriterSink::new(rt.stdout()),
+        &mut WriterSink::new(rt.stderr()),
+        &mut HostClock::new(rt),
+        posts,
+        spawn,
+        gate,
+    )
+}

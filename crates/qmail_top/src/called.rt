@@ -1,0 +1,43 @@
+// The one public call, for what lends it the real things.
+
+use crate::top::qmail;
+use call_fs::CallFs;
+use outside::{Clock, Gate, Posts, Sink, Source, Spawner};
+use std::alloc::Global;
+use top_call::TopCall;
+
+/// The call `qmail`.
+#[derive(Clone, Copy)]
+pub struct Qmail;
+
+impl TopCall for Qmail {
+    fn call<
+        D: CallFs,
+        M: Source,
+        E: Source,
+        O: Sink,
+        L: Sink,
+        K: Clock,
+        P: Posts,
+        S: Spawner,
+        G: Gate,
+    >(
+        &self,
+        rt: &HostRuntime,
+        alloc: Global,
+        words: &[String],
+        disk: &mut D,
+        message: &mut M,
+        envelope: &mut E,
+        out: &mut O,
+        log: &mut L,
+        clock: &mut K,
+        posts: &mut P,
+        spawn: &mut S,
+        gate: &G,
+    ) -> u8 {
+        qmail(
+            rt, alloc, words, disk, message, envelope, out, log, clock, posts, spawn, gate,
+        )
+    }
+}

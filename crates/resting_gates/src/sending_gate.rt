@@ -1,0 +1,67 @@
+// Where a sender rests.
+ghost use Rattle.std.specs.Prelude.{◌≡◌};
+ghost use Rattle.std.specs.Arc.{arc_value};
+
+use crate::resting::limit;
+use outside::Gate;
+use piece_queue::PieceQueue;
+use std::alloc::Global;
+use std::cell::Cell;
+use std::sync::{Arc, Wait};
+use std::time::Duration;
+
+/// As what a sender pauses that waits for an answer of its links or children.
+const AT_WAITS: u64 = 0;
+
+/// As what it pauses after a turn in which it found nothing to do.
+const AT_IDLE_TURNS: u64 = 1;
+
+/// The gate of a sender. Each pause sleeps until a piece is pushed, or a limit is over:
+///
+/// - `pause(0, k)`, before the k-th look in a row that found nothing to do: 10 milliseconds, doubled up to a second
+/// - `pause(1, k)`, after the k-th idle turn in a row: what the environment tells for that
+/// - any other, before the turn that is the k-th from the last, with deliveries in flight: its share of what is left of the
+///   time that children have to end, so that all these pauses together are no longer than that
+#[derive(Drop)]
+pub struct SendingGate<R: Wait + Drop> {
+    rt: R,
+    queue: Arc<PieceQueue, Global>,
+    idle: u64,
+    left: Cell<u64>,
+}
+
+impl<R: Wait + Drop> SendingGate<R> {
+    /// A gate that rests on this queue: so many milliseconds after an idle turn, and so many in all before the last turns.
+    pub fn new(rt: R, queue: Arc<PieceQueue, Global>, idle: u64, drain: u64) -> Self
+        ensures queue { arc_value result.queue ≡ arc_value queue }
+        ensures idle { result.idle ≡ idle }
+    {
+        SendingGate {
+            rt,
+            queue,
+            idle,
+            left: Cell::new(drain),
+        }
+    }
+
+    /// The share of one of so many turns, the last ones, of what is left of the time; it is taken off.
+    fn share(&self, turns: u64) -> u64 {
+        let left = self.left.get();
+        let share = left / turns.max(1);
+        self.left.set(left.saturating_sub(share));
+        share
+    }
+}
+
+impl<R: Wait + Drop> Gate for SendingGate<R> {
+    fn pause(&self, mail: u64, step: u64) {
+        let most = match mail {
+            AT_WAITS => limit(step),
+            AT_IDLE_TURNS => self.idle,
+            _ => self.share(step),
+        };
+        if most > 0 {
+            self.queue.rest(&self.rt, Duration::from_millis(most));
+        }
+    }
+}

@@ -1,0 +1,2 @@
+-- texts that are given in pieces
+pub mod Pieces
