@@ -9,7 +9,7 @@
 # message's sender, and the queue must have nothing but what killed injections left (S2, S3 and pid names). In each copy each
 # recipient of what was accepted by then is delivered, named in a bounce, or pending, and no number is in another state than S1
 # to S5. Prints how many deliveries were made twice. Exit status 1 if something is lost. The program is ./qmail, or $QMAIL. In Debian
-# mkfs.xfs is in xfsprogs. Ends by itself.
+# mkfs.xfs is in xfsprogs. Waits for the queue to run empty, at most half an hour for each file system.
 set -u
 count=${1:-200}
 kills=${2:-40}
@@ -175,6 +175,7 @@ check_end() { # after the storm
   check "recipients that got nothing, and are in no bounce to the sender" "$(comm -23 wanted once | wc -l)" 0
   comm -23 wanted once | head -n 5
   check "numbers in another state" "$("$program" audit "$queue" | grep -c other)" 0
+  check "messages that are left" "$("$program" audit "$queue" | grep -c 'S[45]')" 0
   echo "deliveries: $(grep -c '^to' all), of which made again: $(($(grep -c '^to' all) - $(grep -c '^to' once)))"
   echo "senders: $(wc -l < senders)"
 }
@@ -192,7 +193,7 @@ check_copy() { # K
 idle() { ! "$program" audit "$queue" 2> noise | grep -q 'S[45]'; }
 
 storm() { # kills while four shells inject, and then calm
-  local shells= k
+  local shells='' k
   fresh_queue
   supervise 2> noise &
   supervisor=$!
@@ -208,7 +209,7 @@ storm() { # kills while four shells inject, and then calm
   wait $shells
   : > calm
   kill_all
-  for _ in $(seq 600); do
+  for _ in $(seq 3600); do
     idle && break
     sleep 0.5
   done
