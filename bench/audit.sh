@@ -4,7 +4,7 @@
 # number's seven files, and names that the queue doesn't write. Checks that `qmail audit` prints of each what ls and awk
 # see, that all files are as before, that no file is opened (with strace(1)), and the exit statuses
 # of a directory that is missing and of an output that can't be written. Prints how long the audits took. Exit status 1 if
-# something differs.
+# something differs. In Debian: the package strace.
 set -eu
 count=${1:-100}
 top=$(cd "$(dirname "$0")/.." && pwd)

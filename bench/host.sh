@@ -7,7 +7,7 @@
 # processes of the sender each mail is there. By root or not.
 #
 # Exit status 1 if something differs or a program is missing: in Debian the packages mailfront, ipsvd, msmtp, mutt, postfix (of which it
-# runs smtp-sink alone), python3 and make, and acl by root. The program is ./qmail, which `make build` leaves, or $QMAIL. Ends by
+# runs smtp-sink alone), python3, procps and make, and acl by root. The program is ./qmail, which `make build` leaves, or $QMAIL. Ends by
 # itself within six minutes.
 set -u
 top=$(cd "$(dirname "$0")/.." && pwd)

@@ -2,7 +2,7 @@
 # bench/idle.sh [N]: a queue of N messages (10,000) whose one recipient is deferred. A new sender over it: how long until its first
 # line, how long until it has tried all, its memory, and what it and its children take of a processor in 20 seconds after that. Exit
 # status 1 if the first is over 5 seconds or the last over 1 percent. The program is ./qmail, or $QMAIL: one with proofs, since
-# others are slower.
+# others are slower. In Debian: the package procps.
 set -u
 count=${1:-10000}
 top=$(cd "$(dirname "$0")/.." && pwd)

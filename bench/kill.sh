@@ -3,7 +3,8 @@
 # at a random moment, unless it is done by then. If strace is there, then one more for each call of an injection, which
 # is killed just as it makes that call. Checks that each number left is in S2, S3 or S4, that each message file has its
 # inode number as its name, and that each process that ended with 0 has its message in S4, whole and with its recipient.
-# Exit status 1 if not. A name in pid/ may be left too: of a process that was killed before it removed it.
+# Exit status 1 if not. A name in pid/ may be left too: of a process that was killed before it removed it. In Debian: the package
+# strace.
 set -eu
 count=${1:-200}
 top=$(cd "$(dirname "$0")/.." && pwd)

@@ -1,10 +1,10 @@
 #!/usr/bin/env bash
 # bench/powercut.sh [N [M]]: what a power cut leaves of a queue, on ext4, xfs and btrfs as they are mounted by default. The
-# image of a file system is copied, which is what its device was given by then, and the copy is mounted anew. First N
+# image of a file system is copied, which is what its device was given by then (bench/images.sh), and the copy is mounted anew. First N
 # injections of one message each (20 if not told): a copy right after each exit 0 must have all messages that were accepted
 # by then, in S4 and whole. Then M copies (35) at random moments while four shells inject: each must have no state but S1 to
 # S5, and all messages that were accepted by then. Exit status 1 if not. It needs root and loop devices; what is missing is
-# told, and ends it or skips that file system.
+# told, and ends it or skips that file system. In Debian: the packages procps, xfsprogs and btrfs-progs.
 set -eu
 count=${1:-20}
 moments=${2:-35}
@@ -25,6 +25,7 @@ end() {
 }
 trap end EXIT
 bad=0
+. "$top/bench/images.sh"
 
 unmount() { # waits for what has just been killed
   for _ in $(seq 200); do
@@ -107,35 +108,20 @@ after_each() { # SYSTEM SIZE: a copy right after each exit 0
   fresh_disk "$1" "$2" || { echo "$1: skipped, since it can't be mounted here"; return 1; }
   for ((k = 1; k <= count; k++)); do
     inject "$k"
-    copy_image "$k"
+    copy_at_rest copy_image "$k"
   done
   check_copies
   echo "$1: right after exit 0, $lost_last of $last messages are lost (with the earlier ones $lost of $accepted); copies with another state: $wrong"
   [ "$last" = "$count" ] || { echo "$1: $((count - last)) injections failed"; bad=1; }
 }
 
-quiet_writes() { # how many writes the device of the image has done, once those that are under way are done
-  local device writes=none now
-  device=$(losetup -j "$image" -O NAME -n)
-  now=$(awk '{ print $5, $9 }' "/sys/block/${device##*/}/stat")
-  while [ "$now" != "$writes" ] || [ "${now#* }" != 0 ]; do
-    writes=$now
-    sleep 0.01
-    now=$(awk '{ print $5, $9 }' "/sys/block/${device##*/}/stat")
-  done
-  echo "$now"
-}
+shells_below() { below "${started[@]}"; }
 
-copy_at_random() { # NAME: stops the shells at some moment, and copies until nothing was written meanwhile
-  local pid before=none after=some
+copy_at_random() { # NAME: a copy at some moment, with all shells stopped
   sleep "0.$(printf '%03d' $((RANDOM % 200)))"
-  for pid in "${started[@]}"; do kill -STOP -- "-$pid"; done
-  while [ "$before" != "$after" ]; do
-    before=$(quiet_writes)
-    copy_image "$1"
-    after=$(quiet_writes)
-  done
-  for pid in "${started[@]}"; do kill -CONT -- "-$pid"; done
+  stop_writers shells_below
+  copy_at_rest copy_image "$1"
+  resume_writers
 }
 
 at_random() { # SYSTEM SIZE: copies at random moments, while shells inject

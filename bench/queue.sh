@@ -2,7 +2,7 @@
 # bench/queue.sh N: N injections of a small message, one after the other, each a process of ./qmail, into a fresh
 # directory; prints how many a second. Then, if strace is there, the calls of the system that one injection makes on
 # files below that directory, and a count of all its calls; exit status 1 if the calls on files, after the directories
-# are looked at, aren't those of the injector's table, each link with the sync of its directory.
+# are looked at, aren't those of the injector's table, each link with the sync of its directory. In Debian: the package strace.
 set -eu
 count=${1:?usage: bench/queue.sh N}
 top=$(cd "$(dirname "$0")/.." && pwd)

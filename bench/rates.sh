@@ -1,48 +1,146 @@
 #!/usr/bin/env bash
-# bench/rates.sh [N [DIR]]: N messages (2,000) of 2 KB, in a fresh directory below DIR (that of temporary files). Local: from the
-# first injection, each a process, to the last file in the maildirs of 20 users, while `send` runs. Bare: a perl program that makes the
-# same file calls, injection, sender and delivery, and starts as many processes (true(1), and setsid(1) with it). Remote: N
-# recipients in messages of 100, from the start of the sender to the last report, with a program that ends at once; and bare, as
-# many processes of that program, 20 at a time. Prints how many a second, and ours beside the bare ones. Exit status 1 if a mail is
-# missing. The program is ./qmail, which `make build` leaves, or $QMAIL: one with proofs, since others are slower.
+# bench/rates.sh [N [DIR]]: how many a second of N messages (2,000; a multiple of 400) of 2 KB, in a fresh directory below DIR (that of
+# temporary files), side by side in four rounds of a fourth each, on the same disk.
+#
+# Local: four shells inject, each message by a process of its own, while the sender runs, until the last file is in the maildirs of 20
+# users. Postfix: so with its sendmail(1) and local(8). Bare: four perl programs that make the same file calls, injection, sender and
+# delivery, and start as many processes (true(1), and setsid(1) with it).
+# Remote: N recipients in messages of 100, from the first injection to the last report, with a program that ends at once. Postfix: its
+# smtp(8) to smtp-sink(1), a session for each recipient. Bare: as many processes of that program, 20 at a time.
+#
+# Prints how many a second, and ours beside the others. Exit status 1 if a mail is missing. The program is ./qmail, which `make build`
+# leaves, or $QMAIL: one with proofs, since others are slower. Postfix is there only by root; in Debian the package is postfix. It
+# gets a configuration of its own (bench/postfix.sh).
 set -u
 count=${1:-2000}
+rounds=4
+each=$(((count / rounds + 99) / 100 * 100))
 top=$(cd "$(dirname "$0")/.." && pwd)
 program=$(realpath "${QMAIL:-$top/qmail}")
+[ -x "$program" ] || { echo "there is no $program"; exit 1; }
+PATH=$PATH:/usr/sbin
 work=$(mktemp -d ${2:+-p "$2"})
 sender=
-trap 'kill $sender 2> /dev/null; wait; rm -rf "$work"' EXIT
+sink=
+with_postfix=
+end() {
+  [ -z "$with_postfix" ] || own_users postfix -c "$work/postfix/etc" stop 2> noise
+  kill $sender $sink 2> noise
+  wait
+  rm -rf "$work"
+}
+trap end EXIT
 cd "$work" || exit 1
+chmod 711 .
 . "$top/bench/check.sh"
+. "$top/bench/postfix.sh"
 export QMAIL_IDLE_MS=20
+port=$((20000 + $$ % 10000))
 
 now() { date +%s.%N; }
-
-rate() { # WHAT BEGUN: told, and left in $second
-  second=$(awk -v n="$count" -v from="$2" -v to="$(now)" 'BEGIN { printf "%.1f", n / (to - from) }')
-  echo "$1: $count in $(awk -v n="$count" -v rate="$second" 'BEGIN { printf "%.2f", n / rate }') seconds, $second a second"
-}
-
-beside() { echo "the bare program's rate is $(awk -v ours="$1" -v bare="$2" 'BEGIN { printf "%.2f", bare / ours }') times ours"; }
-
-send() { "$program" send queue "$work/program" --turns 1000000 2> log & sender=$!; }
-
-stop() { kill "$sender"; wait "$sender" 2> noise; sender=; }
 
 await() { # N COMMAND..: until it prints N or more, at most ten minutes
   local wanted=$1
   shift
-  for _ in $(seq 6000); do
+  for _ in $(seq 12000); do
     [ "$("$@")" -ge "$wanted" ] && return
-    sleep 0.1
+    sleep 0.05
   done
 }
 
-files() { find queue/home -path '*/new/*' -type f | wc -l; }
-reports() { grep -c '^delivery' log; }
+timed() { # WHAT COMMAND..: adds the seconds that it takes to those of WHAT
+  local what=$1 begun
+  shift
+  begun=$(now)
+  "$@"
+  awk -v from="$begun" -v to="$(now)" 'BEGIN { print to - from }' >> "seconds.$what"
+}
 
+rate() { # WHAT: told
+  awk -v what="$1" -v n="$((each * rounds))" '{ all += $1 } END { printf "%s: %d in %.1f seconds, %.1f a second\n", what, n, all, n / all }' "seconds.$1"
+}
+
+beside() { # OURS OTHER: how much longer the one takes than the other
+  awk -v what="$1 beside $2" 'FNR == NR { ours += $1; next } { other += $1 } END { printf "%s: %.2f times as long\n", what, ours / other }' \
+    "seconds.$1" "seconds.$2"
+}
+
+four() { # COMMAND..: four shells at once, each with a fourth of the numbers below $each
+  local shell shells=
+  for shell in 0 1 2 3; do
+    for ((k = shell; k < each; k += 4)); do "$@" "$k"; done &
+    shells="$shells $!"
+  done
+  wait $shells
+}
+
+files() { find "$1" -path '*/new/*' -type f | wc -l; }
+ours() { "$program" queue "envelope$(($1 % 20 + 1))" queue < message; }
+by_sendmail() { sendmail -C "$work/postfix/etc" -f s@x "u$(($1 % 20 + 1))@localhost" < message; }
+local_ours() { four ours; await "$((round * each))" files queue/home; }
+local_postfix() { four by_sendmail; await "$((round * each))" files postfix/home; }
+local_bare() {
+  local shell shells=
+  for shell in 0 1 2 3; do
+    perl bare.pl "$shell" "$((each / 4))" &
+    shells="$shells $!"
+  done
+  wait $shells
+}
+
+reports() { grep -c '^delivery .* success' log; }
+sent() { grep -c 'relay=127.0.0.1.*status=sent' postfix/log/log; }
+remote_ours() {
+  for ((k = 0; k < each; k += 100)); do "$program" queue envelope queue < message; done
+  await "$((each * rounds + round * each))" reports
+}
+remote_postfix() {
+  for ((k = 0; k < each; k += 100)); do sendmail -C "$work/postfix/etc" -f s@x $(seq -f r%g@example.net 100) < message; done
+  await "$((round * each))" sent
+}
+remote_bare() { seq "$each" | xargs -P 20 -n 1 ./program > noise; }
+
+cat > bare.pl <<'END2'
+use strict;
+use Fcntl;
+use IO::Handle;
+my ($shell, $count) = @ARGV;
+sub create { sysopen my $file, $_[0], O_RDWR | O_CREAT | O_EXCL | O_APPEND, 0644 or die; $file }
+sub fill { my ($file, $text) = @_; syswrite($file, $text) == length $text or die; $file->sync or die }
+sub text { open my $file, "<", $_[0] or die; local $/; scalar <$file> }
+sub synced { sysopen my $open, $_[0], O_RDONLY or die; $open->sync or die }
+sub name { my ($old, $dir, $new) = @_; link $old, "$dir/$new" or die; synced($dir) }
+sub start { my $pid = fork; if (!$pid) { exec @_ or die } waitpid $pid, 0 }
+my $text = text("message");
+chdir "bare" or die;
+for my $k (1 .. $count) {
+  my $pid = "pid/$$.$k";
+  start("/bin/true");
+  my $file = create($pid);
+  my $n = (stat $file)[1];
+  name($pid, "mess", $n);
+  unlink $pid or die;
+  fill($file, $text);
+  fill(create("intd/$n"), "u0\0p77\0Fs\@x\0Tu1\@localhost\0");
+  name("intd/$n", "todo", $n);
+  text("todo/$n");
+  fill(create("info/$n"), "Fs\@x\0");
+  fill(create("local/$n"), "Tu1\@localhost\0");
+  unlink "intd/$n", "todo/$n" or die;
+  text("local/$n");
+  my $mail = text("mess/$n");
+  start("/usr/bin/setsid", "/bin/true");
+  fill(create("tmp/$n.$k.$shell"), $mail);
+  name("tmp/$n.$k.$shell", "new", "$$.$k");
+  unlink "tmp/$n.$k.$shell" or die;
+  sysopen my $mark, "local/$n", O_RDWR or die;
+  syswrite($mark, "D") == 1 or die; # without a sync, as the sender marks
+  unlink "local/$n", "info/$n", "mess/$n" or die;
+}
+END2
 printf '#!/bin/sh\nprintf "r\\0Kok\\0"\n' > program
 chmod +x program
+mkdir -p bare/pid bare/intd bare/todo bare/mess bare/info bare/local bare/tmp bare/new
 "$program" audit queue > noise
 for user in $(seq 20); do
   mkdir -p "queue/home/u$user/Maildir/tmp" "queue/home/u$user/Maildir/new" "queue/home/u$user/Maildir/cur"
@@ -52,73 +150,25 @@ for user in $(seq 20); do
 done
 echo . >> queue/users/assign
 { printf 'Subject: a mail\n\n'; head -c 2000 /dev/zero | tr '\0' x | fold -w 70; echo; } > message
-
-send
-begun=$(now)
-for ((k = 0; k < count; k++)); do
-  "$program" queue "envelope$((k % 20 + 1))" queue < message
+{ printf 'Fs@x\0'; printf 'Tr%s@y\0' $(seq 100); printf '\0'; } > envelope
+"$program" send queue "$work/program" --turns 1000000 2> log & sender=$!
+others=bare
+if [ "$(id -u)" = 0 ] && command -v postfix smtp-sink > noise; then
+  make_postfix "$port"
+  smtp-sink -u nobody "127.0.0.1:$port" 1000 > sink.log 2>&1 &
+  sink=$!
+  own_users postfix -c "$work/postfix/etc" start > noise 2>&1 && with_postfix=so others="postfix bare"
+fi
+[ -n "$with_postfix" ] || echo "without Postfix: it needs root and the package"
+for where in local remote; do
+  for ((round = 1; round <= rounds; round++)); do
+    for who in ours $others; do timed "$where-$who" "${where}_$who"; done
+  done
 done
-rate "injected, while the sender runs" "$begun"
-await "$count" files
-rate "local" "$begun"
-local_rate=$second
-check "each mail is in a maildir" "$(files)" "$count"
-stop
-
-mkdir -p bare/pid bare/intd bare/todo bare/mess bare/info bare/local bare/tmp bare/new
-begun=$(now)
-perl -e '
-  use strict;
-  use Fcntl;
-  use IO::Handle;
-  my ($count, $message) = @ARGV;
-  chdir "bare" or die;
-  sub create { sysopen my $file, $_[0], O_RDWR | O_CREAT | O_EXCL | O_APPEND, 0644 or die; $file }
-  sub fill { my ($file, $text) = @_; syswrite($file, $text) == length $text or die; $file->sync or die }
-  sub text { open my $file, "<", $_[0] or die; local $/; scalar <$file> }
-  sub synced { sysopen my $open, $_[0], O_RDONLY or die; $open->sync or die }
-  sub name { my ($old, $dir, $new) = @_; link $old, "$dir/$new" or die; synced($dir) }
-  sub start { my $pid = fork; if (!$pid) { exec @_ or die } waitpid $pid, 0 }
-  my $text = text("../$message");
-  for my $k (1 .. $count) {
-    start("/bin/true");
-    my $file = create("pid/$k");
-    my $n = (stat $file)[1];
-    name("pid/$k", "mess", $n);
-    unlink "pid/$k" or die;
-    fill($file, $text);
-    fill(create("intd/$n"), "u0\0p77\0Fs\@x\0Tu1\@localhost\0");
-    name("intd/$n", "todo", $n);
-    text("todo/$n");
-    fill(create("info/$n"), "Fs\@x\0");
-    fill(create("local/$n"), "Tu1\@localhost\0");
-    unlink "intd/$n", "todo/$n" or die;
-    text("local/$n");
-    my $mail = text("mess/$n");
-    start("/usr/bin/setsid", "/bin/true");
-    fill(create("tmp/$k"), $mail);
-    name("tmp/$k", "new", $k);
-    unlink "tmp/$k" or die;
-    sysopen my $mark, "local/$n", O_RDWR or die;
-    fill($mark, "D");
-    unlink "local/$n", "info/$n", "mess/$n" or die;
-  }' "$count" message
-rate "bare" "$begun"
-beside "$local_rate" "$second"
-
-for ((k = 0; k < count; k += 100)); do
-  { printf 'Fs@x\0'; printf 'Tr%s@y\0' $(seq 100); printf '\0'; } > envelope
-  "$program" queue envelope queue < message
+for where in local remote; do
+  for who in ours $others; do rate "$where-$who"; done
+  for who in $others; do beside "$where-ours" "$where-$who"; done
 done
-begun=$(now)
-send
-await "$count" reports
-rate "remote" "$begun"
-remote_rate=$second
-check "each recipient was delivered" "$(grep -c '^delivery .* success' log)" "$count"
-stop
-begun=$(now)
-seq "$count" | xargs -P 20 -n 1 ./program > noise
-rate "bare" "$begun"
-beside "$remote_rate" "$second"
+check "each mail is in a maildir" "$(files queue/home)" "$((each * rounds))"
+check "each recipient was delivered" "$(reports)" "$((2 * each * rounds))"
 exit "$bad"

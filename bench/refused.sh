@@ -2,7 +2,7 @@
 # bench/refused.sh: injections that can't be done, each into a fresh directory: faulty inputs, directories that are missing
 # or can't be written, a full disk, and, if strace is there, each call of an injection failing in turn. Checks the exit
 # status, and which state of the number is left: S1 (no file), S2 or S3. Exit status 1 if one isn't as the table of statuses
-# in man/qmail-queue.8 says. A case that this machine or user can't make is skipped, and says so.
+# in man/qmail-queue.8 says. A case that this machine or user can't make is skipped, and says so. In Debian: the package strace.
 set -eu
 top=$(cd "$(dirname "$0")/.." && pwd)
 work=$(mktemp -d)

@@ -3,7 +3,7 @@
 # `send DIR cat --turns 100000` until nothing is left; each exit status but 51; two senders at once; a sender that is killed
 # while a remote program runs, and one whose cleaner was stopped with a command in its pipe; a cleaner by hand beside a sender; a
 # turn that can't be made; the last turns; what rests cost. Exit status 1 if something differs. With `short` the first message alone, by
-# `--turns 2000`. Ends by itself within five minutes, `short` within one.
+# `--turns 2000`. Ends by itself within five minutes, `short` within one. In Debian: the package procps.
 set -u
 top=$(cd "$(dirname "$0")/.." && pwd)
 program=${QMAIL:-$top/qmail}

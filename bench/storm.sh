@@ -3,13 +3,15 @@
 # random moments: it, its cleaner or a spawner, a delivery or what that has started, one alone or all at once. The kinds: a
 # maildir, a forward, a command, an extension address, a virtual domain, no such user; a remote recipient that is accepted,
 # deferred, refused, whose program crashes, or says nothing; several of them at once; no message at all and one of 1 MB; and
-# the null sender. As root C times (4) meanwhile the image of the file system, ext4 and then xfs, is copied as its device was given it.
+# the null sender. As root C times (4) meanwhile the image of the file system, ext4 and then xfs, is copied as a power cut could leave
+# it (bench/images.sh).
 #
 # Afterwards each recipient of each injection that ended with 0 must have been delivered, or be named in a bounce that came to the
 # message's sender, and the queue must have nothing but what killed injections left (S2, S3 and pid names). In each copy each
 # recipient of what was accepted by then is delivered, named in a bounce, or pending, and no number is in another state than S1
-# to S5. Prints how many deliveries were made twice. Exit status 1 if something is lost. The program is ./qmail, or $QMAIL. In Debian
-# mkfs.xfs is in xfsprogs. Waits for the queue to run empty, at most half an hour for each file system.
+# to S5. Prints how many deliveries were made twice. Exit status 1 if something is lost: then all is kept, and it says where. The
+# program is ./qmail, or $QMAIL. In Debian mkfs.xfs is in xfsprogs, and pgrep in procps. Waits for the queue to run empty, at most half
+# an hour for each file system.
 set -u
 count=${1:-200}
 kills=${2:-40}
@@ -21,32 +23,26 @@ disk=$work/disk
 image=$work/image
 queue=$disk/queue
 supervisor=
+shells=
 . "$top/bench/check.sh"
+. "$top/bench/images.sh"
 end() {
   kill $supervisor $(jobs -p) 2> "$work/noise"
   kill_all
   unmount
-  rm -rf "$work"
+  if [ "$bad" = 0 ]; then rm -rf "$work"; else echo "kept: $work"; fi
 }
 trap end EXIT
 cd "$work" || exit 1
 mkdir disk copies
 
-tree() { # PID..: these processes and those below them
-  local pid
-  for pid in "$@"; do
-    echo "$pid"
-    tree $(pgrep -P "$pid")
-  done
-}
-
 kill_all() { # the sender and all that it has started
-  [ ! -s sender ] || kill -9 $(tree $(cat sender)) 2> noise
+  [ ! -s sender ] || kill -9 $(below $(cat sender)) 2> noise
 }
 
 kill_one() { # one of them
   local all
-  all=($(tree $(cat sender)))
+  all=($(below $(cat sender)))
   [ "${#all[@]}" = 0 ] || kill -9 "${all[RANDOM % ${#all[@]}]}" 2> noise
 }
 
@@ -95,6 +91,7 @@ END2
 chmod +x remote
 
 supervise() {
+  export STORM=$work # so that all that it starts is found
   while :; do
     QMAIL_IDLE_MS=20 "$program" send "$queue" "$work/remote" --turns 1000000 2>> log &
     echo "$!" > sender.new && mv sender.new sender
@@ -129,7 +126,9 @@ message() { # I
 
 inject() { # SHELL: one of four shells' messages
   local i recipient sender
+  export STORM=$work
   for ((i = $1; i <= count; i += 4)); do
+    [ $((RANDOM % 2)) = 0 ] || sleep "0.$((RANDOM % 90 + 10))"
     sender=sender$i@h.example
     [ $((i % 13)) = 11 ] && sender=
     { printf 'F%s\0' "$sender"; printf 'T%s\0' $(recipients "$i"); printf '\0'; } > "envelope$1"
@@ -138,10 +137,19 @@ inject() { # SHELL: one of four shells' messages
   done
 }
 
+writers() { # all that writes in the file system, also what has lost its sender
+  below "$supervisor" $shells
+  marked "STORM=$work"
+}
+
 copy_image() { # K: what was accepted by now, the image, and what was taken outside
-  cp accepted "copies/$1.accepted"
-  cp --sparse=always "$image" "copies/$1"
-  cat took commands > "copies/$1.outside"
+  cp accepted "copies/$1.accepted" && cp --sparse=always "$image" "copies/$1" && cat took commands > "copies/$1.outside"
+}
+
+power_cut() { # K: a copy, with all that writes stopped
+  stop_writers writers
+  copy_at_rest copy_image "$1" || bad=1
+  resume_writers
 }
 
 accepted_files() { # DIR: the messages of a queue that were accepted
@@ -155,7 +163,7 @@ accepted_files() { # DIR: the messages of a queue that were accepted
 known() { # DIR: the recipients that a mail, a bounce or the queue itself names
   { find "$1/home" "$1/bounce" -type f
     accepted_files "$1"; } | xargs -r grep -ahE '^(Delivered-To: |<.*>:$)' | sed 's/^Delivered-To: //; s/^<\(.*\)>:$/\1/'
-  find "$1/todo" "$1/local" "$1/remote" -type f -exec cat {} + | tr '\0' '\n' | sed -n 's/^T//p'
+  find "$1/todo" "$1/local" "$1/remote" -type f -print0 | xargs -0r grep -zah '^T' | tr '\0' '\n' | sed 's/^T//'
 }
 
 seen() { # DIR: `to RECIPIENT` and `failed RECIPIENT SENDER`, by the mails in the maildirs and what was taken outside
@@ -180,21 +188,32 @@ check_end() { # after the storm
   echo "senders: $(wc -l < senders)"
 }
 
-check_copy() { # K
-  mount -o loop "copies/$1" "$disk" || { check "copy $1" "can't be mounted" mounted; return; }
+cut_short() { # DIR: how many envelopes in todo/ don't end with a NUL
+  local file n=0
+  for file in "$1"/todo/*; do
+    [ ! -e "$file" ] || [ "$(tail -c 1 "$file" | od -An -tx1)" = " 00" ] || n=$((n + 1))
+  done
+  echo "$n"
+}
+
+check_copy() { # K: as it was copied it stays
+  cp --sparse=always "copies/$1" mounted
+  mount -o "$options" mounted "$disk" || { check "copy $1" "can't be mounted" mounted; return; }
   { known "$queue" | sed 's/^maildir-v-//'; cat "copies/$1.outside"; } | sort -u > names
   check "recipients lost in copy $1 of $(sort -u "copies/$1.accepted" | wc -l)" \
     "$(awk '{ print $1 }' "copies/$1.accepted" | sort -u | comm -23 - names | wc -l)" 0
   awk '{ print $1 }' "copies/$1.accepted" | sort -u | comm -23 - names | head -n 5
   check "numbers in another state" "$("$program" audit "$queue" | grep -c other)" 0
+  check "envelopes that are cut short" "$(cut_short "$queue")" 0
   unmount
 }
 
 idle() { ! "$program" audit "$queue" 2> noise | grep -q 'S[45]'; }
 
 storm() { # kills while four shells inject, and then calm
-  local shells='' k
+  local k
   fresh_queue
+  shells=
   supervise 2> noise &
   supervisor=$!
   for k in 1 2 3 4; do
@@ -204,7 +223,7 @@ storm() { # kills while four shells inject, and then calm
   for ((k = 1; k <= kills; k++)); do
     sleep "0.$((RANDOM % 90 + 10))"
     if [ $((RANDOM % 3)) = 0 ]; then kill_all; else kill_one; fi
-    [ "$images" = 0 ] || [ $((k % (kills / images + 1))) != 1 ] || copy_image "$k"
+    [ $((k * images / kills)) = $(((k - 1) * images / kills)) ] || power_cut "$k"
   done
   wait $shells
   : > calm
@@ -223,7 +242,9 @@ images=0
 [ "$images" = 0 ] && { echo "in a directory, without copies: they need root and loop devices"; storm; check_end; }
 for system in ext4 xfs; do
   [ "$images" = 0 ] && break
-  rm -rf image copies/*
+  rm -rf image mounted copies/*
+  options=loop
+  [ "$system" = ext4 ] || options=loop,nouuid # a copy has the same
   truncate -s 600M image
   if ! "mkfs.$system" -q image > noise 2>&1 || ! mount -o loop image "$disk"; then
     echo "$system: skipped, since it can't be mounted here"
@@ -235,7 +256,11 @@ for system in ext4 xfs; do
   unmount
   for copy in copies/*.accepted; do
     copy=${copy%.accepted}
+    before=$bad
+    bad=0
     check_copy "${copy##*/}"
+    if [ "$bad" = 0 ]; then rm -f "$copy" "$copy".*; else mkdir -p "kept.$system" && mv "$copy" "$copy".* "kept.$system"; fi
+    [ "$before" = 0 ] || bad=1
   done
 done
 [ "$bad" = 0 ] && echo "nothing is lost"

@@ -37,6 +37,10 @@ row 100 '' 'usage\n' /dev/null play --help
 row 100 '' 'usage\n' /dev/null play x
 row 100 '' 'usage\n' /dev/null play "$(printf '\377')"
 row 100 '' 'usage\n' /dev/null "$(printf 'pl\303ay')"
+row 100 '' 'usage\n' /dev/null make 1
+row 100 '' 'usage\n' /dev/null make 65537 1
+row 100 '' 'usage\n' /dev/null make 1 100001
+row 100 '' 'usage\n' /dev/null make 01 1
 row 100 '' 'usage\n' /dev/null queue "$work/envelope"
 row 100 '' 'usage\n' /dev/null queue "$work/envelope" "$queue" --uid 4294967296
 [ ! -e "$queue" ] || { echo "differs: a directory was made"; bad=1; }
@@ -53,7 +57,19 @@ row 100 '' 'usage\n' "$work/show" play x
 row 100 '' 'usage\n' "$work/show" play "$(printf '\377')"
 row 54 '' '' "$work" play # a directory can't be read
 
+# a script that is made, and played
+made='file users/assign : +u:u:1000:1000:home/u:-::%%0A.%%0A\nfile home/u/.qmail-default : ./Maildir/%%0A\ndir home/u/Maildir/tmp\n'
+made+='dir home/u/Maildir/new\ndir home/u/Maildir/cur\nmail m1 s49@h.example r4@h.example r9@h.example r9@h.example : body 1%%0A\n'
+made+='run m1\nsender\nsettle K\nsum\n'
+printf "$made" > "$work/made"
+row 0 "$made" '' /dev/null make 1 1
+row 0 'accepted 1 recipients 3 pending 0 delivered 3 noted 0 bounced 0 dropped 0\n' '' "$work/made" play
+
 # an output that fails
+status=0
+: > "$work/out"
+"$program" make 1 1 > /dev/full 2> "$work/err" || status=$?
+say 53 '' '' "$status" "make > /dev/full"
 status=0
 : > "$work/out"
 "$program" play < "$work/show" > /dev/full 2> "$work/err" || status=$?
@@ -61,9 +77,9 @@ say 53 '' '' "$status" "play > /dev/full"
 
 # memory: with less and less of it the script is played whole, then the status is 51 and nothing is written, until the
 # program can't be started any more
-limited() { # KILOBYTES: the exit status of a play with so much address space
+limited() { # KILOBYTES: the exit status of a play with so much for its data, which a stack that grows is no part of
   local status=0
-  (ulimit -v "$1" && exec "$program" play < "$work/show" > "$work/out" 2> "$work/err") 2> "$work/noise" || status=$?
+  (ulimit -d "$1" && exec "$program" play < "$work/show" > "$work/out" 2> "$work/err") 2> "$work/noise" || status=$?
   echo "$status"
 }
 least=1

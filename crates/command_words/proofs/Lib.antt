@@ -8,5 +8,7 @@ pub mod Steps
 pub mod Walks
 -- words of the members of a generation that aren't written out
 pub mod Members
+-- words of `make` that aren't written out, and what it is told
+pub mod Makes
 -- words of `local` that aren't written out
 pub mod Delivered

@@ -19,20 +19,20 @@ use Rattle.command_words.proofs.Steps.{Goes, IsPlain, at, ending, goes_nowhere, 
 use Rattle.command_words.proofs.Walks.{no_hyphen}
 
 -- a command as clap builds it
-abbrev line_of : App → Shape
+abbrev pub line_of : App → Shape
 line_of app = (built app).top
 
 -- the parse of the words after its name
-abbrev parsed : App → List Text → Walk
+abbrev pub parsed : App → List Text → Walk
 parsed app words = fold (walked (line_of app).rules []) start words
 
 -- clap takes the words, and found what a parse up to here holds
-record Taken (app : App) (words : List Text) (to : Walk) : Type 0 where
-  takes : takes_words app words ≡ true
-  finds : matches_of app words ≡ finished (line_of app).rules to.held
+pub record Taken (app : App) (words : List Text) (to : Walk) : Type 0 where
+  pub takes : takes_words app words ≡ true
+  pub finds : matches_of app words ≡ finished (line_of app).rules to.held
 
 -- so it is where a parse goes over the words after a name, and nothing fails
-taken : (app : App) (name : Text) (words : List Text) (to : Walk) → is_simple_and_free app ≡ true
+pub taken : (app : App) (name : Text) (words : List Text) (to : Walk) → is_simple_and_free app ≡ true
     → fault_of app (name ∷ words) ≡ ending app (walk_fault (line_of app) [] start words) (parsed app words)
     → matches_of app (name ∷ words) ≡ finished (line_of app).rules (parsed app words).held
     → Goes (line_of app) start words to → ending app [] to ≡ [] → Taken app (name ∷ words) to

@@ -9,13 +9,13 @@ use Rattle.clap.specs.declared.parser.matches.ArgMatches.{ArgMatches}
 use Rattle.clap.specs.declared.parser.matches.Found.{Found}
 use Rattle.clap.proofs.WalkLemmas.{first_value-rows}
 use Rattle.call_fs.specs.declared.past.DeliveryWordsData.{DeliveryWordsData}
-use Rattle.command_words.specs.Lines.{local_line, play_line, queue_line, rspawn_line, send_line, takes_words}
+use Rattle.command_words.specs.Lines.{local_line, make_line, play_line, queue_line, rspawn_line, send_line, takes_words}
 use Rattle.command_words.specs.declared.command.Command.TheVariants.{Play, Queue}
 use Rattle.command_words.specs.declared.command.QueueWords.{QueueWords}
 use Rattle.command_words.specs.declared.command.RspawnWords.{RspawnWords}
 use Rattle.command_words.specs.Delivery.{delivery_told, local_told, local_told_by, local_words, marked, told_as}
-use Rattle.command_words.specs.Numbers.{turns_of, uid_of}
-use Rattle.command_words.specs.Reads.{dir_words, env_of, is_on, play_words, queue_words, rspawn_words, send_words, sender_told, sender_told_by, spawner_told, spawner_told_by, told, told_by}
+use Rattle.command_words.specs.Numbers.{number_below, turns_of, uid_of}
+use Rattle.command_words.specs.Reads.{dir_words, env_of, is_on, make_words, maker_told, maker_told_by, play_words, queue_words, rspawn_words, send_words, sender_told, sender_told_by, spawner_told, spawner_told_by, told, told_by}
 
 -- an `Ok` says that no step failed
 pub taken : (a line : App) (words : List Text) (m : ArgMatches) → a ≡ line → is_simple_and_free line ≡ true → (is_simple_and_free a ≡ true → FailsBy (fault_of a words) (Ok m)) → takes_words line words ≡ true
@@ -129,6 +129,44 @@ pub all_told : (found : Found) (turns : Option Text) (number : Option ℕ) (told
     → sender_told_by (rows_of found) ≡ Some (record { dir = told.dir; program = told.program; turns = n })
 all_told found turns number told n t is some both =
     sender_found found turns t ∙ ap (λ o. sender_told o (turns_of turns)) both ∙ ap (sender_told (Some told)) (sym is ∙ some)
+
+-- the words of `make` that are taken tell it what clap found; what it is told, by what the getters of the matches read
+pub make_read : (words : List Text) (rows : List Row) → takes_words make_line words ≡ true → rows ≡ matches_of make_line words → make_words words ≡ maker_told_by rows
+unfolding make_words
+make_read words rows takes is = ap (λ t. cond t (maker_told_by (matches_of make_line words)) None) takes ∙ ap maker_told_by (sym is)
+
+pub make_refused : (words : List Text) → takes_words make_line words ≡ false → make_words words ≡ None
+unfolding make_words
+make_refused words refuses = ap (λ t. cond t (maker_told_by (matches_of make_line words)) None) refuses
+
+-- a number that a getter of the matches reads
+number_found : (found : Found) (id : Text) (limit : ℕ) (text : Option Text) (number : Option ℕ) → text ≡ first_value found id → number ≡ number_below limit text → number_below limit (first_of id (rows_of found)) ≡ number
+number_found found id limit text number t is = ap (number_below limit) (sym (t ∙ first_value-rows found id)) ∙ sym is
+
+no_count : (seed : Option ℕ) → maker_told seed None ≡ None
+no_count None = refl
+no_count (Some seed) = refl
+
+no_seed : (count : Option ℕ) → maker_told None count ≡ None
+no_seed None = refl
+no_seed (Some count) = refl
+
+-- without one of its numbers it is told nothing
+pub seed_lacked : (found : Found) (text : Option Text) (number : Option ℕ) → text ≡ first_value found (codes "seed") → number ≡ number_below 65537 text → number ≡ None → maker_told_by (rows_of found) ≡ None
+seed_lacked found text number t is none =
+    let count = number_below 100001 (first_of (codes "count") (rows_of found)) in
+    ap (λ o. maker_told o count) (number_found found (codes "seed") 65537 text number t is ∙ none) ∙ no_seed count
+
+pub count_lacked : (found : Found) (text : Option Text) (number : Option ℕ) → text ≡ first_value found (codes "count") → number ≡ number_below 100001 text → number ≡ None → maker_told_by (rows_of found) ≡ None
+count_lacked found text number t is none =
+    let seed = number_below 65537 (first_of (codes "seed") (rows_of found)) in
+    ap (maker_told seed) (number_found found (codes "count") 100001 text number t is ∙ none) ∙ no_count seed
+
+pub both_told : (found : Found) (first second : Option Text) (seed count : Option ℕ) (s n : ℕ) → first ≡ first_value found (codes "seed") → seed ≡ number_below 65537 first → seed ≡ Some s
+    → second ≡ first_value found (codes "count") → count ≡ number_below 100001 second → count ≡ Some n → maker_told_by (rows_of found) ≡ Some (record { seed = s; count = n })
+both_told found first second seed count s n f of_seed has_seed g of_count has_count =
+    ap (λ o. maker_told o (number_below 100001 (first_of (codes "count") (rows_of found)))) (number_found found (codes "seed") 65537 first seed f of_seed ∙ has_seed)
+    ∙ ap (maker_told (Some s)) (number_found found (codes "count") 100001 second count g of_count ∙ has_count)
 
 -- the words of `local` that are taken tell it what clap found; what it is told, by what the getters of the matches read
 pub local_read : (words : List Text) (rows : List Row) → takes_words local_line words ≡ true → rows ≡ matches_of local_line words → local_words words ≡ local_told_by rows

@@ -54,6 +54,10 @@ rspawn_line = with_program (with_word (new_app (codes "rspawn")) (codes "dir"))
 abbrev pub send_line : App
 send_line = with_rule (with_program (with_word (new_app (codes "send")) (codes "dir"))) (option_rule (codes "turns"))
 
+-- `make SEED COUNT`
+abbrev pub make_line : App
+make_line = with_word (with_word (new_app (codes "make")) (codes "seed")) (codes "count")
+
 -- `local DIR =USER =HOME =LOCAL =DASH =EXT =DOMAIN =SENDER =LINE --uid N`
 abbrev pub local_line : App
 local_line =

@@ -12,6 +12,15 @@ abbrev pub uid_of : Option Text → Option ℕ
 uid_of None = Some 0
 uid_of (Some text) = option_and_then as_u32 (number_of text)
 
+-- the number, if it is below a limit
+abbrev pub as_below : ℕ → ℕ → Option ℕ
+as_below limit n = if nat_lt n limit then Some n else None
+
+-- the number below a limit of a decimal text, which has to stand
+abbrev pub number_below : ℕ → Option Text → Option ℕ
+number_below limit None = None
+number_below limit (Some text) = option_and_then (as_below limit) (number_of text)
+
 -- the number, if it is from 1 to 1,000,000
 abbrev pub as_turns : ℕ → Option ℕ
 as_turns n = if nat_lt 0 n && nat_lt n 1000001 then Some n else None

@@ -4,13 +4,14 @@ use Rattle.std.specs.Option.{option_map_or}
 use Rattle.std.specs.Str.{bytes_eq}
 use Rattle.clap.specs.Words.{App, Row, Text, first_of, matches_of}
 use Rattle.command_words.specs.declared.command.Command.{Command}
-use Rattle.command_words.specs.declared.command.Command.TheVariants.{Play, Queue, Send, Audit, Clean, Lspawn, Rspawn, Local}
+use Rattle.command_words.specs.declared.command.Command.TheVariants.{Play, Make, Queue, Send, Audit, Clean, Lspawn, Rspawn, Local}
+use Rattle.command_words.specs.declared.command.MakeWords.{MakeWords}
 use Rattle.command_words.specs.declared.command.QueueWords.{QueueWords}
 use Rattle.command_words.specs.declared.command.RspawnWords.{RspawnWords}
 use Rattle.command_words.specs.declared.command.SendWords.{SendWords}
 use Rattle.command_words.specs.Delivery.{local_words}
-use Rattle.command_words.specs.Numbers.{turns_of, uid_of}
-use Rattle.command_words.specs.Lines.{audit_line, clean_line, lspawn_line, play_line, queue_line, rspawn_line, send_line, takes_words}
+use Rattle.command_words.specs.Numbers.{number_below, turns_of, uid_of}
+use Rattle.command_words.specs.Lines.{audit_line, clean_line, lspawn_line, make_line, play_line, queue_line, rspawn_line, send_line, takes_words}
 
 -- the file of the envelope; `-` is none
 abbrev pub env_of : Text → Option Text
@@ -68,6 +69,19 @@ sender_told_by rows = sender_told (spawner_told_by rows) (turns_of (first_of (co
 unfoldable pub send_words : List Text → Option SendWords
 send_words words = if takes_words send_line words then sender_told_by (matches_of send_line words) else None
 
+-- what `make` is told, if both words are numbers in range: a seed up to 65,536, and a count up to 100,000
+abbrev pub maker_told : Option ℕ → Option ℕ → Option MakeWords
+maker_told (Some seed) (Some count) = Some (record { seed = seed; count = count })
+maker_told _ _ = None
+
+-- the same, of what clap found
+abbrev pub maker_told_by : List Row → Option MakeWords
+maker_told_by rows = maker_told (number_below 65537 (first_of (codes "seed") rows)) (number_below 100001 (first_of (codes "count") rows))
+
+-- the words after the name `make`, whatever the first word is
+unfoldable pub make_words : List Text → Option MakeWords
+make_words words = if takes_words make_line words then maker_told_by (matches_of make_line words) else None
+
 -- the command that this name names, if it isn't `play`
 abbrev pub others_named : Text → List Text → Option Command
 others_named name words = if bytes_eq name (codes "queue") then queue_words words
@@ -76,7 +90,8 @@ others_named name words = if bytes_eq name (codes "queue") then queue_words word
     else (if bytes_eq name (codes "clean") then option_map Clean (dir_words clean_line words)
     else (if bytes_eq name (codes "lspawn") then option_map Lspawn (dir_words lspawn_line words)
     else (if bytes_eq name (codes "rspawn") then option_map Rspawn (rspawn_words words)
-    else (if bytes_eq name (codes "local") then option_map Local (local_words words) else None))))))
+    else (if bytes_eq name (codes "local") then option_map Local (local_words words)
+    else (if bytes_eq name (codes "make") then option_map Make (make_words words) else None)))))))
 
 -- the command that the first word names
 abbrev pub command_named : Option Text → List Text → Option Command

@@ -10,6 +10,8 @@ use thiserror::Error;
 pub enum Command {
     /// `play`: plays a script.
     Play,
+    /// `make`: makes a script.
+    Make(MakeWords),
     /// `queue`: puts a message into a queue.
     Queue(QueueWords),
     /// `send`: runs the sender, with its cleaner and its spawners.
@@ -24,6 +26,15 @@ pub enum Command {
     Rspawn(RspawnWords),
     /// `local`: makes a local delivery.
     Local(LocalWords),
+}
+
+/// What `make` is told.
+#[derive(Clone, Copy)]
+pub struct MakeWords {
+    /// What the draws begin with, up to 65,536.
+    pub seed: u64,
+    /// How many mails the script has, up to 100,000.
+    pub count: u64,
 }
 
 /// What `queue` is told.

@@ -34,7 +34,7 @@ pub fn places(alloc: Global, words: &[String]) -> Result<Places, Memory>
             env: None,
             dir: Some(delivery.dir),
         }),
-        Ok(Command::Play) | Err(WordsError::Usage) => Ok(Places {
+        Ok(Command::Play | Command::Make(_)) | Err(WordsError::Usage) => Ok(Places {
             env: None,
             dir: None,
         }),

@@ -3,7 +3,8 @@ ghost use Rattle.std.specs.Prelude.{◌≡◌, ◌≢◌, ◌<◌, ◌≤◌, �
 ghost use Rattle.call_fs.specs.declared.past.DeliveryWordsData.{DeliveryWordsData};
 ghost use Rattle.mail_bytes.specs.Decimal.{digits};
 ghost use Rattle.command_words.specs.declared.command.Command.{Command as Told};
-ghost use Rattle.command_words.specs.declared.command.Command.TheVariants.{Play, Queue, Send, Audit, Clean, Lspawn, Rspawn, Local};
+ghost use Rattle.command_words.specs.declared.command.MakeWords.{MakeWords};
+ghost use Rattle.command_words.specs.declared.command.Command.TheVariants.{Play, Make, Queue, Send, Audit, Clean, Lspawn, Rspawn, Local};
 ghost use Rattle.command_words.specs.Delivery.{HasBytes, delivery_words};
 ghost use Rattle.command_words.specs.Lines.{play_line, takes_words};
 ghost use Rattle.command_words.specs.Reads.{IsNoCommand, IsNoOption, Reads};
@@ -34,6 +35,12 @@ pub fn words_by_row()
     ensures zero_turns { IsNoCommand (codes "send" ∷ codes "DIR" ∷ codes "PROGRAM" ∷ codes "--turns" ∷ codes "0" ∷ []) }
     ensures too_many_turns { IsNoCommand (codes "send" ∷ codes "DIR" ∷ codes "PROGRAM" ∷ codes "--turns" ∷ codes "1000001" ∷ []) }
     ensures send_no_program { IsNoCommand (codes "send" ∷ codes "DIR" ∷ codes "--turns" ∷ codes "5" ∷ []) }
+    ensures make { Reads (codes "make" ∷ codes "7" ∷ codes "5" ∷ []) (Make (record { seed = 7; count = 5 })) }
+    ensures make_no_count { IsNoCommand (codes "make" ∷ codes "7" ∷ []) }
+    ensures make_extra { IsNoCommand (codes "make" ∷ codes "7" ∷ codes "5" ∷ codes "more" ∷ []) }
+    ensures seed_zero { IsNoCommand (codes "make" ∷ codes "01" ∷ codes "5" ∷ []) }
+    ensures seed_too_great { IsNoCommand (codes "make" ∷ codes "65537" ∷ codes "5" ∷ []) }
+    ensures too_many_mails { IsNoCommand (codes "make" ∷ codes "7" ∷ codes "100001" ∷ []) }
     ensures audit { Reads (codes "audit" ∷ codes "DIR" ∷ []) (Audit (codes "DIR")) }
     ensures audit_no_directory { IsNoCommand (codes "audit" ∷ []) }
     ensures audit_extra { IsNoCommand (codes "audit" ∷ codes "DIR" ∷ codes "more" ∷ []) }
@@ -104,4 +111,12 @@ pub fn words_of_members()
     ensures lspawn { (dir : List ℕ) → IsNoOption dir → Reads (codes "lspawn" ∷ dir ∷ []) (Lspawn dir) }
     ensures rspawn { (dir program : List ℕ) → IsNoOption dir → IsNoOption program → program ≢ []
         → Reads (codes "rspawn" ∷ dir ∷ program ∷ []) (Rspawn (record { dir = dir; program = program })) }
+{}
+
+/// Words of `make` that are written out except for its numbers: what a caller wrote is what is read. The seed that is read is at
+/// most 65,536, and the count at most 100,000.
+pub fn words_of_make()
+    ensures written { (seed count : ℕ) → seed ≤ 65536 → count ≤ 100000
+        → Reads (codes "make" ∷ digits seed ∷ digits count ∷ []) (Make (record { seed = seed; count = count })) }
+    ensures range { (words : List (List ℕ)) (told : MakeWords) → Reads words (Make told) → (told.seed ≤ 65536) × (told.count ≤ 100000) }
 {}

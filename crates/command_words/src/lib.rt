@@ -8,6 +8,7 @@
 //! | Words | Command |
 //! |---|---|
 //! | `play` | plays a script |
+//! | `make SEED COUNT` | makes a script with COUNT mails, drawn from SEED; up to 100,000 of them, and a seed up to 65,536 |
 //! | `queue ENV DIR --uid N --bounce` | puts a message into the queue of DIR, as qmail-queue(8) |
 //! | `send DIR PROGRAM --turns N` | runs the sender of the queue of DIR for N turns, from 1 to 1,000,000, as qmail-send(8) |
 //! | `audit DIR` | prints what the queue of DIR holds |
@@ -24,7 +25,8 @@
 //! - Which command the words are, as a simple `clap` command for each takes them, and what it is told; the
 //!   places that they name, which channels it has, and as which member of a generation it runs: `read_words`: `ok` (by
 //!   `Reads`), `usage` (by `IsNoCommand`); `places`; `channels`; `member`; the laws `words_are_one_command`,
-//!   `words_by_row`, `words_of_queue`, `words_of_local`, `words_of_members`.
+//!   `words_by_row`, `words_of_queue`, `words_of_local`, `words_of_members`,
+//!   `words_of_make`.
 #![tactic(auto)]
 
 mod command;
@@ -32,14 +34,17 @@ mod delivery;
 mod given;
 mod laws;
 mod lines;
+mod maker;
 mod read;
 mod sender;
 
 pub use command::{
-    Channels, Command, LocalWords, Member, Places, QueueWords, RspawnWords, SendWords, WordsError,
+    Channels, Command, LocalWords, MakeWords, Member, Places, QueueWords, RspawnWords, SendWords,
+    WordsError,
 };
 pub use given::{channels, member, places};
 pub use laws::{
-    words_are_one_command, words_by_row, words_of_local, words_of_members, words_of_queue,
+    words_are_one_command, words_by_row, words_of_local, words_of_make, words_of_members,
+    words_of_queue,
 };
 pub use read::read_words;

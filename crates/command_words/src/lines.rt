@@ -1,7 +1,7 @@
 // The simple `clap` commands.
 ghost use Rattle.std.specs.Prelude.{◌≡◌, IfOk};
 ghost use Rattle.clap.specs.Words.{app_of};
-ghost use Rattle.command_words.specs.Lines.{audit_line, clean_line, local_line, lspawn_line, play_line, queue_line, rspawn_line, send_line, with_program, with_word};
+ghost use Rattle.command_words.specs.Lines.{audit_line, clean_line, local_line, lspawn_line, make_line, play_line, queue_line, rspawn_line, send_line, with_program, with_word};
 
 use clap::builder::ValueParser;
 use clap::{Arg, ArgAction, Command};
@@ -65,6 +65,14 @@ pub fn send_line<'a>(alloc: Global) -> Result<Command<'a>, Memory>
 {
     let line = with_word(alloc, Command::new(alloc, "send"), "dir")?;
     with_program(alloc, line)?.arg(Arg::new(alloc, "turns").long("turns"))
+}
+
+/// The words of `make`. The error: out of memory.
+pub fn make_line<'a>(alloc: Global) -> Result<Command<'a>, Memory>
+    ensures { IfOk result (λ line. app_of line ≡ make_line) }
+{
+    let line = with_word(alloc, Command::new(alloc, "make"), "seed")?;
+    with_word(alloc, line, "count")
 }
 
 /// The words of `local`. The error: out of memory.

@@ -8,6 +8,7 @@ ghost use Rattle.command_words.specs.Numbers.{uid_of};
 
 use crate::delivery::read_local;
 use crate::lines::{audit_line, clean_line, lspawn_line, play_line, queue_line, rspawn_line};
+use crate::maker::read_make;
 use crate::sender::read_send;
 use crate::{Command, QueueWords, RspawnWords, WordsError};
 use clap::error::ErrorKind;
@@ -50,6 +51,10 @@ pub fn read_words(alloc: Global, words: &[String]) -> Result<Command, WordsError
         },
         "local" => match read_local(alloc, words) {
             Ok(delivery) => Ok(Command::Local(delivery)),
+            Err(why) => Err(why),
+        },
+        "make" => match read_make(alloc, words) {
+            Ok(maker) => Ok(Command::Make(maker)),
             Err(why) => Err(why),
         },
         _ => Err(WordsError::Usage),

@@ -130,3 +130,7 @@ pub mod Parents
 pub mod Wholes
 -- a step of an actor that lives
 pub mod Stepping
+-- what a step comes to
+pub mod Moves
+-- mails that start live
+pub mod LivingMails

@@ -38,3 +38,7 @@ pub mod Children
 pub mod Whole
 -- histories that are told anew, with another input of a child
 pub mod Anew
+-- what a step comes to, by what it answers: the actors stepped in turn
+pub mod Moves
+-- the mails of a world, all of which live
+pub mod LivingMails

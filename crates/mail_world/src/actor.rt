@@ -119,8 +119,7 @@ impl Actor {
         ensures stated { IfOk result (λ came. IsStated came) }
         ensures made { IfOk result (λ came. IsMade came at.now (D.disk disk.old) (D.disk disk.new)) }
         ensures still { IfOk result (λ came. IsUntouched came disk.old disk.new) }
-        ensures plan { IfOk result (λ came. IsPlannedCame came (D.plan disk.old) (D.plan disk.new)
-            (D.disk disk.old) (D.disk disk.new)) }
+        ensures plan { IfOk result (λ came. IsPlannedCame came (D.plan disk.old) (D.plan disk.new) (D.disk disk.old) (D.disk disk.new)) }
         ensures err { OnErr result (disk.new ≡ disk.old) }
     {
         match self.machine.need() {
@@ -191,8 +190,7 @@ impl Actor {
         requires seat { IsSeated self.old.wire mouths.old.items }
         ensures acted { IfOk result (λ did. HasStepped did (D.disk disk.old) (D.disk disk.new) mouths.old.items mouths.new.items at.pid
             self.old self.new (events_of history.old) (events_of history.new) at.now at.ready) }
-        ensures plan { IfOk result (λ did. IsSome did → GoesByPlan D.plan D.disk disk.old disk.new
-            (events_of history.old) (events_of history.new)) }
+        ensures plan { IfOk result (λ did. IsSome did → GoesByPlan D.plan D.disk disk.old disk.new (events_of history.old) (events_of history.new)) }
         ensures at { IfOk result (λ did. IfSome did (λ did. did.at ≡ length (events_of history.old))) }
         ensures idle { IfOk result (λ did. IfSome did (λ did. HasIdled did.idle self.old (events_of history.old) (events_of history.new))) }
         ensures room { OnOk result ((more : ℕ) → HasRoom history.old (more + 1) → HasRoom history.new more) }
@@ -370,8 +368,7 @@ impl Actor {
         requires seat { IsSeated self.old.wire mouths.old.items }
         ensures stopped { IsFinished (kept.Stop self.old.name) None (D.disk disk.old) (D.disk disk.new) mouths.old.items mouths.new.items
             self.old self.new (events_of history.old) (events_of history.new) }
-        ensures plan { GoesByPlan D.plan D.disk disk.old disk.new
-            (events_of history.old) (events_of history.new) }
+        ensures plan { GoesByPlan D.plan D.disk disk.old disk.new (events_of history.old) (events_of history.new) }
         ensures room { (more : ℕ) → HasRoom history.old (more + 1) → HasRoom history.new more }
     {
         let index = history.len() as u64;
@@ -386,8 +383,7 @@ impl Actor {
     /// they are open.
     fn end<D: CallFs>(&mut self, disk: &mut D, at: u64, status: Option<u8>)
         requires { OnTold (D.disk disk.old) (λ before. AreOpen before self.old.descriptors.items) }
-        ensures closed { Meets (D.disk disk.old) (D.disk disk.new)
-            (λ before after. after ≡ shut self.old.descriptors.items before) }
+        ensures closed { Meets (D.disk disk.old) (D.disk disk.new) (λ before after. after ≡ shut self.old.descriptors.items before) }
         ensures plan { D.plan disk.new ≡ D.plan disk.old }
         ensures descriptors { self.new.descriptors.items ≡ [] }
         ensures ended { self.new.ended ≡ Some at }

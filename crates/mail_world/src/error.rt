@@ -1,7 +1,7 @@
 // Why the world refuses.
 
 use crate::ActorName;
-use std::alloc::{AllocError, AllocFailed};
+use std::alloc::AllocError;
 use thiserror::Error;
 
 /// Why the world refuses; it is then as before.
@@ -37,17 +37,6 @@ impl From<AllocError> for WorldError {
     ghost from_gives = { λ _ why. why ≡ Memory };
 
     fn from(_: AllocError) -> Self {
-        WorldError::Memory
-    }
-}
-
-impl<T: Drop> From<AllocFailed<T>> for WorldError {
-    ghost use Rattle.std.specs.Prelude.{◌≡◌};
-    ghost use Rattle.mail_world.specs.declared.error.WorldError.TheVariants.{Memory};
-
-    ghost from_gives = { λ _ why. why ≡ Memory };
-
-    fn from(_: AllocFailed<T>) -> Self {
         WorldError::Memory
     }
 }

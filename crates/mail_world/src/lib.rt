@@ -42,6 +42,9 @@
 //!   picked are no events, and a number is refused exactly if it is in use: `World::{halt, fault_in, pick}`.
 //! - If the disk tells which call fails and which number comes next, each call of a step is by that, and nothing
 //!   else uses it up: `World::{step, stop, moment, halt}`: clause `plan`.
+//! - A world is a state that threads may step in turn (`yard_lock::Stepped`): a turn asks for a step of an actor, and its
+//!   answer is what the step did or why there was none; out of memory leaves the world as it was: `World::apply` (by
+//!   `moves` of `specs/Moves.antt`).
 //! - A world keeps books: of each mail its injector, process number, number, count of recipients, whether it was
 //!   accepted, and how its injector fares. They say what each legal history of its events says; and, if no
 //!   generation was started, a mail is accepted there exactly if the headline's books have an accepted injection of
@@ -53,6 +56,7 @@
 
 mod actor;
 mod any_machine;
+mod by_turns;
 mod children;
 mod error;
 mod generation;

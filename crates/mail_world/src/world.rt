@@ -113,8 +113,7 @@ impl<D: CallFs> World<D> {
     pub fn new(alloc: Global, disk: D) -> Result<World<D>, Memory>
         ensures ok { IsOk result }
         ensures world { IfOk result (λ world. world ≡ record { disk = disk; events = []; present = 0 }) }
-        ensures begun { IfOk result (λ world.
-            OnTold (D.disk disk) (λ opening. Opening opening → Happened D.disk opening world [])) }
+        ensures begun { IfOk result (λ world. OnTold (D.disk disk) (λ opening. Opening opening → Happened D.disk opening world [])) }
     {
         Ok(World {
             disk,
@@ -154,8 +153,7 @@ impl<D: CallFs> World<D> {
     /// `Happened` since an initial disk.
     pub fn books(&self) -> &Books
         ensures events { entries_of result.now ≡ books_of (with_inputs (reverse self.now.events)) }
-        ensures models { (opening : Disk) (h : List Happening)
-            → Happened D.disk opening self.now h → entries_of result.now ≡ books_in opening h }
+        ensures models { (opening : Disk) (h : List Happening) → Happened D.disk opening self.now h → entries_of result.now ≡ books_in opening h }
     {
         books_are_the_models();
         &self.books
@@ -174,8 +172,7 @@ impl<D: CallFs> World<D> {
         ensures goes_on { OnOk result (GoesOn D.disk self.old self.new) }
         ensures named { OnOk result (IsMailName name.now) }
 
-        ensures taken { (result ≡ Err WorldError.Taken)
-            ↔ ((was_started self.old.events name.now ≡ true) ⊎ (¬ (IsMailName name.now))) }
+        ensures taken { (result ≡ Err WorldError.Taken) ↔ ((was_started self.old.events name.now ≡ true) ⊎ (¬ (IsMailName name.now))) }
         ensures others { IfErr result (λ why. (why ≡ WorldError.Taken) ⊎ (why ≡ WorldError.Memory)) }
         ensures err { OnErr result (self.new ≡ self.old) }
     {
@@ -287,8 +284,7 @@ impl<D: CallFs> World<D> {
         ensures idle { IfOk result (λ did. (event : Kept) → self.new.events ≡ self.old.events ++ event ∷ []
             → did.idle ≡ has_idled (known self.old.events) event) }
         ensures goes_on { OnOk result (GoesOn D.disk self.old self.new) }
-        ensures plan { OnOk result (GoesByPlan D.plan D.disk self.old.disk self.new.disk
-            self.old.events self.new.events) }
+        ensures plan { OnOk result (GoesByPlan D.plan D.disk self.old.disk self.new.disk self.old.events self.new.events) }
 
         ensures unknown { (result ≡ Err WorldError.Unknown) ↔ (was_started self.old.events actor.now ≡ false) }
         ensures gone { (name : List ℕ) (at : ℕ) → (result ≡ Err (WorldError.Gone name at))
@@ -605,14 +601,12 @@ impl<D: CallFs> World<D> {
     pub fn stop(&mut self, actor: &ActorName) -> Result<(), WorldError>
         ensures event { OnOk result (IsStop actor.now self.old self.new) }
         ensures goes_on { OnOk result (GoesOn D.disk self.old self.new) }
-        ensures plan { OnOk result (GoesByPlan D.plan D.disk self.old.disk self.new.disk
-            self.old.events self.new.events) }
+        ensures plan { OnOk result (GoesByPlan D.plan D.disk self.old.disk self.new.disk self.old.events self.new.events) }
 
         ensures unknown { (result ≡ Err WorldError.Unknown) ↔ (was_started self.old.events actor.now ≡ false) }
         ensures gone { (name : List ℕ) (at : ℕ) → (result ≡ Err (WorldError.Gone name at))
             ↔ ((name ≡ actor.now) × EndsAt self.old.events actor.now at) }
-        ensures others { IfErr result (λ why. (why ≡ WorldError.Unknown)
-            ⊎ ((name : List ℕ) × (at : ℕ) × (why ≡ WorldError.Gone name at))) }
+        ensures others { IfErr result (λ why. (why ≡ WorldError.Unknown) ⊎ ((name : List ℕ) × (at : ℕ) × (why ≡ WorldError.Gone name at))) }
         ensures err { OnErr result (self.new ≡ self.old) }
     {
         let place = living(&self.places, self.crew, &self.actors, actor)?;
@@ -631,11 +625,9 @@ impl<D: CallFs> World<D> {
         requires { IsMoment moment }
         ensures came { OnOk result (self.new ≡ moment_world self.old moment) }
         ensures goes_on { OnOk result (GoesOn D.disk self.old self.new) }
-        ensures plan { OnOk result (GoesByPlan D.plan D.disk self.old.disk self.new.disk
-            self.old.events self.new.events) }
+        ensures plan { OnOk result (GoesByPlan D.plan D.disk self.old.disk self.new.disk self.old.events self.new.events) }
 
-        ensures past { (now : ℕ) → (result ≡ Err (WorldError.Past now))
-            ↔ ((now ≡ self.old.present) × (moment < self.old.present)) }
+        ensures past { (now : ℕ) → (result ≡ Err (WorldError.Past now)) ↔ ((now ≡ self.old.present) × (moment < self.old.present)) }
         ensures others { IfErr result (λ why. (why ≡ WorldError.Past self.old.present) ⊎ (why ≡ WorldError.Memory)) }
         ensures err { OnErr result (self.new ≡ self.old) }
     {
@@ -656,14 +648,12 @@ impl<D: CrashFs> World<D> {
     /// chosen and haven't come. After `Memory` the world is as before.
     pub fn halt(&mut self, alloc: Global, how: Survival) -> Result<(), Memory>
         ensures event { OnOk result (IsHalt how self.old self.new) }
-        ensures left { OnOk result (Meets (D.disk self.old.disk) (D.disk self.new.disk)
-            (λ before after. Halts how before after)) }
+        ensures left { OnOk result (Meets (D.disk self.old.disk) (D.disk self.new.disk) (λ before after. Halts how before after)) }
         ensures goes_on { OnOk result (GoesOnWith D.disk how self.old self.new) }
-        ensures over { OnOk result ((actor : List ℕ) → was_started self.old.events actor ≡ true
-            → (at : ℕ) × EndsAt self.new.events actor at) }
-        ensures plan { OnOk result (GoesByPlan D.plan D.disk self.old.disk self.new.disk
-            self.old.events self.new.events) }
+        ensures over { OnOk result ((actor : List ℕ) → was_started self.old.events actor ≡ true → (at : ℕ) × EndsAt self.new.events actor at) }
+        ensures plan { OnOk result (GoesByPlan D.plan D.disk self.old.disk self.new.disk self.old.events self.new.events) }
         ensures err { OnErr result (IsAsBefore D.disk D.plan self.old self.new) }
+        ensures same { OnErr result (self.new ≡ self.old) }
     {
         // for this event; none that lives is left to be stopped
         self.history.reserve(self.actors.len() + 1)?;
@@ -680,8 +670,7 @@ impl<D: CrashFs> World<D> {
     /// event. The condition: k is from 1.
     pub fn fault_in(&mut self, k: u64)
         requires { 1 ≤ k }
-        ensures plan { Meets (D.plan self.old.disk) (D.plan self.new.disk)
-            (λ before after. after ≡ with_fault k before) }
+        ensures plan { Meets (D.plan self.old.disk) (D.plan self.new.disk) (λ before after. after ≡ with_fault k before) }
         ensures disk { D.disk self.new.disk ≡ D.disk self.old.disk }
         ensures events { self.new.events ≡ self.old.events }
         ensures present { self.new.present ≡ self.old.present }
@@ -694,10 +683,10 @@ impl<D: CrashFs> World<D> {
     /// is from 1.
     pub fn pick(&mut self, number: u64) -> Result<(), Taken>
         requires { 1 ≤ number }
-        ensures ok { OnOk result (Meets (D.plan self.old.disk) (D.plan self.new.disk)
-            (λ before after. after ≡ with_pick number before)) }
+        ensures ok { OnOk result (Meets (D.plan self.old.disk) (D.plan self.new.disk) (λ before after. after ≡ with_pick number before)) }
         ensures unused { OnTold (D.disk self.old.disk) (λ before. IsOk result ↔ IsUnused before number) }
         ensures err { OnErr result (IsAsBefore D.disk D.plan self.old self.new) }
+        ensures same { OnErr result (self.new ≡ self.old) }
         ensures disk { D.disk self.new.disk ≡ D.disk self.old.disk }
         ensures events { self.new.events ≡ self.old.events }
         ensures present { self.new.present ≡ self.old.present }

@@ -14,5 +14,5 @@ pub mod HaltedDisk
 pub mod Uses
 pub mod Changes
 pub mod Steps
-pub mod Low
+pub mod Indexed
 pub mod InTurn

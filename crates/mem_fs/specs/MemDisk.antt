@@ -1,6 +1,8 @@
 -- A disk in memory: the lists that it keeps, and the disk that they stand for.
-use Rattle.std.specs.Prelude.{◌≡◌, ◌⊎◌, ℕ, ◌<◌, ◌≤◌, ◌+◌, ◌-◌, ◌^◌, ◌==◌, ◌++◌, List, [], ◌∷◌, Bool, true, false, IsTrue, Option, Some, None, unwrap_or, count_by, Contains, ◌↔◌, if◌then◌else◌}
+use Rattle.std.specs.Prelude.{◌≡◌, ◌≢◌, ◌⊎◌, ℕ, ◌<◌, ◌≤◌, ◌+◌, ◌-◌, ◌^◌, ◌==◌, ◌++◌, List, [], ◌∷◌, Bool, true, false, IsTrue, Option, Some, None, unwrap_or, count_by, Contains, ◌↔◌, if◌then◌else◌}
 use Rattle.std.specs.Option.{option_map}
+use Rattle.std.specs.Ordering.{nat_cmp}
+use Rattle.std.specs.BTreeSet.{BTreeSet, contains}
 use Rattle.call_fs.specs.declared.calls.CallData.{CallData}
 use Rattle.call_fs.specs.declared.calls.Told.{Told}
 use Rattle.call_fs.specs.declared.calls.Answer.{Answer}
@@ -87,9 +89,39 @@ IsPickedNumber d (Some pick) picks n left =
 abbrev pub IsIdle : List (ℕ × Inode) → ℕ → Type 0
 IsIdle files n = (links_of files n ≡ 0) × (holds_of files n ≡ 0)
 
--- each number from 1 below this one is used
-abbrev pub AreUsedBelow : List (ℕ × Inode) → ℕ → Type 0
-AreUsedBelow files low = (n : ℕ) → 1 ≤ n → n < low → ¬ (IsIdle files n)
+-- no u64 from 1 is idle
+abbrev pub NoneIdle : List (ℕ × Inode) → Type 0
+NoneIdle files = (n : ℕ) → 1 ≤ n → n < 2 ^ 64 → ¬ (IsIdle files n)
+
+-- the least idle number from 1, and the greatest below the end of the numbers
+abbrev pub IsLeastIdle : List (ℕ × Inode) → ℕ → Type 0
+IsLeastIdle files n = (1 ≤ n) × IsIdle files n × ((lower : ℕ) → 1 ≤ lower → lower < n → ¬ (IsIdle files lower))
+
+abbrev pub IsGreatestIdle : List (ℕ × Inode) → ℕ → Type 0
+IsGreatestIdle files n = (1 ≤ n) × IsIdle files n × ((higher : ℕ) → n < higher → higher < 2 ^ 64 → ¬ (IsIdle files higher))
+
+-- the least number of a set
+abbrev pub IsLeastOf : BTreeSet ℕ → ℕ → Type 0
+IsLeastOf free n = IsTrue (contains nat_cmp free n) × ((m : ℕ) → IsTrue (contains nat_cmp free m) → n ≤ m)
+
+-- What is kept of the numbers that nothing uses: those are idle, and each idle number from 1 below `low` is among them.
+pub record IsIndexed (files : List (ℕ × Inode)) (free : BTreeSet ℕ) (low : ℕ) : Type 0 where
+  pub positive : 1 ≤ low
+  pub listed : (n : ℕ) → 1 ≤ n → n < low → IsIdle files n → IsTrue (contains nat_cmp free n)
+  pub idle : (n : ℕ) → IsTrue (contains nat_cmp free n) → (1 ≤ n) × IsIdle files n
+
+-- the same of all numbers but one, which isn't among them and may be idle
+pub record IsIndexedBeside (files : List (ℕ × Inode)) (free : BTreeSet ℕ) (low number : ℕ) : Type 0 where
+  pub positive : (1 ≤ low) × (1 ≤ number)
+  pub listed : (n : ℕ) → 1 ≤ n → n < low → n ≢ number → IsIdle files n → IsTrue (contains nat_cmp free n)
+  pub idle : (n : ℕ) → IsTrue (contains nat_cmp free n) → (1 ≤ n) × (n ≢ number) × IsIdle files n
+
+-- the same of all numbers but one, which is used and may still be among them
+pub record IsIndexedWith (files : List (ℕ × Inode)) (free : BTreeSet ℕ) (low number : ℕ) : Type 0 where
+  pub positive : 1 ≤ low
+  pub used : ¬ (IsIdle files number)
+  pub listed : (n : ℕ) → 1 ≤ n → n < low → IsIdle files n → IsTrue (contains nat_cmp free n)
+  pub idle : (n : ℕ) → IsTrue (contains nat_cmp free n) → (1 ≤ n) × (n ≢ number → IsIdle files n)
 
 -- how the entry of a file changes
 abbrev pub on_file : (File → File) → Inode → Inode

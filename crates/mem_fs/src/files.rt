@@ -1,9 +1,9 @@
 // The files of a disk in memory, by number.
-ghost use Rattle.std.specs.Prelude.{◌≡◌, ◌≢◌, ◌≤◌, ◌<◌, ◌+◌, ◌-◌, ◌^◌, ℕ, IsSome, IfSome, IfNone, IsTrue, ◌↔◌, OnOk, OnErr, length};
+ghost use Rattle.std.specs.Prelude.{◌≡◌, ◌≤◌, ◌<◌, ◌+◌, ◌-◌, ◌^◌, IsSome, IfSome, IfNone, IsTrue, ◌↔◌, OnOk, OnErr, length};
 ghost use Rattle.mail_bytes.specs.Moments.{IsMoment};
 ghost use Rattle.call_fs.specs.Apply.{grown, overwritten, cut, synced};
 ghost use Rattle.mem_fs.specs.Tables.{at_number, AreNumbersInOrder};
-ghost use Rattle.mem_fs.specs.MemDisk.{file_at, links_of, holds_of, IsIdle, AreUsedBelow, Changes, on_file, linked_inode, unlinked_inode, opened_inode, closed_inode};
+ghost use Rattle.mem_fs.specs.MemDisk.{file_at, links_of, holds_of, IsGreatestIdle, IsIdle, NoneIdle, Changes, on_file, linked_inode, unlinked_inode, opened_inode, closed_inode};
 
 use crate::file::{FileData, Inode};
 use crate::numbers;
@@ -151,48 +151,12 @@ pub fn is_idle(files: &[(u64, Inode)], number: u64) -> bool
     }
 }
 
-/// The least number from 1 that nothing uses; None only if every u64 is used. The conditions: `low` is from 1, and each
-/// number from 1 below it is used.
-pub fn least_idle(files: &[(u64, Inode)], low: u64) -> Option<u64>
-    requires in_order { AreNumbersInOrder files.now }
-    requires positive { 1 ≤ low }
-    requires used { AreUsedBelow files.now low }
-    ensures some { IfSome result (λ n. (1 ≤ n) × IsIdle files.now n
-        × ((lower : ℕ) → 1 ≤ lower → lower < n → ¬ (IsIdle files.now lower))) }
-    ensures none { IfNone result ((n : ℕ) → 1 ≤ n → n < 2 ^ 64 → ¬ (IsIdle files.now n)) }
-{
-    let mut number = low;
-    while !is_idle(files, number) {
-        number = number.checked_add(1)?;
-    }
-    Some(number)
-}
-
-/// A number from 1 below which each is used, after the uses of `number` changed. The conditions: each number from 1 below
-/// `low` is used, except maybe `number`, and both are from 1.
-pub fn low_after(files: &[(u64, Inode)], low: u64, number: u64) -> u64
-    requires in_order { AreNumbersInOrder files.now }
-    requires positive { (1 ≤ low) × (1 ≤ number) }
-    requires used { (n : ℕ) → 1 ≤ n → n < low → n ≢ number → ¬ (IsIdle files.now n) }
-    ensures positive { 1 ≤ result }
-    ensures used { AreUsedBelow files.now result }
-{
-    if is_idle(files, number) {
-        low.min(number)
-    } else if number == low {
-        low.saturating_add(1)
-    } else {
-        low
-    }
-}
-
 /// The greatest u64 that nothing uses; None only if every u64 from 1 is used.
 pub fn greatest_idle(files: &[(u64, Inode)]) -> Option<u64>
     requires { AreNumbersInOrder files.now }
     ensures fits { IfSome result (λ n. n < 2 ^ 64) }
-    ensures some { IfSome result (λ n. (1 ≤ n) × IsIdle files.now n
-        × ((higher : ℕ) → n < higher → higher < 2 ^ 64 → ¬ (IsIdle files.now higher))) }
-    ensures none { IfNone result ((n : ℕ) → 1 ≤ n → n < 2 ^ 64 → ¬ (IsIdle files.now n)) }
+    ensures some { IfSome result (IsGreatestIdle files.now) }
+    ensures none { IfNone result (NoneIdle files.now) }
 {
     let mut number = u64::MAX;
     let mut at = files.len();

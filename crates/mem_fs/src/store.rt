@@ -13,30 +13,32 @@ ghost use Rattle.call_fs.specs.Free.{IsFree, IsLeastFree, IsNextDescriptor};
 ghost use Rattle.mem_fs.specs.MemDisk.{disk_of, held_nothing, IsOpenOn, bytes_at, IsGreatestFree, NoneFree, AllOpen, with_dir, Places, PlacesNew};
 
 use crate::file::{FileData, Inode};
+use crate::free::Free;
 use crate::names::Names;
 use crate::open_file::OpenFile;
-use crate::{files, halt, names, numbers, part};
+use crate::{files, free, halt, names, numbers, part};
 use call_fs::{Fd, How, Stat, Survival, is_name};
 use mail_bytes::{ByteText, Memory};
 use std::alloc::{AllocError, Global};
-use std::collections::BTreeMap;
+use std::collections::{BTreeMap, BTreeSet};
 use std::marker::Model;
 
 /// Directories, names, files and open descriptors. A file that nothing uses any more is kept until its number is taken
-/// again. Each number from 1 below `low` is used, so that the search for the least free one starts there.
+/// again. Each number from 1 below `low` that nothing uses is among `free`, so the least free number is the first of these,
+/// or else the first one from `low` on.
 #[derive(Drop)]
 pub struct Store {
     dirs: Vec<ByteText>,
     names: Names,
     files: Vec<(u64, Inode)>,
     opens: Vec<(u64, OpenFile)>,
+    free: Free,
     low: u64,
     alloc: Global,
 }
 
 impl Model for Store {
-    ghost use Rattle.std.specs.Prelude.{◌≤◌};
-    ghost use Rattle.mem_fs.specs.MemDisk.{Held, IsSound, AreUsedBelow};
+    ghost use Rattle.mem_fs.specs.MemDisk.{Held, IsIndexed, IsSound};
     ghost use Rattle.mem_fs.specs.Tables.{texts};
 
     ghost Value = { Held };
@@ -44,7 +46,7 @@ impl Model for Store {
     ghost view = { λ s. record { dirs = s.dirs.items; names = texts s.names.entries; files = s.files.items; opens = s.opens.items } };
 
     ghost invariant = { λ s. IsSound (record { dirs = s.dirs.items; names = texts s.names.entries; files = s.files.items; opens = s.opens.items })
-        × (1 ≤ s.low) × AreUsedBelow s.files.items s.low };
+        × IsIndexed s.files.items s.free s.low };
 }
 
 impl Store {
@@ -57,6 +59,7 @@ impl Store {
             names: BTreeMap::new(alloc),
             files: Vec::new(alloc),
             opens: Vec::new(alloc),
+            free: BTreeSet::new(alloc),
             low: 1,
             alloc,
         }
@@ -95,7 +98,7 @@ impl Store {
         ensures some { IfSome result (IsLeastFree (disk_of self.now)) }
         ensures none { IfNone result (NoneFree (disk_of self.now)) }
     {
-        files::least_idle(&self.files, self.low)
+        free::least(&self.files, &self.free, self.low)
     }
 
     /// The greatest number that a new file may take; None only if each u64 from 1 is used.
@@ -104,6 +107,13 @@ impl Store {
         ensures none { IfNone result (NoneFree (disk_of self.now)) }
     {
         files::greatest_idle(&self.files)
+    }
+
+    /// Forgets which numbers are free: the next search for one begins at 1. It holds the same.
+    pub fn walk_from_one(&mut self)
+        ensures { self.new ≡ self.old }
+    {
+        self.low = 1;
     }
 
     /// The least descriptor that isn't open; None only if each u64 from 1 is open.
@@ -141,7 +151,7 @@ impl Store {
         };
         numbers::insert(&mut self.files, number, inode);
         numbers::insert(&mut self.opens, fd.0, OpenFile::created(number));
-        self.low = files::low_after(&self.files, self.low, number);
+        self.low = free::taken(&mut self.free, self.low, number, &self.files);
         Ok(())
     }
 
@@ -220,7 +230,7 @@ impl Store {
         let number = self.opened(fd);
         numbers::remove(&mut self.opens, fd.0);
         files::drop_open(&mut self.files, number);
-        self.low = files::low_after(&self.files, self.low, number);
+        self.low = free::returned(&mut self.free, self.low, number, &self.files);
     }
 
     /// Gives the file of `old` the name `new` too. After an `Err` it is as before.
@@ -245,7 +255,7 @@ impl Store {
         let number = names::number_of(&self.names, name).unwrap();
         names::remove(&mut self.names, name);
         files::drop_link(&mut self.files, number);
-        self.low = files::low_after(&self.files, self.low, number);
+        self.low = free::returned(&mut self.free, self.low, number, &self.files);
     }
 
     /// The number of an open descriptor.
@@ -304,6 +314,7 @@ impl Store {
         let files = halt::settled_entries(alloc, how, &self.files)?;
         self.files = files;
         self.opens.clear();
+        self.free.clear();
         self.low = 1;
         Ok(())
     }
@@ -351,6 +362,7 @@ impl Store {
             file,
         };
         numbers::insert(&mut self.files, number, inode);
+        self.low = free::taken(&mut self.free, self.low, number, &self.files);
         Ok(())
     }
 }

@@ -1,5 +1,5 @@
 -- What the posts answered, one after another.
-use Rattle.std.proofs.Common.{◌≡◌, ℕ, List, [], ◌∷◌, ◌++◌, flat_map, Bool, true, false, Option, Some, None, Ok, Err, Result, OnOk, IfOk, refl, sym, ap, ◌∙◌, subst, ⊎_elim, append_assoc}
+use Rattle.std.proofs.Common.{◌≡◌, ℕ, List, [], ◌∷◌, ◌++◌, flat_map, Bool, true, false, Option, Some, None, Ok, Err, Result, OnOk, IfOk, refl, sym, ap, ◌∙◌, subst, ⊎_elim, append_assoc, arith}
 use Rattle.std.specs.declared.alloc.AllocError.{AllocError}
 use Rattle.mail_bytes.specs.Told.{Meets, OnTold, Records}
 use Rattle.outside.specs.Streams.{CountsFailures}
@@ -7,7 +7,9 @@ use Rattle.outside.specs.Children.{Arrival, Posted, IsFailedPost, Receives, arri
 use Rattle.outside.specs.declared.posts.Post.{Post}
 use Rattle.outside.specs.declared.posts.Post.TheVariants as post
 use Rattle.outside.specs.declared.posts.Waiting.{Waiting}
-use Rattle.program_runner.specs.Lines.{LineState, brought, piece_of}
+use Rattle.program_runner.specs.Lines.{IsNoTurn, LineState, brought, piece_of}
+use Rattle.std.specs.List.{All}
+use Rattle.std.proofs.lemmas.List.Elements.{All-push}
 use Rattle.program_runner.specs.Serving.{PostsTold, Answers, IsGathered, IsHeard}
 use Rattle.program_runner.proofs.Deeds.{kept_one}
 use Rattle.program_runner.proofs.Members.{answered_nothing, answered_then, flat_more}
@@ -52,6 +54,12 @@ a_turn (post.End chan) into none = absurd (cc)
 a_turn (post.Failed chan) into none = absurd (cc)
 a_turn post.Turn into none = refl
 
+no_turn : (answer : Post) (into : List ℕ) (piece : Waiting) → piece ∷ [] ≡ piece_of answer (posted answer into).bytes → IsNoTurn (posted answer into)
+no_turn (post.Bytes chan len) into piece is = λ e. absurd (cc)
+no_turn (post.End chan) into piece is = λ e. absurd (cc)
+no_turn (post.Failed chan) into piece is = λ e. absurd (cc)
+no_turn post.Turn into piece is = absurd (cc)
+
 pieces : (answer : Post) (into : List ℕ) → piece_of answer (posted answer into).bytes ≡ piece_of (posted answer into).answer (posted answer into).bytes
 pieces (post.Bytes chan len) into = refl
 pieces (post.End chan) into = refl
@@ -75,7 +83,7 @@ module _ (answer : Post) (into : List ℕ) (old new : PostsTold) (waiting : Meet
   pub heard_turn : (l : LineState) → [] ≡ piece_of answer (posted answer into).bytes → IsHeard l l (Ok true) old new
   heard_turn l none = record {
     post = posted answer into;
-    kept = (ap (λ (t : List Waiting). record l { kept = t }) (sym (nothing_more l.kept) ∙ ap (λ (t : List Waiting). l.kept ++ t) (none ∙ pieces answer into)), λ h. a_turn answer into none);
+    kept = (ap (λ (t : List Waiting). record l { kept = t }) (sym (nothing_more l.kept) ∙ ap (λ (t : List Waiting). l.kept ++ t) (none ∙ pieces answer into)), λ h. a_turn answer into none, λ h. absurd (cc));
     none = none_at_turn answer into old.waiting new.waiting none waiting;
     answers = answered answer into old new waiting told cause;
   }
@@ -83,7 +91,7 @@ module _ (answer : Post) (into : List ℕ) (old new : PostsTold) (waiting : Meet
   pub heard_piece : (l m : LineState) (piece : Waiting) → piece ∷ [] ≡ piece_of answer (posted answer into).bytes → m ≡ record l { kept = l.kept ++ piece ∷ [] } → IsHeard l m (Ok false) old new
   heard_piece l m piece is keeps = record {
     post = posted answer into;
-    kept = (keeps ∙ ap (λ (t : List Waiting). record l { kept = l.kept ++ t }) (is ∙ pieces answer into), λ h. absurd (cc));
+    kept = (keeps ∙ ap (λ (t : List Waiting). record l { kept = l.kept ++ t }) (is ∙ pieces answer into), λ h. absurd (cc), λ h. no_turn answer into piece is);
     none = tt;
     answers = answered answer into old new waiting told cause;
   }
@@ -98,11 +106,12 @@ module _ (answer : Post) (into : List ℕ) (old new : PostsTold) (waiting : Meet
 
 pub record HasKept (old new : LineState) (before after : PostsTold) : Type 0 where
   pub asked : List Posted
+  pub first : All IsNoTurn asked
   pub keeps : new ≡ record old { kept = old.kept ++ brought asked }
   pub answers : Answers asked before after
 
 pub kept_nothing : (l : LineState) (p : PostsTold) → HasKept l l p p
-kept_nothing l p = record { asked = []; keeps = ap (λ (t : List Waiting). record l { kept = t }) (sym (nothing_more l.kept)); answers = answered_nothing p }
+kept_nothing l p = record { asked = []; first = λ k d few. absurd (omega (arith, few)); keeps = ap (λ (t : List Waiting). record l { kept = t }) (sym (nothing_more l.kept)); answers = answered_nothing p }
 
 module _ (old mid new : LineState) (p q r : PostsTold) (h : HasKept old mid p q) where
   keeps_more : (post : Posted) → new ≡ record mid { kept = mid.kept ++ piece_of post.answer post.bytes } → new ≡ record old { kept = old.kept ++ brought (h.asked ++ post ∷ []) }
@@ -112,9 +121,10 @@ module _ (old mid new : LineState) (p q r : PostsTold) (h : HasKept old mid p q)
       (append_assoc old.kept (brought h.asked) (piece_of post.answer post.bytes)
       ∙ ap (λ (t : List Waiting). old.kept ++ t) (ap (λ (t : List Waiting). brought h.asked ++ t) (sym (nothing_more (piece_of post.answer post.bytes))) ∙ sym (flat_more (λ (p : Posted). piece_of p.answer p.bytes) h.asked (post ∷ []))))
 
-  keeps_one : (turned : Bool) → IsHeard mid new (Ok turned) q r → HasKept old new p r
-  keeps_one turned heard = record {
+  keeps_one : IsHeard mid new (Ok false) q r → HasKept old new p r
+  keeps_one heard = record {
     asked = h.asked ++ heard.post ∷ [];
+    first = All-push IsNoTurn h.asked heard.post h.first (heard.kept.2 refl);
     keeps = keeps_more heard.post heard.kept.0;
     answers = answered_then h.asked (heard.post ∷ []) p q r h.answers heard.answers;
   }
@@ -122,13 +132,13 @@ module _ (old mid new : LineState) (p q r : PostsTold) (h : HasKept old mid p q)
   gathers : IsHeard mid new (Ok true) q r → IsGathered old new true p r
   gathers heard = record {
     asked = h.asked ++ heard.post ∷ [];
-    kept = λ is. record { before = h.asked; turned = ap (λ (t : Posted). h.asked ++ t ∷ []) (heard.kept.1 refl); keeps = keeps_more heard.post heard.kept.0 };
+    kept = λ is. record { before = h.asked; first = h.first; turned = ap (λ (t : Posted). h.asked ++ t ∷ []) (heard.kept.1 refl); keeps = keeps_more heard.post heard.kept.0 };
     none = λ is. heard.none;
     answers = answered_then h.asked (heard.post ∷ []) p q r h.answers heard.answers;
   }
 
-  pub kept_more : (result : Result Bool AllocError) (turned : Bool) → result ≡ Ok turned → IsHeard mid new result q r → HasKept old new p r
-  kept_more result turned is heard = keeps_one turned (subst (λ o. IsHeard mid new o q r) is heard)
+  pub kept_more : (result : Result Bool AllocError) (turned : Bool) → result ≡ Ok turned → turned ≡ false → IsHeard mid new result q r → HasKept old new p r
+  kept_more result turned is holds heard = keeps_one (subst (λ o. IsHeard mid new o q r) (is ∙ ap (λ (t : Bool). Ok t) holds) heard)
 
   pub kept_all : (result : Result Bool AllocError) (turned : Bool) → result ≡ Ok turned → turned ≡ true → IsHeard mid new result q r → IsGathered old new true p r
   kept_all result turned is holds heard = gathers (subst (λ o. IsHeard mid new o q r) (is ∙ ap (λ (t : Bool). Ok t) holds) heard)

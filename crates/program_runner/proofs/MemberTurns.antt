@@ -1,5 +1,5 @@
 -- One turn of a program with channels.
-use Rattle.std.proofs.Common.{◌≡◌, ◌≢◌, ℕ, ◌≤◌, List, [], ◌∷◌, true, false, Option, Some, None, refl, sym, ap, ◌∙◌, subst, arith}
+use Rattle.std.proofs.Common.{◌≡◌, ◌≢◌, ℕ, ◌≤◌, List, [], ◌∷◌, true, false, Option, Some, None, refl, sym, ap, ◌∙◌, subst, inl, inr, arith}
 use Rattle.call_fs.specs.declared.calls.CallData.{CallData}
 use Rattle.call_fs.specs.declared.past.ChildData.{ChildData}
 use Rattle.call_fs.specs.declared.past.NeedData.{NeedData}
@@ -49,6 +49,16 @@ may_serve (lent.Start child) carried file ended = tt
 may_serve (lent.Command bytes) carried file ended = absurd carried
 may_serve lent.Wait carried file ended = tt
 may_serve (lent.Ended status) carried file ended = absurd (ended status refl)
+
+-- what is no end isn't
+pub not_at_end : (n : Need) → ((s : ℕ) → n ≢ lent.Ended s) → IsNoEnd (due_of n)
+not_at_end (lent.File c) other = tt
+not_at_end (lent.Take p) other = tt
+not_at_end (lent.Give p bytes) other = tt
+not_at_end (lent.Start child) other = tt
+not_at_end (lent.Command bytes) other = tt
+not_at_end lent.Wait other = tt
+not_at_end (lent.Ended status) other = absurd (other status refl)
 
 -- what is due may be served
 pub served_now_by : {A : Type 0} (next : A → Table) (before looked : A → List Own → Type 0) (disk : Option Disk) (present : ℕ) (found : Ready) (n : Need)
@@ -174,6 +184,9 @@ module _ (words : ChildData → List (List ℕ)) (old new : Beside) (mid : LineS
       tends = tends_act (record { read = now; ready = ready; due = due; came = came }) calls is_ready moments spawns serves;
     }
 
+    due_by : (args : A) (past : List Own) → looked args past → next args past now ready ≡ asked
+    due_by args past l = sym (says args past l ∙ ap (λ (n : ℕ). next args past n found) present_is ∙ ap (λ (r : Ready). next args past now r) found_is)
+
     -- a look and nothing else
     pub idles : (due : NeedData) (o n : Outside) → asked ≡ due → Looks now o n → new.spawner ≡ old.spawner → LeadsToNone due mid → new.lines ≡ mid → Idles next words before due o n old new
     idles due o n is outside spawner none lines = record {
@@ -183,15 +196,40 @@ module _ (words : ChildData → List (List ℕ)) (old new : Beside) (mid : LineS
       says = λ args past b. due_by args past (looks args past b) ∙ is;
       looks = outside;
       tends = tends_look now ready due is_ready moments spawner none lines;
-    } where
-      due_by : (args : A) (past : List Own) → looked args past → next args past now ready ≡ asked
-      due_by args past l = sym (says args past l ∙ ap (λ (n : ℕ). next args past n found) present_is ∙ ap (λ (r : Ready). next args past now r) found_is)
+    }
 
     pub waits : (look : Look) → look now ready → (due : NeedData) (o n : Outside) → asked ≡ due → Looks now o n → new.spawner ≡ old.spawner → HasToWait due mid → new.lines ≡ mid
         → Waits next words before looked look o n old new
     unfolding idles
     waits look became due o n is outside spawner quiet lines =
         record { due = due; on = no_end due mid quiet; idles = idles due o n is outside spawner (leads_to_none due mid quiet) lines; stands = looks; became = became }
+
+    -- it ran out of memory after its look
+    pub asks_all : (due : NeedData) (o n : Outside) → asked ≡ due → IsNoEnd due → o.last ≤ now → n.last ≡ now
+        → n ≡ record o { last = n.last; taken = n.taken; output_faults = n.output_faults } → n.taken ≡ o.taken → n.output_faults ≡ o.output_faults → new.spawner ≡ old.spawner → Asks next before o n old new
+    asks_all due o n is on later last rest taken faults spawner = record {
+      asked = g.asked;
+      posts = g.answers;
+      read = now ∷ [];
+      moments = kept_one old.moments new.moments now moments;
+      on = inr (
+        now,
+        refl,
+        record {
+          gathered = mid;
+          gathers = g.kept refl;
+          ready = ready;
+          is_ready = is_ready;
+          due = due;
+          on = on;
+          says = λ args past b. due_by args past (looks args past b) ∙ is;
+        },
+      );
+      later = subst (λ k. o.last ≤ k) (sym last) later;
+      rest = rest ∙ ap (λ (t : Option (List ℕ)). record o { last = n.last; taken = t; output_faults = n.output_faults }) taken
+          ∙ ap (λ (f : ℕ). record o { last = n.last; output_faults = f }) faults;
+      spawner = spawner;
+    }
 
 -- a look at the clock
 pub looks_so : (old new : Outside) (read : ℕ) → IsMoment read → old.last ≤ read → Records old.moments new.moments read → new.last ≡ read
@@ -203,28 +241,16 @@ looks_so old new read moment later moments last same = record {
   rest = same ∙ ap (λ (n : ℕ). record old { moments = new.moments; last = n }) last;
 }
 
--- a turn that ran out of memory at its posts, or after its look
-pub asks_posts : (o : Outside) (old new : Beside) (mid : LineState) → IsGathered old.lines mid false old.posts new.posts → new.moments ≡ old.moments → new.spawner ≡ old.spawner → Asks o o old new
-asks_posts o old new mid g moments spawner = record {
+-- a turn that ran out of memory at its posts
+pub asks_posts : {A : Type 0} (next : A → Table) (before : A → List Own → Type 0) (o : Outside) (old new : Beside) (mid : LineState) → IsGathered old.lines mid false old.posts new.posts → new.moments ≡ old.moments → new.spawner ≡ old.spawner → Asks next before o o old new
+asks_posts next before o old new mid g moments spawner = record {
   asked = g.asked;
   posts = g.answers;
   read = [];
   moments = subst (λ m. AreKept old.moments m []) (sym moments) (kept_none old.moments);
+  on = inl refl;
   later = omega arith;
   rest = refl;
-  spawner = spawner;
-}
-
-pub asks_all : (o n : Outside) (old new : Beside) (mid : LineState) (read : ℕ) → IsGathered old.lines mid true old.posts new.posts → Records old.moments new.moments read → o.last ≤ read → n.last ≡ read
-    → n ≡ record o { last = n.last; taken = n.taken; output_faults = n.output_faults } → n.taken ≡ o.taken → n.output_faults ≡ o.output_faults → new.spawner ≡ old.spawner → Asks o n old new
-asks_all o n old new mid read g moments later last rest taken faults spawner = record {
-  asked = g.asked;
-  posts = g.answers;
-  read = read ∷ [];
-  moments = kept_one old.moments new.moments read moments;
-  later = subst (λ k. o.last ≤ k) (sym last) later;
-  rest = rest ∙ ap (λ (t : Option (List ℕ)). record o { last = n.last; taken = t; output_faults = n.output_faults }) taken
-      ∙ ap (λ (f : ℕ). record o { last = n.last; output_faults = f }) faults;
   spawner = spawner;
 }
 

@@ -17,7 +17,7 @@ use Rattle.program_runner.specs.Outside.{Outside, AreKept, Looks}
 use Rattle.program_runner.specs.Runs.{Change, Did}
 use Rattle.program_runner.specs.Lines.{Fosters, HasOne, IsFailedAnswer, IsFailedCall, brought, piece_of}
 use Rattle.program_runner.specs.Serving.{PostsTold, Answers, SpawnerTold, Spawns, BringsSome, HasBytes}
-use Rattle.program_runner.specs.Members.{Beside, Look, Step, Acts, Idles, Waits, Asks, IsCarried, IsCut, IsRunOf, IsTurnOf, DidBeside, GoesOnStill, HasEndedSo, MayAct, Tends, WasCut, all_asked, all_calls, all_read, asked_in, calls_in, events_of, read_in}
+use Rattle.program_runner.specs.Members.{Beside, Look, Step, Acts, Idles, Waits, Asks, IsCarried, IsCut, IsRunOf, IsTurnOf, DidBeside, GoesOnStill, HasEndedSo, LooksOn, MayAct, Tends, WasCut, all_asked, all_calls, all_read, asked_in, calls_in, events_of, read_in}
 use Rattle.program_runner.specs.Members.Step.{Acted, Looked}
 use Rattle.program_runner.proofs.Deeds.{did_nothing, did_more, kept_more, kept_none, kept_one, meets_then, open_after}
 use Rattle.program_runner.proofs.Serves.{asked_nothing}
@@ -82,6 +82,32 @@ spawned_then a b old mid new d e = record {
   counts = le_later old.faults mid.faults new.faults d.counts e.counts;
   cause = λ h. ⊎_elim (λ k. rose_later old.faults mid.faults new.faults (d.cause k) e.counts) (λ k. rose_earlier old.faults mid.faults new.faults d.counts (e.cause k))
       (one_of IsFailedCall a b h);
+}
+
+-- a turn that only asked, of a machine that stood for more
+pub asks_so : {A : Type 0} (next : A → Table) (before others : A → List Own → Type 0) (old new : Outside) (b n : Beside) → ((args : A) (past : List Own) → others args past → before args past)
+    → Asks next before old new b n → Asks next others old new b n
+asks_so next before others old new b n so a = record {
+  asked = a.asked;
+  posts = a.posts;
+  read = a.read;
+  moments = a.moments;
+  on = ⊎_elim (λ none. inl none) (λ (m : (moment : ℕ) × (a.read ≡ moment ∷ []) × LooksOn next before a.asked moment b.lines). inr (
+    m.0,
+    m.1,
+    record {
+      gathered = m.2.gathered;
+      gathers = m.2.gathers;
+      ready = m.2.ready;
+      is_ready = m.2.is_ready;
+      due = m.2.due;
+      on = m.2.on;
+      says = λ args past o. m.2.says args past (so args past o);
+    },
+  )) a.on;
+  later = a.later;
+  rest = a.rest;
+  spawner = a.spawner;
 }
 
 -- One turn more
@@ -234,8 +260,16 @@ module _ {A : Type 0} (next : A → Table) (words : ChildData → List (List ℕ
       rest = inl (refl, refl);
     }
 
-    cut_asking : Asks mid new m n → WasCut next words roomy possible start old new b n
-    cut_asking a = record { turns = r.turns; mid = mid; mid_beside = m; on = r.on; ran = r.ran; rest = inr a }
+    cut_asking : Asks next before mid new m n → WasCut next words roomy possible start old new b n
+    cut_asking a = record {
+      turns = r.turns;
+      mid = mid;
+      mid_beside = m;
+      on = r.on;
+      ran = r.ran;
+      rest = inr (asks_so next before (λ args past. possible args × (past ≡ events_of r.turns)) mid new m n
+          (λ args past is. subst (λ (p : List Own). before args p) (sym is.1) (r.holds args is.0)) a);
+    }
 
     pub was_cut : (result : Result (Option ℕ) AllocError) (why : AllocError) → result ≡ Err why → IsTurnOf next words room before after change look result mid new m n
         → WasCut next words roomy possible start old new b n

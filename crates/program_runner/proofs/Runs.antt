@@ -1,5 +1,6 @@
 -- Runs that begin, go on and end.
-use Rattle.std.proofs.Common.{◌≡◌, ℕ, ◌+◌, ◌≤◌, List, [], ◌∷◌, Option, Some, None, refl, subst, arith}
+use Rattle.std.proofs.Common.{◌≡◌, ℕ, ◌+◌, ◌≤◌, List, [], ◌∷◌, Option, Some, None, Result, Ok, Err, OnErr, refl, subst, arith}
+use Rattle.std.specs.declared.alloc.AllocError.{AllocError}
 use Rattle.call_fs.specs.declared.program.Ready.{Ready}
 use Rattle.call_fs.specs.declared.past.Own.{Own}
 use Rattle.call_fs.specs.Past.{Table, IsRunBy}
@@ -44,6 +45,13 @@ module _ {A : Type 0} (next : A → Table) (ready : Ready) (start : ℕ) where
         run = λ args is. (r.run args is, (g.due args r.past (r.holds args is), g.came));
         did = did_more start r.past g.event old mid new r.did g.does;
       }
+
+  -- memory ran out at what came of one event more
+  pub cut_short : {X : Type 0} (before : A → List Own → Type 0) (change : Change) (possible : A → Type 0) (turns : ℕ) (old mid new : Outside) (result : Result X AllocError)
+      → IsRunning next before possible ready start turns old mid → GoesOn next before (λ args past. Unit {0}) change ready mid new
+      → OnErr result ((turns : ℕ) × IsRunning next (λ args past. Unit {0}) possible ready start turns old new)
+  cut_short before change possible turns old mid new (Ok x) r g = tt
+  cut_short before change possible turns old mid new (Err why) r g = (turns + 1, goes_on before (λ args past. Unit {0}) change possible turns old mid new r g)
 
   pub as_long : (stands : A → List Own → Type 0) (possible : A → Type 0) (turns most : ℕ) (old now : Outside) → turns ≡ most
       → IsRunning next stands possible ready start turns old now → IsRunning next stands possible ready start most old now

@@ -1,5 +1,6 @@
 -- One turn: its call may be made, and its event goes on.
-use Rattle.std.proofs.Common.{◌≡◌, ◌≢◌, ℕ, ◌≤◌, List, [], ◌∷◌, ◌++◌, length, take, Option, Some, None, refl, sym, ap, ◌∙◌, subst, arith}
+use Rattle.std.proofs.Common.{◌≡◌, ◌≢◌, ℕ, ◌≤◌, List, [], ◌∷◌, ◌++◌, length, take, Option, Some, None, Result, Ok, Err, OnErr, refl, sym, ap, ◌∙◌, subst, arith}
+use Rattle.std.specs.declared.alloc.AllocError.{AllocError}
 use Rattle.call_fs.specs.declared.calls.CallData.{CallData}
 use Rattle.call_fs.specs.declared.calls.CallData.TheVariants as call
 use Rattle.call_fs.specs.declared.calls.Answer.{Answer}
@@ -264,3 +265,9 @@ module _ (read : ℕ) (ready : Ready) where
   gave_part (Some x) (Some y) bytes (k, few, is) = (take k bytes, (k, few, refl), is)
   gave_part (Some x) None bytes m = absurd m
   gave_part None (Some y) bytes m = absurd m
+
+-- A turn that failed
+
+pub on_err : {X : Type 0} (result : Result X AllocError) (P : Type 0) → P → OnErr result P
+on_err (Ok x) P is = tt
+on_err (Err why) P is = is

@@ -1,7 +1,7 @@
 -- The channels of a program: which one each of its pipes is, what came of them and wasn't taken yet, and what is done with
 -- them.
-use Rattle.std.specs.Prelude.{◌≡◌, ◌⊎◌, ℕ, ◌<◌, List, [], ◌∷◌, ◌++◌, length, set, slice_get, slice_index_or, position, flat_map, Bool, true, false, ◌==◌, ◌||◌, Option, Some, None, is_some}
-use Rattle.std.specs.List.{remove}
+use Rattle.std.specs.Prelude.{◌≡◌, ◌≢◌, ◌⊎◌, ℕ, ◌<◌, List, [], ◌∷◌, ◌++◌, length, set, slice_get, slice_index_or, position, flat_map, Bool, true, false, ◌==◌, ◌||◌, Option, Some, None, is_some}
+use Rattle.std.specs.List.{All, remove}
 use Rattle.call_fs.specs.declared.program.Port.{Port}
 use Rattle.call_fs.specs.declared.program.Port.TheVariants as port
 use Rattle.call_fs.specs.declared.program.Ready.{Ready}
@@ -130,9 +130,14 @@ ready_of l = record {
   child = position (has_ended l.kept) l.programs;
 }
 
--- Nothing more is waiting: the last answer was a turn. All that came by these answers is kept.
+-- something was waiting
+abbrev pub IsNoTurn : Posted → Type 0
+IsNoTurn p = p.answer ≢ post.Turn
+
+-- Nothing more is waiting: the last answer was a turn, and none before it. All that came by these answers is kept.
 pub record Gathers (old : LineState) (asked : List Posted) (new : LineState) : Type 0 where
   pub before : List Posted
+  pub first : All IsNoTurn before
   pub turned : asked ≡ before ++ record { answer = post.Turn; bytes = [] } ∷ []
   pub keeps : new ≡ record old { kept = old.kept ++ brought asked }
 

@@ -9,7 +9,7 @@ use Rattle.call_fs.specs.declared.past.NeedData.TheVariants.{Take, Command, Wait
 use Rattle.call_fs.specs.declared.past.Own.{Own}
 use Rattle.call_fs.specs.Disk.{Disk}
 use Rattle.call_fs.specs.Past.{Table, IsRunBy, Backs, held}
-use Rattle.mail_bytes.specs.Told.{Records, OnTold}
+use Rattle.mail_bytes.specs.Told.{Records, OnTold, raised}
 use Rattle.outside.specs.Children.{Posted, SpawnCall}
 use Rattle.program_runner.specs.Outside.{Outside, AreKept, Looks}
 use Rattle.program_runner.specs.Runs.{Change, GoesOn, Did, most_turns}
@@ -127,12 +127,23 @@ pub record Waits {A : Type 0} (next : A → Table) (words : ChildData → List (
   pub stands : (args : A) (past : List Own) → before args past → after args past
   pub became : look idles.read idles.ready
 
--- Nothing was done but to ask the posts and the clock.
-pub record Asks (old new : Outside) (beside now : Beside) : Type 0 where
+-- It looked at this moment, once these posts had come, and something else than the end was due.
+pub record LooksOn {A : Type 0} (next : A → Table) (before : A → List Own → Type 0) (asked : List Posted) (read : ℕ) (lines : LineState) : Type 0 where
+  pub gathered : LineState
+  pub gathers : Gathers lines asked gathered
+  pub ready : Ready
+  pub is_ready : ready ≡ ready_of gathered
+  pub due : NeedData
+  pub on : IsNoEnd due
+  pub says : (args : A) (past : List Own) → before args past → next args past read ready ≡ due
+
+-- Nothing was done but to ask the posts and maybe the clock. If the clock was asked, the program wasn't at its end.
+pub record Asks {A : Type 0} (next : A → Table) (before : A → List Own → Type 0) (old new : Outside) (beside now : Beside) : Type 0 where
   pub asked : List Posted
   pub posts : Answers asked beside.posts now.posts
   pub read : List ℕ
   pub moments : AreKept beside.moments now.moments read
+  pub on : (read ≡ []) ⊎ ((moment : ℕ) × (read ≡ moment ∷ []) × LooksOn next before asked moment beside.lines)
   pub later : old.last ≤ new.last
   pub rest : new ≡ record old { last = new.last }
   pub spawner : now.spawner ≡ beside.spawner
@@ -140,7 +151,7 @@ pub record Asks (old new : Outside) (beside now : Beside) : Type 0 where
 -- A turn that ran out of memory: its event is one more, or nothing was done.
 abbrev pub IsCut : {A : Type 0} → (A → Table) → (ChildData → List (List ℕ)) → ℕ → (A → List Own → Type 0) → Outside → Outside → Beside → Beside → Type 0
 IsCut next words room before old new beside now =
-    Acts next words room before (λ args past. Unit {0}) (λ read ready came. Unit {0}) old new beside now ⊎ Asks old new beside now
+    Acts next words room before (λ args past. Unit {0}) (λ read ready came. Unit {0}) old new beside now ⊎ Asks next before old new beside now
 
 -- A turn, with room for so many bytes of a taking. It answers a status exactly if it finds the program at its end.
 abbrev pub IsTurnOf : {A : Type 0} → (A → Table) → (ChildData → List (List ℕ)) → ℕ → (A → List Own → Type 0) → (A → List Own → Type 0) → Change → Look → Result (Option ℕ) AllocError → Outside → Outside → Beside → Beside → Type 0
@@ -149,6 +160,11 @@ IsTurnOf next words room before after change look (Ok None) old new beside now =
     ⊎ Waits next words before after look old new beside now
 IsTurnOf next words room before after change look (Ok (Some status)) old new beside now = Idles next words before (Ended status) old new beside now
 IsTurnOf next words room before after change look (Err why) old new beside now = IsCut next words room before old new beside now
+
+-- The looks in a row that found nothing to do are counted: one more after a turn that was such a look alone, none after one that
+-- did something.
+abbrev pub CountsLooks : ℕ → ℕ → Type 0 → Type 0 → Type 0
+CountsLooks before after acted looked = ((after ≡ 0) × acted) ⊎ ((after ≡ raised before) × looked)
 
 -- Whole runs
 
@@ -247,7 +263,7 @@ pub record WasCut {A : Type 0} (next : A → Table) (words : ChildData → List 
   pub mid_beside : Beside
   pub on : AreNoEnds turns
   pub ran : IsRunOf next words roomy possible turns start old mid beside mid_beside
-  pub rest : (mid ≡ new) × (mid_beside ≡ now) ⊎ Asks mid new mid_beside now
+  pub rest : (mid ≡ new) × (mid_beside ≡ now) ⊎ Asks next (λ args past. possible args × (past ≡ events_of turns)) mid new mid_beside now
 
 -- The run of a program. Its machine may always have room for bytes (`roomy`).
 abbrev pub RanTo : {A : Type 0} → Result (Option ℕ) AllocError → (A → Table) → (ChildData → List (List ℕ)) → Type 0 → (A → List Own → Type 0) → (A → Type 0) → ℕ → Outside → Outside → Beside → Beside → Type 0

@@ -25,7 +25,7 @@ use Rattle.outside.specs.Children.SpawnCall.{AskStatus, Start as Begin}
 use Rattle.program_runner.specs.declared.served.Served.{Served}
 use Rattle.program_runner.specs.declared.served.Served.TheVariants as served
 use Rattle.program_runner.specs.Outside.{AreKept, Gives}
-use Rattle.program_runner.specs.Lines.{LineState, GivesBy, HasToWait, Fosters, IsFailedAnswer, IsFailedCall, HasOne, Gathers, TakesOf, brought, is_of, is_over, piece_of}
+use Rattle.program_runner.specs.Lines.{LineState, GivesBy, HasToWait, Fosters, IsFailedAnswer, IsFailedCall, HasOne, Gathers, IsNoTurn, TakesOf, brought, is_of, is_over, piece_of}
 
 -- What posts tell: what is waiting, the calls that they were asked, and how often they failed.
 pub record PostsTold : Type 0 where
@@ -147,6 +147,7 @@ pub record PutsOut (due : NeedData) (came : GotData) (old new : Option (List ℕ
 -- one post: what it brought is kept, and it was told whether nothing was waiting
 abbrev pub IsKept : Posted → LineState → LineState → Result Bool AllocError → Type 0
 IsKept p old new (Ok turned) = (new ≡ record old { kept = old.kept ++ piece_of p.answer p.bytes }) × (turned ≡ true → p ≡ record { answer = post.Turn; bytes = [] })
+    × (turned ≡ false → IsNoTurn p)
 IsKept p old new (Err why) = Unit {0}
 
 -- nothing is waiting after such an answer

@@ -1,7 +1,8 @@
 // One turn of a program with channels.
-ghost use Rattle.std.specs.Prelude.{None};
+ghost use Rattle.std.specs.Prelude.{◌≡◌, ℕ, IfOk, None};
+ghost use Rattle.call_fs.specs.declared.past.GotData.{GotData};
 ghost use Rattle.call_fs.specs.declared.program.Ready.{Ready as Found};
-ghost use Rattle.program_runner.specs.Members.{IsTurnOf, MayAct, uncounted};
+ghost use Rattle.program_runner.specs.Members.{CountsLooks, IsTurnOf, MayAct, uncounted};
 
 use crate::child_words::ChildWords;
 use crate::lines::Lines;
@@ -31,13 +32,16 @@ pub fn member_turn<M: Machine, D: CallFs, K: Clock, C: ChildWords, P: Posts, S: 
 ) -> Result<Option<u8>, Memory>
     requires finds { (m : M) (ready : Found) → M.can_find m ready }
     requires may { MayAct M.next (M.stands machine.old) (D.disk disk.old) }
-    ensures { IsTurnOf M.next (C.words words.now) (M.takes_at_most machine.old) (M.stands machine.old) (M.stands machine.new)
+    ensures turned { IsTurnOf M.next (C.words words.now) (M.takes_at_most machine.old) (M.stands machine.old) (M.stands machine.new)
         (λ read found came. (mid : M) × M.looks machine.old read found mid × M.goes mid came machine.new)
         (λ read found. M.looks machine.old read found machine.new) result
         (record { disk = D.disk disk.old; calls = D.calls disk.old; disk_faults = D.faults disk.old; moments = None; last = K.last clock.old; left = None; input_faults = uncounted; taken = O.taken output.old; output_faults = O.faults output.old })
         (record { disk = D.disk disk.new; calls = D.calls disk.new; disk_faults = D.faults disk.new; moments = None; last = K.last clock.new; left = None; input_faults = uncounted; taken = O.taken output.new; output_faults = O.faults output.new })
         (record { moments = K.calls clock.old; posts = record { waiting = P.waiting posts.old; asked = P.calls posts.old; faults = P.faults posts.old }; spawner = record { children = S.children spawner.old; calls = S.calls spawner.old; faults = S.faults spawner.old }; lines = lines.old })
         (record { moments = K.calls clock.new; posts = record { waiting = P.waiting posts.new; asked = P.calls posts.new; faults = P.faults posts.new }; spawner = record { children = S.children spawner.new; calls = S.calls spawner.new; faults = S.faults spawner.new }; lines = lines.new }) }
+    ensures looks { IfOk result (λ ended. ended ≡ None → CountsLooks looks.old looks.new
+        ((read : ℕ) × (found : Found) × (came : GotData) × (mid : M) × M.looks machine.old read found mid × M.goes mid came machine.new)
+        ((read : ℕ) × (found : Found) × M.looks machine.old read found machine.new)) }
 {
     M::uses_held();
     let before = *looks;

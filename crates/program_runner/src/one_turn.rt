@@ -1,11 +1,11 @@
 // One turn of a program.
-ghost use Rattle.std.specs.Prelude.{◌≡◌, min, None, Some, IfOk, IsOk};
+ghost use Rattle.std.specs.Prelude.{◌≡◌, min, None, Some, IfOk, IsOk, OnErr};
 ghost use Rattle.mail_bytes.specs.Told.{Meets};
 ghost use Rattle.outside.specs.Streams.{CountsFailures, FitsInto, TakesBytes};
 ghost use Rattle.call_fs.specs.Calls.{bytes_read};
 ghost use Rattle.program_runner.specs.Outside.{HasFew};
 ghost use Rattle.call_fs.specs.Program.{IsNearer};
-ghost use Rattle.program_runner.specs.Runs.{IsTurn, MayTurn};
+ghost use Rattle.program_runner.specs.Runs.{GoesOn, IsTurn, MayTurn};
 
 use call_fs::{Answer, CallFs, Got, Machine, Need, PIECE, Port, Ready, perform};
 use mail_bytes::Memory;
@@ -14,7 +14,7 @@ use std::alloc::Global;
 
 /// One turn of a program: it is told the moment and what is ready, and does what is due: a file call, a taking of its
 /// input, a giving to its output. None then; its exit status if it has ended. Fails only when out of memory at what came of
-/// a call that was made. The conditions: it may find this ready; and it stands for a run that asks for no more than
+/// a call that was made: that event is one more then, whatever became of the machine. The conditions: it may find this ready; and it stands for a run that asks for no more than
 /// that, and whose descriptors are open.
 pub fn turn<M: Machine, D: CallFs, K: Clock, S: Source, O: Sink>(
     alloc: Global,
@@ -29,6 +29,9 @@ pub fn turn<M: Machine, D: CallFs, K: Clock, S: Source, O: Sink>(
     requires may { MayTurn M.next (M.stands machine.old) ready (D.disk disk.old) }
     ensures turned { IfOk result (λ ended. IsTurn M.next (M.stands machine.old) (M.stands machine.new)
         (λ read found came. (mid : M) × M.looks machine.old read found mid × M.goes mid came machine.new) ready ended
+        (record { disk = D.disk disk.old; calls = D.calls disk.old; disk_faults = D.faults disk.old; moments = K.calls clock.old; last = K.last clock.old; left = S.left input.old; input_faults = S.faults input.old; taken = O.taken output.old; output_faults = O.faults output.old })
+        (record { disk = D.disk disk.new; calls = D.calls disk.new; disk_faults = D.faults disk.new; moments = K.calls clock.new; last = K.last clock.new; left = S.left input.new; input_faults = S.faults input.new; taken = O.taken output.new; output_faults = O.faults output.new })) }
+    ensures cut { OnErr result (GoesOn M.next (M.stands machine.old) (λ args past. Unit {0}) (λ read found came. Unit {0}) ready
         (record { disk = D.disk disk.old; calls = D.calls disk.old; disk_faults = D.faults disk.old; moments = K.calls clock.old; last = K.last clock.old; left = S.left input.old; input_faults = S.faults input.old; taken = O.taken output.old; output_faults = O.faults output.old })
         (record { disk = D.disk disk.new; calls = D.calls disk.new; disk_faults = D.faults disk.new; moments = K.calls clock.new; last = K.last clock.new; left = S.left input.new; input_faults = S.faults input.new; taken = O.taken output.new; output_faults = O.faults output.new })) }
     ensures nearer { IfOk result (λ ended. ended ≡ None → IsNearer (M.ahead machine.old) (M.ahead machine.new)) }

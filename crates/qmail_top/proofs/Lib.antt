@@ -8,3 +8,5 @@ pub mod Families
 pub mod Spawners
 -- which status a sender never ends with
 pub mod Senders
+-- what `make` comes to
+pub mod Made

@@ -4,3 +4,5 @@ pub mod Command
 pub mod SafePlays
 -- the commands that have children
 pub mod Families
+-- the command that makes a script
+pub mod Making

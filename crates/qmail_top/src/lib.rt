@@ -1,10 +1,11 @@
 //! The one public call, `qmail`: reads its words, and does what they say over what it is handed in.
 //!
 //! The command `play` reads a script of mails and steps, and plays it over a disk in memory; the crate `scenario` says
-//! what a script is and what it prints. `queue` puts a message into a queue (the crate `queue_command`), `audit` prints
-//! what a queue holds (`audit_command`), and `clean` runs the cleaner (`clean_command`). `lspawn` and `rspawn` run the
-//! spawners (`spawn_command`), and `local` makes a local delivery (`local_command`). `send` starts the cleaner and the spawners,
-//! and is the sender (`send_command`). The exit statuses are those of qmail-queue(8) if it has one.
+//! what a script is and what it prints. `make` prints a script of many mails (the crate `script_maker`). `queue` puts a
+//! message into a queue (`queue_command`), `audit` prints what a queue holds (`audit_command`), and `clean` runs the
+//! cleaner (`clean_command`). `lspawn` and `rspawn` run the spawners (`spawn_command`), and `local` makes a local delivery
+//! (`local_command`). `send` starts the cleaner and the spawners, and is the sender (`send_command`). The exit statuses are
+//! those of qmail-queue(8) if it has one.
 //!
 //! # What is claimed
 //!
@@ -12,6 +13,8 @@
 //!   `usage`, or a prefix of it if it failed. What each command leaves untouched: `qmail`: `usage`, `no_command`, `usage_line`,
 //!   and those of "untouched".
 //! - `queue`: a whole injection, for what the words say: `qmail`: `queue` (by `HasRunQueue`).
+//! - `make`: with status 0 the output took exactly the script of the words, and else a prefix of it. 53 only if its count of
+//!   failures rose, and otherwise that is as before: `qmail`: `make` (by `HasMade`).
 //! - `audit`: its lines, its statuses and what it leaves: `qmail`: `audit` (by `HasAudited`), `audit_unwritten`.
 //! - `clean`: a whole run of the cleaner, with the commands of standard input; or there was no memory for its
 //!   words, and nothing was done: `qmail`: `clean` (by `WasCleaned`).
@@ -35,6 +38,7 @@
 
 mod called;
 mod laws;
+mod making;
 mod play_command;
 mod refusing;
 mod sending;

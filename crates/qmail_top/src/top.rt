@@ -2,6 +2,7 @@
 ghost use Rattle.std.specs.Prelude.{◌≡◌, ◌≢◌, ◌⊎◌, ◌++◌, ◌∷◌, [], List, ℕ, true, Contains, None, length, ◌<◌, map, string_bytes};
 ghost use Rattle.mail_bytes.specs.Told.{Rose, Meets, OnTold};
 ghost use Rattle.command_words.specs.declared.command.LocalWords.{LocalWords as Told};
+ghost use Rattle.command_words.specs.declared.command.MakeWords.{MakeWords as Makes};
 ghost use Rattle.command_words.specs.declared.command.QueueWords.{QueueWords as Wanted};
 ghost use Rattle.command_words.specs.declared.command.RspawnWords.{RspawnWords as Spawns};
 ghost use Rattle.command_words.specs.declared.command.SendWords.{SendWords as Sends};
@@ -15,9 +16,11 @@ ghost use Rattle.local_parts.specs.Arguments.{local_args};
 ghost use Rattle.program_runner.specs.ChildWords.{dir_word, words_of};
 ghost use Rattle.program_runner.specs.Members.{uncounted};
 ghost use Rattle.qmail_top.specs.Families.{HasNoChannels, HasSent, IsDelivery, IsLocal, IsLspawn, IsParent, IsRspawn, IsSend, IsSender, IsSpawner, WasDelivery, WasLspawned, WasRspawned};
+ghost use Rattle.qmail_top.specs.Making.{HasMade, IsMake, IsMaker};
 ghost use Rattle.qmail_top.specs.SafePlays.{IsSafePrefixAtMost, PrintsSafely};
 ghost use Rattle.qmail_top.specs.Command.{IsPlay, IsPrintedAtEnd, IsQueue, IsAudit, IsClean, HasRunQueue, NoneFailed, WasCleaned, usage_line};
 
+use crate::making::make_script;
 use crate::play_command::play_script;
 use crate::sending::be_sender;
 use audit_command::print_audit;
@@ -37,6 +40,9 @@ use std::alloc::Global;
 /// `play` reads a script whole from `message`, checks it whole and plays it over a disk in memory; `out` gets what it
 /// prints. 0: done. 51: out of memory. 53: `out` failed. 54: `message` failed. 91: a line isn't in the grammar, or the
 /// script has over 16,777,216 bytes; `out` gets `script K`, whether it takes it or not.
+///
+/// `make` prints a script of as many mails as it is told, drawn from a seed, to `out`. 0: all was printed. 51: out of memory. 53:
+/// `out` failed.
 ///
 /// `queue` injects the message that `message` gives, for the envelope that `envelope` gives, or if its word is `-` as
 /// the second netstring of `message`, into the queue on `disk`; its exit statuses are those of qmail-queue(8).
@@ -101,6 +107,11 @@ pub fn qmail<
     ensures usage_line { IsNoCommand (map string_bytes words.now) → result ≡ USAGE → Meets (L.taken log.old) (L.taken log.new)
         (λ before after. (text : List ℕ) × IsTakenText usage_line text (Rose (L.faults log.old) (L.faults log.new))
         × (after ≡ before ++ text)) }
+
+    // `make`: what it prints, and the causes of the statuses
+    ensures make { (m : Makes) → IsMake words.now m → HasMade m
+        (record { old = O.taken out.old; new = O.taken out.new; faults_old = O.faults out.old; faults_new = O.faults out.new })
+        result }
 
     // `queue`: each file call, each reading of the clock, and why it ended so
     ensures queue { (q : Wanted) → IsQueue words.now q → HasRunQueue q (K.pid clock.old)
@@ -191,23 +202,26 @@ pub fn qmail<
     ensures told_end { IsPlay words.now → result ≡ DONE → OnTold (M.ended message.new) (λ is. is ≡ true) }
 
     // what stays untouched
-    ensures unread { IsNoCommand (map string_bytes words.now) ⊎ (IsAudit words.now ⊎ (IsSpawner words.now ⊎ IsSender words.now))
+    ensures unread { IsNoCommand (map string_bytes words.now)
+        ⊎ (IsMaker words.now ⊎ (IsAudit words.now ⊎ (IsSpawner words.now ⊎ IsSender words.now)))
         → message.new ≡ message.old }
     ensures unwritten { IsNoCommand (map string_bytes words.now) ⊎ (IsPlay words.now × (result ≡ INPUT)) → out.new ≡ out.old }
     ensures unprinted { (q : Wanted) → IsQueue words.now q → out.new ≡ out.old }
     ensures unsaid { IsSender words.now → out.new ≡ out.old }
     ensures unlogged { ¬ (IsSender words.now) → (result ≢ USAGE) ⊎ IsDelivery words.now → log.new ≡ log.old }
-    ensures disk { IsNoCommand (map string_bytes words.now) ⊎ IsPlay words.now → disk.new ≡ disk.old }
-    ensures envelope { IsNoCommand (map string_bytes words.now) ⊎ (IsPlay words.now ⊎ (IsAudit words.now ⊎ (IsClean words.now ⊎ IsParent words.now)))
+    ensures disk { IsNoCommand (map string_bytes words.now) ⊎ (IsPlay words.now ⊎ IsMaker words.now) → disk.new ≡ disk.old }
+    ensures envelope { IsNoCommand (map string_bytes words.now)
+        ⊎ (IsPlay words.now ⊎ (IsMaker words.now ⊎ (IsAudit words.now ⊎ (IsClean words.now ⊎ IsParent words.now))))
         → envelope.new ≡ envelope.old }
     ensures beside { (q : Wanted) → IsQueue words.now q → q.env ≡ None → envelope.new ≡ envelope.old }
-    ensures clock { IsNoCommand (map string_bytes words.now) ⊎ (IsPlay words.now ⊎ IsAudit words.now)
+    ensures clock { IsNoCommand (map string_bytes words.now) ⊎ (IsPlay words.now ⊎ (IsMaker words.now ⊎ IsAudit words.now))
         → clock.new ≡ clock.old }
     ensures posts { HasNoChannels words.now → posts.new ≡ posts.old }
     ensures spawn { HasNoChannels words.now → spawn.new ≡ spawn.old }
 {
     match read_words(alloc, words) {
         Ok(Command::Play) => play_script(alloc, message, out),
+        Ok(Command::Make(told)) => make_script(alloc, told, out),
         Ok(Command::Queue(queue)) => queue_message(alloc, queue, disk, message, envelope, clock),
         Ok(Command::Send(told)) => be_sender(alloc, told, disk, log, clock, posts, spawn, gate),
         Ok(Command::Audit(_)) => print_audit(alloc, disk, out),

@@ -5,12 +5,12 @@ use Rattle.std.specs.List.{AllPairs, AllWithin, insert}
 use Rattle.std.specs.List.Sorted.{IsPartitionedBy, IsPartitionPoint}
 use Rattle.std.specs.Bool.{Decides}
 use Rattle.std.proofs.lemmas.Bool.{cases_lt, cond_both}
-use Rattle.std.proofs.lemmas.Bool.Decides.{Decides-or, Decides-and, Decides-ltb, Decides-eqb, Decides-not, not_from_Decides}
+use Rattle.std.proofs.lemmas.Bool.Decides.{Decides-or, Decides-and, Decides-ltb, Decides-eqb, Decides-not, not_from_Decides, leb_tells}
 use Rattle.std.proofs.lemmas.List.{take-append-drop, get_or-take, get_or-drop, get_or_default, length-take, length-drop, append-nil}
 use Rattle.std.proofs.lemmas.List.Elements.{All-nil, All-cons, All-head, All-tail, All-append, All-filter, All-weaker, All-contains, All-contains_itself, filter_passes, filter-append, Contains-append_left, Contains-append_right, Contains-append_cases, Contains-get_or}
 use Rattle.std.proofs.lemmas.List.Filters.{length-filter_both}
 use Rattle.std.proofs.lemmas.List.Kept.{AllPairs-cons, AllPairs-filter}
-use Rattle.retry_schedule.specs.Due.{IsBefore, before, IsInOrder, IsSchedule, HasNoEntry, IsFirst, added, is_due, removed}
+use Rattle.retry_schedule.specs.Due.{IsBefore, before, IsInOrder, IsSchedule, HasNoEntry, IsFirst, added, first_due, is_due, put, removed}
 
 -- The order of entries.
 
@@ -19,18 +19,18 @@ before_decides a b =
     Decides-or (ltb a.0 b.0) (eqb a.0 b.0 && ltb a.1 b.1) (Decides-ltb a.0 b.0)
     (Decides-and (eqb a.0 b.0) (ltb a.1 b.1) (Decides-eqb a.0 b.0) (Decides-ltb a.1 b.1))
 
-before_trans : (a b c : ℕ × ℕ) → IsBefore a b → IsBefore b c → IsBefore a c
+pub before_trans : (a b c : ℕ × ℕ) → IsBefore a b → IsBefore b c → IsBefore a c
 before_trans a b c h k =
     ⊎_elim
     (λ lt. ⊎_elim (λ more. inl (omega arith)) (λ same. inl (omega arith)) k)
     (λ eq. ⊎_elim (λ more. inl (omega arith)) (λ same. inr (omega arith, omega arith)) k)
     h
 
-before_one_way : (a b : ℕ × ℕ) → IsBefore a b → IsBefore b a → ⊥
+pub before_one_way : (a b : ℕ × ℕ) → IsBefore a b → IsBefore b a → ⊥
 before_one_way a b h k =
     ⊎_elim (λ lt. ⊎_elim (λ more. omega arith) (λ same. omega arith) k) (λ eq. ⊎_elim (λ more. omega arith) (λ same. omega arith) k) h
 
-same_entry : (a b : ℕ × ℕ) → a.0 ≡ b.0 → a.1 ≡ b.1 → a ≡ b
+pub same_entry : (a b : ℕ × ℕ) → a.0 ≡ b.0 → a.1 ≡ b.1 → a ≡ b
 same_entry a b p q = ap (λ (x : ℕ). let e : ℕ × ℕ = (x, a.1) in e) p ∙ ap (λ (y : ℕ). let e : ℕ × ℕ = (b.0, y) in e) q
 
 -- two entries are one, or one is before the other
@@ -50,7 +50,7 @@ not_before a b h apart =
 
 -- What filters keep.
 
-filter_all : (p : ℕ × ℕ → Bool) (xs : List (ℕ × ℕ)) → All (λ x. p x ≡ true) xs → filter p xs ≡ xs
+pub filter_all : (p : ℕ × ℕ → Bool) (xs : List (ℕ × ℕ)) → All (λ x. p x ≡ true) xs → filter p xs ≡ xs
 filter_all p [] h = refl
 filter_all p (x ∷ xs) h =
     ap (λ t. cond t (x ∷ filter p xs) (filter p xs)) (All-head (λ x. p x ≡ true) x xs h)
@@ -93,7 +93,7 @@ in_order_parts e es order i j d le lt h =
 before_place : (e : ℕ × ℕ) (es : List (ℕ × ℕ)) (i : ℕ) → IsPartitionPoint (λ o. before o e ≡ true) (λ o. before o e ≡ false) es i → take i es ≡ filter (λ o. before o e) es
 before_place e es i at = filter_first (λ o. before o e) es i (within_take (λ o. before o e ≡ true) es i at.0) (within_drop (λ o. before o e ≡ false) es i at.1)
 
-not_true : (b : Bool) → (b ≡ true → ⊥) → b ≡ false
+pub not_true : (b : Bool) → (b ≡ true → ⊥) → b ≡ false
 not_true true h = absurd (h refl)
 not_true false h = refl
 
@@ -111,7 +111,7 @@ place_is e es i free at = ap (λ t. t ++ e ∷ drop i es) (before_place e es i a
 
 -- Pairs of a list.
 
-AllPairs-tail : (R : ℕ × ℕ → ℕ × ℕ → Type 0) (x : ℕ × ℕ) (xs : List (ℕ × ℕ)) → AllPairs R (x ∷ xs) → AllPairs R xs
+pub AllPairs-tail : (R : ℕ × ℕ → ℕ × ℕ → Type 0) (x : ℕ × ℕ) (xs : List (ℕ × ℕ)) → AllPairs R (x ∷ xs) → AllPairs R xs
 AllPairs-tail R x xs h i j d lt high = h (suc i) (suc j) d (omega arith) (omega arith)
 
 pub AllPairs-head : (R : ℕ × ℕ → ℕ × ℕ → Type 0) (x : ℕ × ℕ) (xs : List (ℕ × ℕ)) → AllPairs R (x ∷ xs) → All (R x) xs
@@ -125,13 +125,13 @@ AllPairs-append R (x ∷ xs) ys h k w =
 
 -- What is in a filtered list.
 
-contains_head : (x : ℕ × ℕ) (xs : List (ℕ × ℕ)) → Contains (x ∷ xs) x
+pub contains_head : (x : ℕ × ℕ) (xs : List (ℕ × ℕ)) → Contains (x ∷ xs) x
 contains_head x xs = (0, omega arith, refl)
 
-contains_tail : (x : ℕ × ℕ) (xs : List (ℕ × ℕ)) (o : ℕ × ℕ) → Contains xs o → Contains (x ∷ xs) o
+pub contains_tail : (x : ℕ × ℕ) (xs : List (ℕ × ℕ)) (o : ℕ × ℕ) → Contains xs o → Contains (x ∷ xs) o
 contains_tail x xs o h = (suc h.0, omega arith, h.2)
 
-contains_cases : (x : ℕ × ℕ) (xs : List (ℕ × ℕ)) (o : ℕ × ℕ) → Contains (x ∷ xs) o → (o ≡ x) ⊎ Contains xs o
+pub contains_cases : (x : ℕ × ℕ) (xs : List (ℕ × ℕ)) (o : ℕ × ℕ) → Contains (x ∷ xs) o → (o ≡ x) ⊎ Contains xs o
 contains_cases x xs o h = ⊎_elim (λ one. inl (from_one one)) (λ more. inr more) (Contains-append_cases (x ∷ []) xs o h)
   where
     from_one : Contains (x ∷ []) o → o ≡ x
@@ -183,7 +183,7 @@ apart es a b one h k differ =
     same_place : h.0 ≡ k.0 → a.1 ≢ b.1
     same_place e x = differ (sym h.2 ∙ ap (λ (n : ℕ). get_or es n a) e ∙ get_or_default es k.0 a b k.1 ∙ k.2)
 
-all_by : (P : ℕ × ℕ → Type 0) (xs : List (ℕ × ℕ)) → ((o : ℕ × ℕ) → Contains xs o → P o) → All P xs
+pub all_by : (P : ℕ × ℕ → Type 0) (xs : List (ℕ × ℕ)) → ((o : ℕ × ℕ) → Contains xs o → P o) → All P xs
 all_by P xs h k d lt = h (get_or xs k d) (Contains-get_or xs k d lt)
 
 -- what holds of any two entries of which one is before the other holds of the pairs when one is added
@@ -264,3 +264,125 @@ one_first now es None None h k = refl
 one_first now es None (Some b) h k = absurd (none_or_some now es b h k)
 one_first now es (Some a) None h k = absurd (none_or_some now es a k h)
 one_first now es (Some a) (Some b) h k = ap (λ (e : ℕ × ℕ). let o : Option (ℕ × ℕ) = Some e in o) (least_one now es a b h k)
+
+-- Two lists in order with the same entries are one list.
+
+pub before_self : (a : ℕ × ℕ) → IsBefore a a → ⊥
+before_self a h = before_one_way a a h h
+
+pub same_or_not : (a b : ℕ × ℕ) → (a ≡ b) ⊎ (a ≢ b)
+same_or_not a b = ⊎_elim
+    (λ same. inl same)
+    (λ w. ⊎_elim
+    (λ low. inr (λ same. before_self b (subst (λ (x : ℕ × ℕ). IsBefore x b) same low)))
+    (λ high. inr (λ same. before_self b (subst (λ (x : ℕ × ℕ). IsBefore b x) same high)))
+    w)
+    (which a b)
+
+heads_same : (x y : ℕ × ℕ) (xs ys : List (ℕ × ℕ)) → IsInOrder (x ∷ xs) → IsInOrder (y ∷ ys) → Contains (y ∷ ys) x → Contains (x ∷ xs) y → x ≡ y
+heads_same x y xs ys hx hy there back = ⊎_elim
+    (λ is. is)
+    (λ later. ⊎_elim
+    (λ is. sym is)
+    (λ other. absurd (before_one_way x y (All-contains (IsBefore x) xs y (AllPairs-head IsBefore x xs hx) other) (All-contains (IsBefore y) ys x (AllPairs-head IsBefore y ys hy) later)))
+    (contains_cases x xs y back))
+    (contains_cases y ys x there)
+
+tail_has : (x y : ℕ × ℕ) (xs ys : List (ℕ × ℕ)) → IsInOrder (x ∷ xs) → x ≡ y → ((o : ℕ × ℕ) → Contains (x ∷ xs) o → Contains (y ∷ ys) o) → (o : ℕ × ℕ) → Contains xs o → Contains ys o
+tail_has x y xs ys hx same all o h = ⊎_elim
+    (λ is. absurd (before_self x (subst (λ (z : ℕ × ℕ). IsBefore x z) (is ∙ sym same) (All-contains (IsBefore x) xs o (AllPairs-head IsBefore x xs hx) h))))
+    (λ more. more)
+    (contains_cases y ys o (all o (contains_tail x xs o h)))
+
+pub same_in_order : (a b : List (ℕ × ℕ)) → IsInOrder a → IsInOrder b → ((o : ℕ × ℕ) → Contains a o ↔ Contains b o) → a ≡ b
+same_in_order [] [] ha hb same = refl
+same_in_order [] (y ∷ ys) ha hb same = let low = ((same y).1 (contains_head y ys)).1 in absurd (omega arith)
+same_in_order (x ∷ xs) [] ha hb same = let low = ((same x).0 (contains_head x xs)).1 in absurd (omega arith)
+same_in_order (x ∷ xs) (y ∷ ys) ha hb same =
+    let heads : x ≡ y = heads_same x y xs ys ha hb ((same x).0 (contains_head x xs)) ((same y).1 (contains_head y ys)) in
+    let tails : xs ≡ ys =
+    same_in_order xs ys (AllPairs-tail IsBefore x xs ha) (AllPairs-tail IsBefore y ys hb)
+    (λ o. (tail_has x y xs ys ha heads (λ e. (same e).0) o, tail_has y x ys xs hb (sym heads) (λ e. (same e).1) o)) in
+    ap (λ (h : ℕ × ℕ). h ∷ xs) heads ∙ ap (λ (t : List (ℕ × ℕ)). y ∷ t) tails
+
+-- Whether a number has an entry.
+
+or_true : (a : Bool) → (a || true) ≡ true
+or_true true = refl
+or_true false = refl
+
+pub due_there : (n : ℕ) (es : List (ℕ × ℕ)) (e : ℕ × ℕ) → Contains es e → e.1 ≡ n → is_due n es ≡ true
+due_there n [] e h is = let low = h.1 in absurd (omega arith)
+due_there n (x ∷ es) e h is = ⊎_elim
+    (λ same. ap (λ b. b || is_due n es) ((Decides-eqb x.1 n).1 (ap (λ (o : ℕ × ℕ). o.1) (sym same) ∙ is)))
+    (λ more. ap (λ b. eqb x.1 n || b) (due_there n es e more is) ∙ or_true (eqb x.1 n))
+    (contains_cases x es e h)
+
+pub due_none : (n : ℕ) (es : List (ℕ × ℕ)) → HasNoEntry n es → is_due n es ≡ false
+due_none n [] h = refl
+due_none n (x ∷ es) h =
+    let other : eqb x.1 n ≡ false = not_true (eqb x.1 n) (λ t. All-head (λ e. e.1 ≢ n) x es h ((Decides-eqb x.1 n).0 t)) in
+    ap (λ b. b || is_due n es) other ∙ due_none n es (All-tail (λ e. e.1 ≢ n) x es h)
+
+-- Putting in place of what a number has.
+
+pub removed_none : (n : ℕ) (es : List (ℕ × ℕ)) → HasNoEntry n es → removed n es ≡ es
+removed_none n es h = filter_all (λ e. not (eqb e.1 n)) es (All-weaker (λ e. e.1 ≢ n) (λ e. not (eqb e.1 n) ≡ true) (λ e far. (Decides-not (eqb e.1 n) (Decides-eqb e.1 n)).1 far) es h)
+
+pub put_new : (e : ℕ × ℕ) (es : List (ℕ × ℕ)) → HasNoEntry e.1 es → put e es ≡ added e es
+put_new e es h = ap (added e) (removed_none e.1 es h)
+
+pub schedule_put : (e : ℕ × ℕ) (es : List (ℕ × ℕ)) → IsSchedule es → IsSchedule (put e es)
+schedule_put e es h = schedule_added e (removed e.1 es) (schedule_removed e.1 es h) (free_removed e.1 es)
+
+-- what is put in place of another entry of its number, and then that one in its place, leaves what there was
+pub put_back : (e was : ℕ × ℕ) (es : List (ℕ × ℕ)) → IsSchedule es → Contains es was → e.1 ≡ was.1 → put was (put e es) ≡ es
+put_back e was es h there is =
+    same_in_order (put was (put e es)) es (schedule_put was (put e es) (schedule_put e es h)).order h.order (λ o. (onward o, backward o))
+  where
+    onward : (o : ℕ × ℕ) → Contains (put was (put e es)) o → Contains es o
+    onward o w = ⊎_elim
+        (λ same. subst (λ (x : ℕ × ℕ). Contains es x) (sym same) there)
+        (λ rest. let kept = (in_removed was.1 o (put e es)).0 rest in
+        ⊎_elim
+        (λ same. absurd (kept.1 (ap (λ (x : ℕ × ℕ). x.1) same ∙ is)))
+        (λ more. ((in_removed e.1 o es).0 more).0)
+        ((in_added e o (removed e.1 es)).0 kept.0))
+        ((in_added was o (removed was.1 (put e es))).0 w)
+
+    backward : (o : ℕ × ℕ) → Contains es o → Contains (put was (put e es)) o
+    backward o w = (in_added was o (removed was.1 (put e es))).1
+        (⊎_elim
+        (λ same. inl same)
+        (λ differ.
+        let far : o.1 ≢ was.1 = apart es o was h.one w there differ in
+        let other : o.1 ≢ e.1 = λ x. far (x ∙ is) in
+        inr ((in_removed was.1 o (put e es)).1 ((in_added e o (removed e.1 es)).1 (inr ((in_removed e.1 o es).1 (w, other))), far)))
+        (same_or_not o was))
+
+-- what was put in where a number had none, and is taken out again, leaves what there was
+pub put_undone : (e : ℕ × ℕ) (es : List (ℕ × ℕ)) → IsSchedule es → HasNoEntry e.1 es → removed e.1 (put e es) ≡ es
+put_undone e es h free =
+    same_in_order (removed e.1 (put e es)) es (schedule_removed e.1 (put e es) (schedule_put e es h)).order h.order (λ o. (onward o, backward o))
+  where
+    onward : (o : ℕ × ℕ) → Contains (removed e.1 (put e es)) o → Contains es o
+    onward o w =
+        let kept = (in_removed e.1 o (put e es)).0 w in
+        ⊎_elim
+        (λ same. absurd (kept.1 (ap (λ (x : ℕ × ℕ). x.1) same)))
+        (λ more. ((in_removed e.1 o es).0 more).0)
+        ((in_added e o (removed e.1 es)).0 kept.0)
+
+    backward : (o : ℕ × ℕ) → Contains es o → Contains (removed e.1 (put e es)) o
+    backward o w =
+        let far : o.1 ≢ e.1 = All-contains (λ x. x.1 ≢ e.1) es o free w in
+        (in_removed e.1 o (put e es)).1 ((in_added e o (removed e.1 es)).1 (inr ((in_removed e.1 o es).1 (w, far))), far)
+
+-- The first of a schedule is the only one that is first.
+
+pub first_is : (now : ℕ) (es : List (ℕ × ℕ)) → IsInOrder es → IsFirst now es (first_due now es)
+first_is now [] order = All-nil (λ e. now < e.0)
+first_is now (e ∷ es) order = ⊎_elim
+    (λ w. subst (λ b. IsFirst now (e ∷ es) (cond b (Some e) None)) (sym w.0) (head_first now e es order w.1))
+    (λ w. subst (λ b. IsFirst now (e ∷ es) (cond b (Some e) None)) (sym w.0) (none_first now e es order w.1))
+    (leb_tells e.0 now)

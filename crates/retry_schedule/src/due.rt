@@ -1,27 +1,38 @@
 // Which entry is due first.
-ghost use Rattle.std.specs.Prelude.{◌≡◌, ◌≢◌, ◌<◌, ◌≤◌, ◌↔◌, ◌⊎◌, ℕ, Bool, true, List, [], Option, Contains, IfOk, OnErr, OnOk, length, vec_len, vec_capacity};
-ghost use Rattle.std.specs.List.{insert};
-ghost use Rattle.retry_schedule.specs.Due.{before, IsInOrder, HasNoEntry, IsSchedule, IsFirst, HasEntry, IsDueOf, added, removed, is_due, put, moved, first_due};
+ghost use Rattle.std.specs.Prelude.{◌≡◌, List, [], IfOk, OnErr, OnOk};
+ghost use Rattle.retry_schedule.specs.Due.{HasNoEntry, IsSchedule, IsFirst, HasEntry, IsDueOf, added, removed, is_due, put, moved, first_due};
 
+use crate::index;
+use crate::index::{Index, Moments};
 use std::alloc::{AllocError, Global};
+use std::collections::{BTreeMap, BTreeSet};
 use std::marker::Model;
 
 /// Which message numbers are due, and when: an entry is (due, n). A number has at most one. Contracts see the list of
 /// the entries in order, the one that is due first at its head; of equals it's the one with the least number.
+///
+/// A map has the due moment of each number, and an index has the entries in order. `reschedule` takes no memory that it
+/// couldn't do without: where there is none for the index, the map alone tells the entries, `first` walks over it, and
+/// the next call that may take memory makes the index anew.
 #[derive(Drop)]
 pub struct Due {
-    entries: Vec<(u64, u64)>,
+    /// When each number is due.
+    moments: Moments,
+    /// The entries in order, if it tells them.
+    index: Index,
+    /// Whether the index tells the entries.
+    indexed: bool,
 }
 
 impl Model for Due {
     ghost use Rattle.std.specs.Prelude.{List, ℕ};
-    ghost use Rattle.retry_schedule.specs.Due.{IsSchedule};
+    ghost use Rattle.retry_schedule.specs.Index.{IsKept, listed};
 
     ghost Value = { List (ℕ × ℕ) };
 
-    ghost view = { λ d. d.entries.items };
+    ghost view = { λ d. listed d.moments.entries };
 
-    ghost invariant = { λ d. IsSchedule d.entries.items };
+    ghost invariant = { λ d. IsKept d.moments d.index d.indexed };
 }
 
 impl Due {
@@ -30,7 +41,9 @@ impl Due {
         ensures { result ≡ [] }
     {
         Due {
-            entries: Vec::new(alloc),
+            moments: BTreeMap::new(alloc),
+            index: BTreeSet::new(alloc),
+            indexed: true,
         }
     }
 
@@ -40,7 +53,7 @@ impl Due {
         ensures ok { OnOk result (self.new ≡ added (due, n) self.old) }
         ensures err { OnErr result (self.new ≡ self.old) }
     {
-        put(&mut self.entries, (due, n))
+        self.put(due, n)
     }
 
     /// The least (due, n) of those that are due at most now; `None` exactly when there is none. Takes no memory.
@@ -49,14 +62,21 @@ impl Due {
         ensures is { result ≡ first_due now self.now }
         ensures schedule { IsSchedule self.now }
     {
-        first_of(&self.entries, now)
+        index::first(&self.moments, &self.index, self.indexed, now)
+    }
+
+    /// What holds of it at any time. Does nothing.
+    pub fn is_schedule(&self)
+        ensures { IsSchedule self.now }
+    {
+        let _ = &self.moments;
     }
 
     /// When n is due; `None` exactly when it has no entry. Takes no memory.
     pub fn due_of(&self, n: u64) -> Option<u64>
         ensures { IsDueOf n self.now result }
     {
-        due_in(&self.entries, n)
+        index::due_of(&self.moments, n)
     }
 
     /// Gives n another due moment. The condition: n has an entry. After an `Err`, which means out of memory, it is
@@ -75,129 +95,46 @@ impl Due {
         ensures ok { OnOk result (self.new ≡ put (due, n) self.old) }
         ensures err { OnErr result (self.new ≡ self.old) }
     {
-        // With this room the entry that was taken out can be put back in.
-        self.entries.reserve(1)?;
-        take_out(&mut self.entries, n);
-        put(&mut self.entries, (due, n))
+        index::reindex(&self.moments, &mut self.index, &mut self.indexed)?;
+        index::put(&mut self.moments, &mut self.index, due, n)
     }
 
     /// Whether n has an entry. Takes no memory.
     pub fn is_due(&self, n: u64) -> bool
         ensures { result ≡ is_due n self.now }
     {
-        is_due(&self.entries, n)
+        index::due_of(&self.moments, n).is_some()
     }
 
-    /// Gives n another due moment, if it has one; of a number without an entry nothing changes. Takes no memory: the entry
-    /// that is taken out leaves its room.
+    /// Gives n another due moment, if it has one; of a number without an entry nothing changes. Takes no memory: where
+    /// there is none for the index, the map alone tells the entries from then on.
     pub fn reschedule(&mut self, n: u64, due: u64)
         ensures { self.new ≡ moved (due, n) self.old }
     {
-        if is_due(&self.entries, n) {
-            take_out(&mut self.entries, n);
-            put_back(&mut self.entries, (due, n));
-        }
+        index::reschedule(
+            &mut self.moments,
+            &mut self.index,
+            &mut self.indexed,
+            due,
+            n,
+        );
     }
 
     /// Takes the entry of n out, if there is one. Takes no memory.
     pub fn remove(&mut self, n: u64)
         ensures { self.new ≡ removed n self.old }
     {
-        take_out(&mut self.entries, n);
+        index::take_out(&mut self.moments, &mut self.index, n);
     }
 
-    /// The same entries, with memory of their own.
+    /// The same entries, with memory of their own. Their index is made when an entry is put in.
     pub fn copy(&self, alloc: Global) -> Result<Self, AllocError>
         ensures { IfOk result (λ copy. copy ≡ self.now) }
     {
         Ok(Due {
-            entries: Vec::from_slice(alloc, &self.entries)?,
+            moments: self.moments.clone()?,
+            index: BTreeSet::new(alloc),
+            indexed: false,
         })
     }
-}
-
-/// Whether a number has an entry.
-fn is_due(entries: &[(u64, u64)], n: u64) -> bool
-    ensures { result ≡ is_due n entries.now }
-{
-    entries.iter().any(|entry| entry.1 == n)
-}
-
-/// Takes the entries of n out, and answers how many they were.
-fn take_out(entries: &mut Vec<(u64, u64)>, n: u64) -> usize
-    requires schedule { IsSchedule entries.old.items }
-    ensures items { entries.new.items ≡ removed n entries.old.items }
-    ensures schedule { IsSchedule entries.new.items }
-    ensures free { HasNoEntry n entries.new.items }
-    ensures len { vec_len entries.new ≤ vec_len entries.old }
-    ensures less { is_due n entries.old.items ≡ true → vec_len entries.new < vec_len entries.old }
-    ensures capacity { vec_capacity entries.new ≡ vec_capacity entries.old }
-{
-    let all = entries.as_slice().len();
-    entries.retain(|entry| entry.1 != n);
-    all - entries.as_slice().len()
-}
-
-/// Puts an entry in. The conditions: its number has none, and there is room.
-fn put_back(entries: &mut Vec<(u64, u64)>, entry: (u64, u64))
-    requires schedule { IsSchedule entries.old.items }
-    requires free { HasNoEntry entry.1 entries.old.items }
-    requires room { vec_len entries.old < vec_capacity entries.old }
-    ensures schedule { IsSchedule entries.new.items }
-    ensures items { entries.new.items ≡ added entry entries.old.items }
-{
-    put(entries, entry).unwrap();
-}
-
-/// Puts an entry in. The condition: its number has none. It needs memory only when the room is full.
-fn put(entries: &mut Vec<(u64, u64)>, entry: (u64, u64)) -> Result<(), AllocError>
-    requires schedule { IsSchedule entries.old.items }
-    requires free { HasNoEntry entry.1 entries.old.items }
-    ensures schedule { IsSchedule entries.new.items }
-    ensures ok { OnOk result (entries.new.items ≡ added entry entries.old.items) }
-    ensures err { OnErr result (entries.new.items ≡ entries.old.items) }
-    ensures full { OnErr result (vec_capacity entries.old ≤ vec_len entries.old) }
-{
-    let at = place(entries, entry);
-    entries.insert(at, entry)?;
-    Ok(())
-}
-
-/// How many entries are before this one.
-fn place(entries: &[(u64, u64)], entry: (u64, u64)) -> usize
-    requires order { IsInOrder entries.now }
-    requires free { HasNoEntry entry.1 entries.now }
-    ensures within { result ≤ length entries.now }
-    ensures place { insert entries.now result entry ≡ added entry entries.now }
-{
-    entries.partition_point(|other| is_before(*other, entry))
-}
-
-/// Whether the first of two entries is due before the second; of two that are due at once the one with the lesser number is.
-fn is_before(a: (u64, u64), b: (u64, u64)) -> bool
-    ensures { result ≡ before a b }
-{
-    a.0 < b.0 || (a.0 == b.0 && a.1 < b.1)
-}
-
-/// The first entry, if it is due by now.
-fn first_of(entries: &[(u64, u64)], now: u64) -> Option<(u64, u64)>
-    requires { IsInOrder entries.now }
-    ensures first { IsFirst now entries.now result }
-    ensures is { result ≡ first_due now entries.now }
-{
-    let (entry, _) = entries.split_first()?;
-    if entry.0 <= now { Some(*entry) } else { None }
-}
-
-/// When a number is due; `None` exactly when it has no entry.
-fn due_in(entries: &[(u64, u64)], n: u64) -> Option<u64>
-    ensures { IsDueOf n entries.now result }
-{
-    for entry in entries {
-        if entry.1 == n {
-            return Some(entry.0);
-        }
-    }
-    None
 }

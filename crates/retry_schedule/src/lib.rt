@@ -10,14 +10,22 @@
 //!   skip)^2, for all moments: `root`, `next_retry`, the law `roots_are_exact`.
 //! - The entries (due, n) in order, each number at most once: adding, changing and removing alter the entry of that
 //!   number alone. The least entry that is due, and none exactly if there is none; after out of memory nothing
-//!   changed: `Due::{new, add, first, due_of, is_due, change, put, reschedule, remove, copy}`, the law
+//!   changed: `Due::{new, add, first, due_of, is_due, change, put, reschedule, remove, copy, is_schedule}`, the law
 //!   `entries_are_exact`.
+//! - `Due` keeps a map by number and the entries in order, so a call takes time in proportion to the logarithm of how many
+//!   there are. `PlainDue`, for tests, keeps a plain list; both do what `Schedule` says.
 #![tactic(auto)]
 
 mod due;
+mod index;
 mod laws;
+mod order;
+mod plain_due;
 mod retry;
+mod schedule;
 
 pub use due::Due;
 pub use laws::{entries_are_exact, roots_are_exact};
+pub use plain_due::PlainDue;
 pub use retry::{next_retry, root};
+pub use schedule::Schedule;

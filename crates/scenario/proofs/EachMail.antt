@@ -1,6 +1,6 @@
 -- The lines of mails, one after the other.
-use Rattle.std.proofs.Common.{◌≡◌, Bor, ℕ, ◌<◌, List, [], ◌∷◌, ◌++◌, length, get_or, map, min, take, Option, Some, None, refl, sym, ap, ◌∙◌, append_assoc, arith}
-use Rattle.std.specs.Prelude.{OnOk, Ok, Err, Result, flat_map, if◌then◌else◌, option_map, unwrap_or}
+use Rattle.std.proofs.Common.{◌≡◌, Bor, ℕ, ◌<◌, List, [], ◌∷◌, ◌++◌, length, get_or, map, min, take, refl, sym, ap, ◌∙◌, append_assoc, arith}
+use Rattle.std.specs.Prelude.{OnOk, Ok, Err, Result, flat_map, if◌then◌else◌}
 use Rattle.std.specs.Result.{is_ok}
 use Rattle.std.specs.List.{zip}
 use Rattle.std.proofs.lemmas.List.{append-nil, length_push, take_all, take_more}
@@ -8,15 +8,16 @@ use Rattle.std.proofs.lemmas.List.Concat.{flat_map-append}
 use Rattle.std.proofs.lemmas.Slice.Zip.{get_or-zip, length-zip}
 use Rattle.world_events.specs.declared.books.Entry.{Entry}
 use Rattle.scenario.specs.declared.showing.Given.{Given}
-use Rattle.scenario.specs.Shown.{View, entry_lines}
-use Rattle.scenario.specs.inside.Viewed.{given_lines}
+use Rattle.script_traces.specs.declared.fates.RecipientFate.{RecipientFate}
+use Rattle.script_traces.specs.Fates.{fate_lines}
+use Rattle.scenario.specs.Shown.{line_of}
 use Rattle.scenario.proofs.Receivers.{envelope_at}
 
--- A text of each pair of two lists
+-- A text, or another list, of each pair of two lists
 
-module _ {A B : Type 0} (f : A × B → List ℕ) (ks : List A) (vs : List B) where
+module _ {A B W : Type 0} (f : A × B → List W) (ks : List A) (vs : List B) where
   -- of the first so many
-  abbrev pub so_far : ℕ → List ℕ
+  abbrev pub so_far : ℕ → List W
   so_far n = flat_map f (take n (zip ks vs))
 
   -- the pairs so far, and one more
@@ -35,7 +36,7 @@ module _ {A B : Type 0} (f : A × B → List ℕ) (ks : List A) (vs : List B) wh
       ap so_far (length_push xs p)
       ∙ ap (flat_map f) (take_more (zip ks vs) i d inside ∙ ap (λ (x : A × B). take i (zip ks vs) ++ x ∷ []) here)
       ∙ flat_map-append f (take i (zip ks vs)) (d ∷ [])
-      ∙ ap (λ (t : List ℕ). so_far i ++ t) (append-nil (f d))
+      ∙ ap (λ (t : List W). so_far i ++ t) (append-nil (f d))
 
   -- all of them
   pub all_so_far : (n : ℕ) → n ≡ min (length ks) (length vs) → so_far n ≡ flat_map f (zip ks vs)
@@ -45,17 +46,22 @@ module _ {A B : Type 0} (f : A × B → List ℕ) (ks : List A) (vs : List B) wh
 pub one_put : (old before own new after : List ℕ) → before ≡ old ++ own → (lines : List ℕ) → new ≡ before ++ lines → after ≡ own ++ lines → new ≡ old ++ after
 one_put old before own new after first lines second both = second ∙ ap (λ (t : List ℕ). t ++ lines) first ∙ append_assoc old own lines ∙ ap (λ (t : List ℕ). old ++ t) (sym both)
 
--- the lines of mails by the envelopes that they were given
-pub by_envelope : (v : View) (entries : List Entry) (given : List Given)
-    → flat_map (given_lines v) (zip entries given) ≡ flat_map (λ (mail : Entry × List ℕ). entry_lines v mail.0 mail.1) (zip entries (map envelope_at given))
-by_envelope v [] given = refl
-by_envelope v (entry ∷ entries) [] = refl
-by_envelope v (entry ∷ entries) (g ∷ given) = ap (λ (t : List ℕ). entry_lines v entry (envelope_at g) ++ t) (by_envelope v entries given)
+-- what is told of mails by the envelopes that they were given
+pub by_envelope : {W : Type 0} (tells : Entry → List ℕ → List W) (entries : List Entry) (given : List Given)
+    → flat_map (λ (mail : Entry × Given). tells mail.0 mail.1.envelope.now) (zip entries given) ≡ flat_map (λ (mail : Entry × List ℕ). tells mail.0 mail.1) (zip entries (map envelope_at given))
+by_envelope tells [] given = refl
+by_envelope tells (entry ∷ entries) [] = refl
+by_envelope tells (entry ∷ entries) (g ∷ given) = ap (λ t. tells entry (envelope_at g) ++ t) (by_envelope tells entries given)
 
--- a word, or another one if there is none
-pub or_else : (o : Option (Bor (List ℕ))) (failed word : Bor (List ℕ)) → word ≡ unwrap_or o failed → word.now ≡ unwrap_or (option_map (λ (b : Bor (List ℕ)). b.now) o) failed.now
-or_else None failed word is = ap (λ (b : Bor (List ℕ)). b.now) is
-or_else (Some b) failed word is = ap (λ (b : Bor (List ℕ)). b.now) is
+-- the line of a mail, and those of its recipients
+pub mail_put : (old first second name mail actor life : List ℕ) (fates told : List RecipientFate) → first ≡ old ++ line_of name life → name ≡ actor
+    → second ≡ first ++ fate_lines mail fates → mail ≡ actor → fates ≡ told → second ≡ old ++ (line_of actor life ++ fate_lines actor told)
+mail_put old first second name mail actor life fates told one is two also same =
+    two
+    ∙ ap (λ (t : List ℕ). t ++ fate_lines mail fates) (one ∙ ap (λ (a : List ℕ). old ++ line_of a life) is)
+    ∙ ap (λ (a : List ℕ). (old ++ line_of actor life) ++ fate_lines a fates) also
+    ∙ ap (λ (fs : List RecipientFate). (old ++ line_of actor life) ++ fate_lines actor fs) same
+    ∙ append_assoc old (line_of actor life) (fate_lines actor told)
 
 -- what was put at the end of a text, if that succeeded
 pub if_put : {X E : Type 0} (r : Result X E) (old bytes own new : List ℕ) → new ≡ (if is_ok r then old ++ bytes else old) → bytes ≡ own → OnOk r (new ≡ old ++ own)

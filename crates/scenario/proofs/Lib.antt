@@ -48,6 +48,8 @@ pub mod Followed
 pub mod Receivers
 -- the lines of mails
 pub mod EachMail
+-- as many recipients are counted as the accepted mails have
+pub mod AllSummed
 -- what was printed is what a history shows
 pub mod Showings
 -- lists in one strict order with the same members are one

@@ -85,6 +85,7 @@ one_play d h plan (line.Moment of_moment.Moment m) e f t u p q =
 one_play d h plan (line.Alone alone.Trace) e f t u p q = (p.0 ∙ sym q.0, p.1 ∙ sym q.1)
 one_play d h plan (line.Word of_word.Cat path) e f t u p q = (p.0 ∙ sym q.0, p.1 ∙ sym q.1)
 one_play d h plan (line.Alone alone.Show) e f t u p q = (p.0 ∙ sym q.0, one_shown d (history_of h) t u p.1 q.1)
+one_play d h plan (line.Alone alone.Sum) e f t u p q = (p.0 ∙ sym q.0, p.1 ∙ sym q.1)
 one_play d h plan (line.Alone alone.Sender) e f t u p q = (p.0 ∙ sym q.0, p.1 ∙ sym q.1)
 one_play d h plan (line.Alone alone.Turn) e f t u p q =
     let same : p.0 ≡ q.0 = one_turn d h plan p.0 q.0 p.1 q.1 in

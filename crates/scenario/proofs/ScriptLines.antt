@@ -29,6 +29,7 @@ use Rattle.scenario.specs.Deeds.{Deed, history_of, after}
 use Rattle.scenario.specs.Deeds.Deed.{Came}
 use Rattle.scenario.specs.FirstDisk.{IsFirstDisk}
 use Rattle.scenario.specs.Played.{plan_after, Refusal, IsRefusalOf, Plays, PlaysAll, cat_line, refusal_line, next_pid}
+use Rattle.scenario.specs.Summed.{sum_text}
 use Rattle.scenario.specs.Steps.Outcome.{Happens, Is}
 use Rattle.scenario.specs.declared.stepping.Stepped.{Stepped}
 use Rattle.scenario.proofs.Carried.{not_member}
@@ -71,6 +72,12 @@ step_refused d w plan a text why r h playing seen is = record {
 abbrev pub show_played : (d : Disk) (w : Seen Crash) (plan : Plan) (text own after_text : List ℕ) (h : List Deed) → IsPlaying d w plan h → IsShown d (history_of h) own → after_text ≡ text ++ own
     → HasPlayed d w (line.Alone alone.Show) text after_text plan h
 show_played d w plan text own after_text h playing shown is = record { events = []; own = own; plays = (refl, shown); playing = playing; text = is }
+
+-- `sum`
+
+abbrev pub sum_played : (d : Disk) (w : Seen Crash) (plan : Plan) (text own after_text : List ℕ) (h : List Deed) → IsPlaying d w plan h → own ≡ sum_text d (history_of h) → after_text ≡ text ++ own
+    → HasPlayed d w (line.Alone alone.Sum) text after_text plan h
+sum_played d w plan text own after_text h playing is put = record { events = []; own = own; plays = (refl, is); playing = playing; text = put }
 
 -- `mail`
 

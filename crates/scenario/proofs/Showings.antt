@@ -34,9 +34,10 @@ use Rattle.scenario.specs.declared.overview.Overview.{Overview}
 use Rattle.scenario.specs.declared.showing.Given.{Given}
 use Rattle.scenario.specs.Fates.{AreNamedStarts, IsFedSo, IsUsed}
 use Rattle.scenario.specs.inside.Fates.{receiver, receivers_in}
-use Rattle.scenario.specs.Shown.{AreNamesIn, AreNumbersIn, pid_line, number_line, all_mail_lines, IsShown, View, entry_lines, view_of}
+use Rattle.scenario.specs.Shown.{AreNamesIn, AreNumbersIn, pid_line, number_line, all_mail_lines, IsShown, View, entry_lines, fates_of, view_of}
+use Rattle.scenario.specs.Summed.{all_fates}
 use Rattle.scenario.specs.Viewed.{view_at}
-use Rattle.scenario.specs.inside.Viewed.{given_lines}
+use Rattle.scenario.specs.inside.Viewed.{given_fates, given_lines}
 use Rattle.scenario.proofs.EachMail.{by_envelope}
 use Rattle.scenario.proofs.Receivers.{envelope_at, envelope_in, envelopes_told}
 
@@ -45,7 +46,7 @@ pub joined : (old first second third a b e : List ℕ) → first ≡ old ++ a �
 joined old first second third a b e f g h =
     h ∙ ap (λ t. t ++ e) (g ∙ ap (λ t. t ++ b) f) ∙ append_assoc (old ++ a) b e ∙ append_assoc old a (b ++ e)
 
-zipped : {X Y Z : Type 0} (f : X → Y) (g : X → Z) (text : Y × Z → List ℕ) (xs : List X) → flat_map text (zip (map f xs) (map g xs)) ≡ flat_map (λ x. text (f x, g x)) xs
+zipped : {X Y Z W : Type 0} (f : X → Y) (g : X → Z) (text : Y × Z → List W) (xs : List X) → flat_map text (zip (map f xs) (map g xs)) ≡ flat_map (λ x. text (f x, g x)) xs
 zipped f g text [] = refl
 zipped f g text (x ∷ xs) = ap (λ t. text (f x, g x) ++ t) (zipped f g text xs)
 
@@ -62,20 +63,34 @@ is_shown d h now present events pids numbers own history are_pids are_numbers ma
       ∙ ap (λ (now : Disk). pid_line pids ++ (flat_map (number_line now) numbers ++ all_mail_lines d h)) (sym history.disk);
 }
 
--- what is put of each mail
-pub mails_shown : (d : Disk) (h : List Event) (now : Disk) (present : ℕ) (events : List Kept) (o : Overview) (entries : List Entry) (given : List Given) → IsHistory d now events present h → AreNamedStarts h
-    → AllByRecursion IsFedSo (reverse events) → crash_disk o.disk.now ≡ now → o.controls.now ≡ controls_on now → entries ≡ books_in d h → reverse (map receiver given) ≡ receivers_in (reverse events)
-    → flat_map (given_lines (view_at o (after d h).books)) (zip entries given) ≡ all_mail_lines d h
-mails_shown d h now present events o entries given history mails fed disk controls are received =
+-- what is told of each mail
+mails_told : {W : Type 0} (tells : View → Entry → List ℕ → List W) (d : Disk) (h : List Event) (now : Disk) (present : ℕ) (events : List Kept) (o : Overview) (entries : List Entry) (given : List Given)
+    → IsHistory d now events present h → AreNamedStarts h → AllByRecursion IsFedSo (reverse events) → crash_disk o.disk.now ≡ now → o.controls.now ≡ controls_on now → entries ≡ books_in d h
+    → reverse (map receiver given) ≡ receivers_in (reverse events)
+    → flat_map (λ (mail : Entry × Given). tells (view_at o (after d h).books) mail.0 mail.1.envelope.now) (zip entries given)
+    ≡ flat_map (λ (mail : List ℕ × Arguments). tells (view_of d h) (entry_in (after d h) h mail) mail.1.envelope) (mails_of h)
+mails_told tells d h now present events o entries given history mails fed disk controls are received =
     let view : ◌≡◌ {A = View} (view_at o (after d h).books) (view_of d h) =
     ap (λ (m : Disk). record { disk = m; controls = o.controls.now; books = (after d h).books }) (disk ∙ sym history.disk)
     ∙ ap (λ (c : Option Controls). record { disk = (after d h).disk; controls = c; books = (after d h).books }) (controls ∙ ap controls_on (sym history.disk)) in
-    let lines : Entry × List ℕ → List ℕ = λ mail. entry_lines (view_of d h) mail.0 mail.1 in
-    ap (λ (v : View). flat_map (given_lines v) (zip entries given)) view
-    ∙ by_envelope (view_of d h) entries given
-    ∙ ap (λ (es : List Entry). flat_map lines (zip es (map envelope_at given))) are
-    ∙ ap (λ (texts : List (List ℕ)). flat_map lines (zip (books_in d h) texts)) (envelopes_told (reverse events) h given fed mails history.told received)
-    ∙ zipped (entry_in (after d h) h) envelope_in lines (mails_of h)
+    let told = λ (mail : Entry × List ℕ). tells (view_of d h) mail.0 mail.1 in
+    ap (λ (v : View). flat_map (λ (mail : Entry × Given). tells v mail.0 mail.1.envelope.now) (zip entries given)) view
+    ∙ by_envelope (tells (view_of d h)) entries given
+    ∙ ap (λ (es : List Entry). flat_map told (zip es (map envelope_at given))) are
+    ∙ ap (λ (texts : List (List ℕ)). flat_map told (zip (books_in d h) texts)) (envelopes_told (reverse events) h given fed mails history.told received)
+    ∙ zipped (entry_in (after d h) h) envelope_in told (mails_of h)
+
+-- the lines of each mail
+pub mails_shown : (d : Disk) (h : List Event) (now : Disk) (present : ℕ) (events : List Kept) (o : Overview) (entries : List Entry) (given : List Given) → IsHistory d now events present h → AreNamedStarts h
+    → AllByRecursion IsFedSo (reverse events) → crash_disk o.disk.now ≡ now → o.controls.now ≡ controls_on now → entries ≡ books_in d h → reverse (map receiver given) ≡ receivers_in (reverse events)
+    → flat_map (given_lines (view_at o (after d h).books)) (zip entries given) ≡ all_mail_lines d h
+mails_shown = mails_told entry_lines
+
+-- what became of the recipients of each mail
+pub mails_summed : (d : Disk) (h : List Event) (now : Disk) (present : ℕ) (events : List Kept) (o : Overview) (entries : List Entry) (given : List Given) → IsHistory d now events present h → AreNamedStarts h
+    → AllByRecursion IsFedSo (reverse events) → crash_disk o.disk.now ≡ now → o.controls.now ≡ controls_on now → entries ≡ books_in d h → reverse (map receiver given) ≡ receivers_in (reverse events)
+    → flat_map (given_fates (view_at o (after d h).books)) (zip entries given) ≡ all_fates d h
+mails_summed = mails_told fates_of
 
 -- The numbers of mails are numbers of messages
 

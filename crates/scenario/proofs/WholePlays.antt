@@ -35,6 +35,7 @@ use Rattle.script_words.specs.Words.{letter_byte}
 use Rattle.scenario.specs.Steps.Outcome.{Happens, Is}
 use Rattle.scenario.specs.Steps.Refusal.{Unknown, Gone, NotWaiting, Taken, Past}
 use Rattle.scenario.specs.Shown.{IsShown, pid_line, number_line, all_mail_lines}
+use Rattle.scenario.specs.Summed.{sum_text}
 use Rattle.scenario.specs.Traced.{traced_after, traced_text}
 use Rattle.scenario.specs.Text.{IsPlayed, IsBegun, Prints, BeginsToPrint, BeginsAtMost, IsPrefix, IsPrefixAtMost}
 use Rattle.scenario.proofs.FreeNames.{Goes}
@@ -145,6 +146,7 @@ plays_line d h plan (line.Moment of_moment.Moment m) so =
 plays_line d h plan (line.Alone alone.Trace) so = ([], [], (refl, refl))
 plays_line d h plan (line.Word of_word.Cat path) so = ([], cat_line path (bytes_at (after d h).disk path), (refl, refl))
 plays_line d h plan (line.Alone alone.Show) so = let shown = shows d h so in ([], shown.0, (refl, shown.1))
+plays_line d h plan (line.Alone alone.Sum) so = ([], sum_text d (history_of h), (refl, refl))
 plays_line d h plan (line.Alone alone.Sender) so =
     let alive = first_alive (after d h) members in
     (generation_events (after d h).now alive, generation_text alive, (refl, refl))
@@ -258,6 +260,7 @@ line_kept d h plan (line.Moment of_moment.Moment m) events text so fits plays =
 line_kept d h plan (line.Alone alone.Trace) events text so fits plays = same_events d h events [] plays.0 so
 line_kept d h plan (line.Word of_word.Cat path) events text so fits plays = same_events d h events [] plays.0 so
 line_kept d h plan (line.Alone alone.Show) events text so fits plays = same_events d h events [] plays.0 so
+line_kept d h plan (line.Alone alone.Sum) events text so fits plays = same_events d h events [] plays.0 so
 line_kept d h plan (line.Alone alone.Sender) events text so fits plays =
     same_events d h events (generation_events (after d h).now (first_alive (after d h) members)) plays.0 (generation_kept d h (first_alive (after d h) members) refl so)
 line_kept d h plan (line.Alone alone.Turn) events text so fits plays = same_events d h events (events_of plays.0) plays.2 (turn_kept d h plan plays.0 so plays.1)

@@ -2,7 +2,9 @@
 pub mod FirstDisk
 -- what `show` prints
 pub mod Shown
--- what is read of a world for it
+-- what `sum` prints
+pub mod Summed
+-- what is read of a world for both
 pub mod Fates
 pub mod Viewed
 -- what happens in a play, deed by deed

@@ -23,6 +23,7 @@ use Rattle.script_lines.specs.declared.keyword.OfMoment.TheVariants as of_moment
 use Rattle.script_lines.specs.declared.keyword.OfSurvival.TheVariants as of_survival
 use Rattle.script_lines.specs.declared.keyword.OfWord.TheVariants as of_word
 use Rattle.scenario.specs.Shown.{line_of, IsShown}
+use Rattle.scenario.specs.Summed.{sum_text}
 use Rattle.scenario.specs.Deeds.{Deed, history_of, after}
 use Rattle.scenario.specs.Deeds.Deed.{Came}
 use Rattle.scenario.specs.Traced.{traced_after, traced_text}
@@ -81,6 +82,7 @@ Plays d h plan (line.Moment of_moment.Moment m) events text =
 Plays d h plan (line.Alone alone.Trace) events text = (events ≡ []) × (text ≡ [])
 Plays d h plan (line.Word of_word.Cat path) events text = (events ≡ []) × (text ≡ cat_line path (bytes_at (after d h).disk path))
 Plays d h plan (line.Alone alone.Show) events text = (events ≡ []) × IsShown d (history_of h) text
+Plays d h plan (line.Alone alone.Sum) events text = (events ≡ []) × (text ≡ sum_text d (history_of h))
 Plays d h plan (line.Alone alone.Sender) events text =
     let s = after d h in
     let alive = first_alive s members in

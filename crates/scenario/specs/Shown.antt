@@ -1,6 +1,6 @@
 -- What `show` prints: how many names `pid/` has, the state of each number that isn't in S1, and how each mail fares, by the disk, the
 -- control files and the books, in which the takings of senders enter who was delivered to.
-use Rattle.std.specs.Prelude.{◌≡◌, ℕ, List, [], ◌∷◌, ◌++◌, length, map, Bool, true, false, ◌&&◌, ◌==◌, bytes_eq, Option, Some, None, codes, flat_map, if◌then◌else◌, nat_eq}
+use Rattle.std.specs.Prelude.{◌≡◌, ℕ, List, [], ◌∷◌, ◌++◌, length, map, replicate, Bool, true, false, ◌&&◌, ◌==◌, bytes_eq, Option, Some, None, codes, flat_map, if◌then◌else◌, nat_eq}
 use Rattle.std.specs.List.{list_any, starts_with}
 use Rattle.address_rules.specs.declared.controls.Controls.{Controls}
 use Rattle.call_fs.specs.Disk.{Disk}
@@ -21,7 +21,10 @@ pub use Rattle.queue_states.specs.Lines.{line_of, count_line, state_line}
 use Rattle.mail_world.specs.History.{Event, after}
 use Rattle.mail_world.specs.Books.{entry_in, mails_of}
 use Rattle.world_events.specs.declared.books.Entry.{Entry}
-pub use Rattle.script_traces.specs.Mails.{alike_lines, life_word, recipient_lines}
+use Rattle.script_traces.specs.declared.fates.RecipientFate.{RecipientFate}
+use Rattle.script_traces.specs.declared.fates.RecipientFate.TheVariants.{Pending, Delivered, Noted, Bounced, Dropped}
+use Rattle.script_traces.specs.Fates.{fate_lines}
+pub use Rattle.script_traces.specs.Mails.{life_word}
 
 -- `pid COUNT`
 abbrev pub pid_line : List (List ℕ) → List ℕ
@@ -83,34 +86,37 @@ spot_at r = record { channel = r.channel; place = r.place }
 
 -- What became of a recipient that failed and isn't noted, by the envelope of its mail: a bounce of the mail was injected, but that of a
 -- double bounce, which comes from `#@[]`, is dropped.
-abbrev pub word_of_failed : List ℕ → List ℕ
-word_of_failed envelope = if starts_with nat_eq envelope (70 ∷ codes "#@[]" ++ 0 ∷ []) then codes "dropped" else codes "bounced"
+abbrev pub failed_fate : List ℕ → RecipientFate
+failed_fate envelope = if starts_with nat_eq envelope (70 ∷ codes "#@[]" ++ 0 ∷ []) then Dropped else Bounced
 
--- What became of a recipient of a mail that isn't in todo, and whose record doesn't read `T`, with the word for one that failed and isn't
+-- What became of a recipient of a mail that isn't in todo, and whose record doesn't read `T`, with what became of one that failed and isn't
 -- noted. One of whom a spawner reported `D` is pending while its note is put into the bounce file, and noted once its record is marked,
 -- until that file is gone.
-abbrev pub ending_of : View → List ℕ → Option ℕ → List ℕ → Routed → List ℕ
+abbrev pub ending_of : View → List ℕ → Option ℕ → RecipientFate → Routed → RecipientFate
 ending_of v mail number failed r =
-    if is_delivered v.books mail number (spot_at r) then codes "delivered" else (if is_noted v.disk (lasting v.books mail number) r.name then codes "noted" else failed)
+    if is_delivered v.books mail number (spot_at r) then Delivered else (if is_noted v.disk (lasting v.books mail number) r.name then Noted else failed)
 
 -- what became of a recipient of a mail that isn't in todo
-abbrev pub word_of : View → List ℕ → Option ℕ → List ℕ → Routed → List ℕ
-word_of v mail number failed r = if is_unmarked v.disk (lasting v.books mail number) r then codes "pending" else ending_of v mail number failed r
+abbrev pub fate_of : View → List ℕ → Option ℕ → RecipientFate → Routed → RecipientFate
+fate_of v mail number failed r = if is_unmarked v.disk (lasting v.books mail number) r then Pending else ending_of v mail number failed r
 
--- the lines of the recipients of a mail that isn't in todo; with a bad control file nothing was ever preprocessed
-abbrev pub sorted_lines : View → Entry → Option Controls → List ℕ → List ℕ
-sorted_lines v e None envelope = alike_lines e.actor (codes "dropped") 1 e.recipients
-sorted_lines v e (Some controls) envelope =
-    recipient_lines e.actor 1 (map (word_of v e.actor e.number (word_of_failed envelope)) (routes_in controls (recipients_in envelope)))
+-- what became of each recipient of a mail that isn't in todo; with a bad control file nothing was ever preprocessed
+abbrev pub sorted_fates : View → Entry → Option Controls → List ℕ → List RecipientFate
+sorted_fates v e None envelope = replicate e.recipients Dropped
+sorted_fates v e (Some controls) envelope = map (fate_of v e.actor e.number (failed_fate envelope)) (routes_in controls (recipients_in envelope))
 
--- the lines of the recipients of the mail with this entry in the books, and this envelope
-abbrev pub lines_of : View → Entry → List ℕ → List ℕ
-lines_of v e envelope =
-    if is_queued v.disk (lasting v.books e.actor e.number) then alike_lines e.actor (codes "pending") 1 e.recipients else sorted_lines v e v.controls envelope
+-- what became of each recipient of an accepted mail
+abbrev pub accepted_fates : View → Entry → List ℕ → List RecipientFate
+accepted_fates v e envelope = if is_queued v.disk (lasting v.books e.actor e.number) then replicate e.recipients Pending else sorted_fates v e v.controls envelope
+
+-- What became of each recipient of the mail with this entry in the books, and this envelope, in the order of that; one that wasn't accepted has
+-- none. Both `show` and `sum` go by this.
+abbrev pub fates_of : View → Entry → List ℕ → List RecipientFate
+fates_of v e envelope = if e.accepted then accepted_fates v e envelope else []
 
 -- `NAME STATUS`, and a line for each recipient if the mail was accepted
 abbrev pub entry_lines : View → Entry → List ℕ → List ℕ
-entry_lines v e envelope = line_of e.actor (life_word e.life) ++ (if e.accepted then lines_of v e envelope else [])
+entry_lines v e envelope = line_of e.actor (life_word e.life) ++ fate_lines e.actor (fates_of v e envelope)
 
 -- By a history
 

@@ -41,6 +41,7 @@ abbrev pub traced_after : Bool → Line → Bool
 traced_after traced (line.Mail name message envelope) = traced
 traced_after traced (line.Alone alone.Trace) = true
 traced_after traced (line.Alone alone.Show) = traced
+traced_after traced (line.Alone alone.Sum) = traced
 traced_after traced (line.Alone alone.Sender) = traced
 traced_after traced (line.Alone alone.Turn) = traced
 traced_after traced (line.Actor first actor) = traced

@@ -1,4 +1,4 @@
--- What is read of a world for `show`.
+-- What is read of a world for `show` and `sum`.
 use Rattle.crash_fs.specs.Crash.{crash_disk}
 use Rattle.queue_law.specs.Books.{Books}
 use Rattle.scenario.specs.declared.overview.Overview.{Overview}

@@ -1,11 +1,15 @@
 //! Laws of scripts. Each is the contract of a function that does nothing.
 ghost use Rattle.std.specs.Prelude.{◌≡◌, ◌<◌, ◌^◌, List, ℕ, Some, length};
+ghost use Rattle.std.specs.List.{sum_by};
 ghost use Rattle.call_fs.specs.Disk.{Disk};
+ghost use Rattle.mail_world.specs.Books.{books_in};
+ghost use Rattle.mail_world.specs.History.{Event};
 ghost use Rattle.script_words.specs.declared.entry.Entry.{Entry};
 ghost use Rattle.script_lines.specs.declared.line.Line.{Line};
 ghost use Rattle.script_lines.specs.Contents.{Content};
 ghost use Rattle.script_lines.specs.Lines.{IsScript};
 ghost use Rattle.scenario.specs.FirstDisk.{IsFirstDisk};
+ghost use Rattle.scenario.specs.Summed.{all_fates, counted_recipients};
 ghost use Rattle.scenario.specs.Text.{IsPlayed, Prints, BeginsToPrint, IsPrefix};
 
 /// Entries make one disk, if they are fewer than the numbers of files; no file of it has two names.
@@ -32,4 +36,9 @@ pub fn one_text()
     ensures one { (script a b : List ℕ) → Prints script a → Prints script b → a ≡ b }
     ensures prefix { (script begun whole : List ℕ) → BeginsToPrint script begun → Prints script whole
         → IsPrefix begun whole }
+{}
+
+/// `sum` counts each recipient of each accepted mail: as many as the books say that their envelopes have.
+pub fn all_are_summed()
+    ensures { (d : Disk) (h : List Event) → length (all_fates d h) ≡ sum_by counted_recipients (books_in d h) }
 {}

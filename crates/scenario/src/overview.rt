@@ -1,10 +1,10 @@
 // What became of each mail and of its recipients.
-ghost use Rattle.std.specs.Prelude.{◌≡◌, ◌++◌, List, ℕ, OnOk, map, option_map, unwrap_or};
+ghost use Rattle.std.specs.Prelude.{◌≡◌, ◌++◌, IfOk, OnOk, map};
 ghost use Rattle.crash_fs.specs.Crash.{crash_disk};
 ghost use Rattle.queue_law.specs.Books.{Books};
 ghost use Rattle.script_disks.specs.Records.{AreNoted};
 ghost use Rattle.scenario.specs.Fates.{AreFates, IsUsed, spot_of};
-ghost use Rattle.scenario.specs.Shown.{ending_of, entry_lines, is_delivered, is_queued, lasting, lines_of, recipient_lines, sorted_lines, word_of, word_of_failed};
+ghost use Rattle.scenario.specs.Shown.{ending_of, entry_lines, failed_fate, fate_of, fates_of, is_delivered, is_queued, lasting, sorted_fates};
 ghost use Rattle.scenario.specs.Viewed.{view_at};
 
 use crate::fates::{Fates, Spot};
@@ -14,7 +14,7 @@ use mail_bytes::{ByteText, Memory};
 use mail_world::Entry;
 use queue_paths::Name;
 use script_disks::{Routed, is_among, is_there, is_unmarked, noted_on, routes_of};
-use script_traces::{put_alike, put_life, put_recipient};
+use script_traces::{RecipientFate, alike, put_fates, put_life};
 use std::alloc::Global;
 
 /// What is read of a world to tell what became of each mail.
@@ -41,93 +41,89 @@ impl Overview<'_> {
             → OnOk result (text.new.items ≡ text.old.items ++ entry_lines (view_at self.now books) entry.now envelope.now) }
     {
         put_life(text, entry.actor.as_slice(), entry.life)?;
-        if entry.accepted {
-            self.put_recipients(alloc, text, entry, envelope)?;
-        }
-        Ok(())
+        let fates = self.fates_of(alloc, entry, envelope)?;
+        put_fates(text, entry.actor.as_slice(), &fates)
     }
 
-    /// Puts the line of each recipient of that mail at the end of a text.
-    fn put_recipients(
+    /// What became of each recipient of a mail, by its entry in the books and by its envelope; one that wasn't accepted has none.
+    pub fn fates_of(
         &self,
         alloc: Global,
-        text: &mut Vec<u8>,
         entry: &Entry,
         envelope: &[u8],
-    ) -> Result<(), Memory>
+    ) -> Result<Vec<RecipientFate>, Memory>
         ensures { (books : Books) → AreFates self.now.fates.now books → IsUsed entry.now.number
-            → OnOk result (text.new.items ≡ text.old.items ++ lines_of (view_at self.now books) entry.now envelope.now) }
+            → IfOk result (λ fates. fates.items ≡ fates_of (view_at self.now books) entry.now envelope.now) }
     {
-        let mail = entry.actor.as_slice();
-        if self.is_queued(self.lasting(mail, entry.number)) {
-            put_alike(text, mail, entry.recipients, b"pending")
+        if !entry.accepted {
+            Ok(Vec::new(alloc))
+        } else if self.is_queued(self.lasting(entry.actor.as_slice(), entry.number)) {
+            alike(alloc, RecipientFate::Pending, entry.recipients)
         } else {
-            self.put_sorted(alloc, text, entry, envelope)
+            self.sorted_fates(alloc, entry, envelope)
         }
     }
 
-    /// The same, if todo doesn't hold the mail.
-    fn put_sorted(
+    /// The same, of an accepted mail that todo doesn't hold.
+    fn sorted_fates(
         &self,
         alloc: Global,
-        text: &mut Vec<u8>,
         entry: &Entry,
         envelope: &[u8],
-    ) -> Result<(), Memory>
-        ensures { (books : Books) → AreFates self.now.fates.now books → IsUsed entry.now.number → OnOk result (text.new.items ≡ text.old.items
-            ++ sorted_lines (view_at self.now books) entry.now self.now.controls.now envelope.now) }
+    ) -> Result<Vec<RecipientFate>, Memory>
+        ensures { (books : Books) → AreFates self.now.fates.now books → IsUsed entry.now.number
+            → IfOk result (λ fates. fates.items ≡ sorted_fates (view_at self.now books) entry.now self.now.controls.now envelope.now) }
     {
-        let mail = entry.actor.as_slice();
         match self.controls {
-            None => put_alike(text, mail, entry.recipients, b"dropped"),
+            None => alike(alloc, RecipientFate::Dropped, entry.recipients),
             Some(controls) => {
+                let mail = entry.actor.as_slice();
                 let noted = noted_on(alloc, self.disk, self.lasting(mail, entry.number))?;
                 let routes = routes_of(alloc, controls, envelope)?;
-                self.put_routed(text, entry, &noted, &routes, word_of_failed(envelope))
+                self.routed_fates(alloc, entry, &noted, &routes, failed_fate(envelope))
             }
         }
     }
 
-    /// Puts a line for each of these recipients of a mail at the end of a text, with the names of which its bounce file has notes,
-    /// and with the word for one that failed and isn't noted.
-    fn put_routed(
+    /// What became of each of these recipients of a mail, with the names of which its bounce file has notes, and with what became of one
+    /// that failed and isn't noted.
+    fn routed_fates(
         &self,
-        text: &mut Vec<u8>,
+        alloc: Global,
         entry: &Entry,
         noted: &[ByteText],
         routes: &[Routed],
-        failed: &'static [u8],
-    ) -> Result<(), Memory>
+        failed: RecipientFate,
+    ) -> Result<Vec<RecipientFate>, Memory>
         ensures { (books : Books) → AreFates self.now.fates.now books → IsUsed entry.now.number
-            → AreNoted (crash_disk self.now.disk.now) (lasting books entry.now.actor entry.now.number) noted.now → OnOk result (text.new.items ≡ text.old.items
-            ++ recipient_lines entry.now.actor 1 (map (word_of (view_at self.now books) entry.now.actor entry.now.number failed.now) routes.now)) }
+            → AreNoted (crash_disk self.now.disk.now) (lasting books entry.now.actor entry.now.number) noted.now
+            → IfOk result (λ fates. fates.items ≡ map (fate_of (view_at self.now books) entry.now.actor entry.now.number failed) routes.now) }
     {
         let mail = entry.actor.as_slice();
-        for (index, route) in routes.iter().enumerate() {
-            let word = self
-                .word(mail, entry.number, noted, route)
-                .unwrap_or(failed);
-            put_recipient(text, mail, index as u64 + 1, word)?;
+        let mut fates = Vec::new(alloc);
+        for route in routes {
+            fates.push(self.fate(mail, entry.number, noted, route, failed))?;
         }
-        Ok(())
+        Ok(fates)
     }
 
-    /// What became of a recipient of a mail that isn't in todo; `None` if it failed and isn't noted.
-    fn word(
+    /// What became of a recipient of a mail that isn't in todo, with what became of one that failed and isn't noted.
+    fn fate(
         &self,
         mail: &[u8],
         number: Option<u64>,
         noted: &[ByteText],
         route: &Routed,
-    ) -> Option<&'static [u8]>
+        failed: RecipientFate,
+    ) -> RecipientFate
         ensures { (books : Books) → AreFates self.now.fates.now books → IsUsed number
             → AreNoted (crash_disk self.now.disk.now) (lasting books mail.now number) noted.now
-            → (failed : List ℕ) → unwrap_or (option_map (λ word. word.now) result) failed ≡ word_of (view_at self.now books) mail.now number failed route.now }
+            → result ≡ fate_of (view_at self.now books) mail.now number failed route.now }
     {
         if is_unmarked(self.disk, self.lasting(mail, number), route) {
-            Some(b"pending")
+            RecipientFate::Pending
         } else {
-            self.ending(mail, number, noted, route)
+            self.ending(mail, number, noted, route, failed)
         }
     }
 
@@ -138,21 +134,22 @@ impl Overview<'_> {
         number: Option<u64>,
         noted: &[ByteText],
         route: &Routed,
-    ) -> Option<&'static [u8]>
+        failed: RecipientFate,
+    ) -> RecipientFate
         ensures { (books : Books) → AreFates self.now.fates.now books → IsUsed number
             → AreNoted (crash_disk self.now.disk.now) (lasting books mail.now number) noted.now
-            → (failed : List ℕ) → unwrap_or (option_map (λ word. word.now) result) failed ≡ ending_of (view_at self.now books) mail.now number failed route.now }
+            → result ≡ ending_of (view_at self.now books) mail.now number failed route.now }
     {
         let spot = Spot {
             channel: route.channel,
             place: route.place,
         };
         if self.is_delivered(mail, number, spot) {
-            Some(b"delivered")
+            RecipientFate::Delivered
         } else if is_among(noted, route.name.as_slice()) {
-            Some(b"noted")
+            RecipientFate::Noted
         } else {
-            None
+            failed
         }
     }
 
@@ -189,12 +186,12 @@ impl Overview<'_> {
 
 /// What became of a recipient that failed and isn't noted, by the envelope of its mail: a bounce of the mail was injected, but that of
 /// a double bounce is dropped.
-fn word_of_failed(envelope: &[u8]) -> &'static [u8]
-    ensures { result.now ≡ word_of_failed envelope.now }
+fn failed_fate(envelope: &[u8]) -> RecipientFate
+    ensures { result ≡ failed_fate envelope.now }
 {
     if envelope.starts_with(b"F#@[]\0") {
-        b"dropped"
+        RecipientFate::Dropped
     } else {
-        b"bounced"
+        RecipientFate::Bounced
     }
 }

@@ -20,6 +20,7 @@ use crate::opening_disk::first_disk;
 use crate::refusing::refuse;
 use crate::showing::{cat, show};
 use crate::stepping::{run, step};
+use crate::summing::sum;
 use crate::tracing::{put_events_after, traced_after};
 use crate::turning::{play_turn, settle};
 use crate::{PlayError, Script};
@@ -142,6 +143,7 @@ fn play_alone(
     match word {
         Alone::Trace => Ok(()),
         Alone::Show => show(alloc, world, text),
+        Alone::Sum => sum(alloc, world, text),
         Alone::Sender => begin(alloc, world, text),
         Alone::Turn => play_turn(alloc, world, text),
     }

@@ -104,14 +104,17 @@ fn put_each(
 
 /// An injector, whether it is a child, and the envelope that it was given.
 #[derive(Clone, Copy)]
-struct Given<'a> {
-    actor: &'a ActorName,
-    is_child: bool,
-    envelope: &'a [u8],
+pub(crate) struct Given<'a> {
+    /// Its name.
+    pub(crate) actor: &'a ActorName,
+    /// Whether it is a child.
+    pub(crate) is_child: bool,
+    /// The envelope.
+    pub(crate) envelope: &'a [u8],
 }
 
 /// The injectors that these events started, in order, with the envelopes that they were given: a child after its start.
-fn given_by<'a>(alloc: Global, events: &'a [Event]) -> Result<Vec<Given<'a>>, Memory>
+pub(crate) fn given_by<'a>(alloc: Global, events: &'a [Event]) -> Result<Vec<Given<'a>>, Memory>
     ensures { IfOk result (λ given. reverse (map receiver given.items) ≡ receivers_in (reverse events.now)) }
 {
     let mut given = Vec::new(alloc);

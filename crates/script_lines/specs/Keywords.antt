@@ -16,6 +16,7 @@ abbrev pub keyword_text : Keyword → List ℕ
 keyword_text (Mail form) = form_text form
 keyword_text (Alone alone.Trace) = codes "trace"
 keyword_text (Alone alone.Show) = codes "show"
+keyword_text (Alone alone.Sum) = codes "sum"
 keyword_text (Alone alone.Sender) = codes "sender"
 keyword_text (Alone alone.Turn) = codes "turn"
 keyword_text (Actor of_actor.Step) = codes "step"

@@ -12,6 +12,8 @@ pub enum Alone {
     Trace,
     /// Prints what the queue holds, and how each mail fares.
     Show,
+    /// Prints how many mails were accepted, and what became of their recipients.
+    Sum,
     /// Starts a generation: a sender, a cleaner and two spawners.
     Sender,
     /// Runs each living actor once, in order of start.
@@ -99,6 +101,7 @@ pub(crate) fn keyword_of(word: &[u8]) -> Option<Keyword>
         b"raw" => Some(Keyword::Mail(Form::Raw)),
         b"trace" => Some(Keyword::Alone(Alone::Trace)),
         b"show" => Some(Keyword::Alone(Alone::Show)),
+        b"sum" => Some(Keyword::Alone(Alone::Sum)),
         b"sender" => Some(Keyword::Alone(Alone::Sender)),
         b"turn" => Some(Keyword::Alone(Alone::Turn)),
         b"step" => Some(Keyword::Actor(OfActor::Step)),

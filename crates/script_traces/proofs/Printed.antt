@@ -1,28 +1,9 @@
 -- What is printed of recipients.
-use Rattle.std.proofs.Common.{◌≡◌, ℕ, zero, suc, ◌+◌, List, [], ◌∷◌, ◌++◌, length, sym, ◌∙◌, ap, arith, append_assoc}
+use Rattle.std.proofs.Common.{◌≡◌, ℕ, suc, ◌+◌, List, [], ◌∷◌, ◌++◌, length, sym, ◌∙◌, ap, arith, append_assoc}
 use Rattle.std.proofs.lemmas.List.{append-nil}
 use Rattle.mail_bytes.specs.Decimal.{digits}
 use Rattle.queue_states.specs.Lines.{line_of}
-use Rattle.script_traces.specs.Mails.{alike_lines, recipient_lines}
-
--- one recipient more with the same word
-alike-push : (name word : List ℕ) (k n : ℕ) → alike_lines name word k (suc n) ≡ alike_lines name word k n ++ line_of (name ++ 46 ∷ digits (k + n)) word
-alike-push name word k zero = append-nil (line_of (name ++ 46 ∷ digits k) word) ∙ ap (λ j. line_of (name ++ 46 ∷ digits j) word) (let e : k ≡ k + 0 = omega arith in e)
-alike-push name word k (suc n) =
-    let own = line_of (name ++ 46 ∷ digits k) word in
-    ap (λ t. own ++ t) (alike-push name word (k + 1) n)
-    ∙ sym (append_assoc own (alike_lines name word (k + 1) n) (line_of (name ++ 46 ∷ digits (k + 1 + n)) word))
-    ∙ ap (λ j. alike_lines name word k (suc n) ++ line_of (name ++ 46 ∷ digits j) word) (let e : k + 1 + n ≡ k + suc n = omega arith in e)
-
-pub alike-more : (name word text old new : List ℕ) (n : ℕ) → old ≡ text ++ alike_lines name word 1 n → new ≡ old ++ line_of (name ++ 46 ∷ digits (n + 1)) word → new ≡ text ++ alike_lines name word 1 (n + 1)
-alike-more name word text old new n before line =
-    line
-    ∙ ap (λ t. t ++ line_of (name ++ 46 ∷ digits (n + 1)) word) before
-    ∙ append_assoc text (alike_lines name word 1 n) (line_of (name ++ 46 ∷ digits (n + 1)) word)
-    ∙ ap (λ t. text ++ t)
-    (ap (λ j. alike_lines name word 1 n ++ line_of (name ++ 46 ∷ digits j) word) (let e : n + 1 ≡ 1 + n = omega arith in e)
-    ∙ sym (alike-push name word 1 n)
-    ∙ ap (alike_lines name word 1) (let e : suc n ≡ n + 1 = omega arith in e))
+use Rattle.script_traces.specs.Mails.{recipient_lines}
 
 -- one recipient more
 recipient-push : (name : List ℕ) (k : ℕ) (words : List (List ℕ)) (word : List ℕ)

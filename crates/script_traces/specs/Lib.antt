@@ -4,3 +4,5 @@ pub mod Acts
 pub mod Events
 -- the lines of a mail
 pub mod Mails
+-- what became of recipients
+pub mod Fates

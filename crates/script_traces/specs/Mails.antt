@@ -1,5 +1,5 @@
 -- The lines of a mail and of its recipients.
-use Rattle.std.specs.Prelude.{ℕ, zero, suc, ◌+◌, List, [], ◌∷◌, ◌++◌, codes}
+use Rattle.std.specs.Prelude.{ℕ, ◌+◌, List, [], ◌∷◌, ◌++◌, codes}
 use Rattle.mail_bytes.specs.Decimal.{digits}
 use Rattle.queue_states.specs.Lines.{line_of}
 use Rattle.world_events.specs.declared.books.Life.{Life}
@@ -10,11 +10,6 @@ abbrev pub life_word : Life → List ℕ
 life_word Alive = codes "alive"
 life_word (Ended status) = digits status
 life_word Stopped = codes "stopped"
-
--- `NAME.k WORD` for so many recipients, counted from k
-abbrev pub alike_lines : List ℕ → List ℕ → ℕ → ℕ → List ℕ
-alike_lines name word k zero = []
-alike_lines name word k (suc more) = line_of (name ++ 46 ∷ digits k) word ++ alike_lines name word (k + 1) more
 
 -- `NAME.k WORD` for each word, counted from k
 abbrev pub recipient_lines : List ℕ → ℕ → List (List ℕ) → List ℕ

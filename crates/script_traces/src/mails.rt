@@ -2,7 +2,7 @@
 ghost use Rattle.std.specs.Prelude.{◌≡◌, ◌++◌, ◌∷◌, OnOk};
 ghost use Rattle.mail_bytes.specs.Decimal.{digits};
 ghost use Rattle.queue_states.specs.Lines.{line_of};
-ghost use Rattle.script_traces.specs.Mails.{alike_lines, life_word};
+ghost use Rattle.script_traces.specs.Mails.{life_word};
 
 use crate::printing::put_number;
 use mail_bytes::Memory;
@@ -25,18 +25,13 @@ pub fn put_life(text: &mut Vec<u8>, name: &[u8], life: Life) -> Result<(), Memor
     Ok(())
 }
 
-/// Puts a line with this word for each of so many recipients at the end of a text. The error: out of memory.
-pub fn put_alike(text: &mut Vec<u8>, name: &[u8], count: u64, word: &[u8]) -> Result<(), Memory>
-    ensures { OnOk result (text.new.items ≡ text.old.items ++ alike_lines name.now word.now 1 count) }
-{
-    for index in 0..count {
-        put_recipient(text, name, index + 1, word)?;
-    }
-    Ok(())
-}
-
 /// Puts the line of a recipient at the end of a text, counted from 1. The error: out of memory.
-pub fn put_recipient(text: &mut Vec<u8>, name: &[u8], index: u64, word: &[u8]) -> Result<(), Memory>
+pub(crate) fn put_recipient(
+    text: &mut Vec<u8>,
+    name: &[u8],
+    index: u64,
+    word: &[u8],
+) -> Result<(), Memory>
     ensures { OnOk result (text.new.items ≡ text.old.items ++ line_of (name.now ++ 46 ∷ digits index) word.now) }
 {
     text.extend_from_slice(name)?;

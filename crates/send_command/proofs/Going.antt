@@ -14,7 +14,7 @@ use Rattle.program_runner.specs.Runs.{Change, most_turns}
 use Rattle.program_runner.specs.Members.Step.{Acted, Looked}
 use Rattle.program_runner.specs.Members.{Acts, Asks, Beside, GoesOnStill, HasEndedSo, Idles, IsTurnOf, Look, Waits, events_of}
 use Rattle.program_runner.proofs.Deeds.{did_nothing, meets_then}
-use Rattle.program_runner.proofs.Members.{acted, looked, nothing_beside}
+use Rattle.program_runner.proofs.Members.{acted, asks_so, looked, nothing_beside}
 use Rattle.send_core.specs.declared.desk.Desk.{Desk}
 use Rattle.send_core.specs.Log.{lines_at, lines_of}
 use Rattle.send_core.specs.Stands.{Machine, Stands, gone_on, looked_at}
@@ -160,9 +160,17 @@ module _ (words : ChildData → List (List ℕ)) (turns : ℕ) (old : Outside) (
       took = part_of (log_of turns past) (lines_of (place_after (Some turns) (past ++ [])) a.on.event) log logged g.took;
     }
 
-    cut_at_asking : Asks mid new x y → WasCutShort words turns old new b y log logged
+    cut_at_asking : Asks Next (Stands m) mid new x y → WasCutShort words turns old new b y log logged
     cut_at_asking a = record {
-      cut = record { turns = g.run.turns; mid = mid; mid_beside = x; on = g.run.on; ran = g.run.ran; rest = inr a };
+      cut = record {
+        turns = g.run.turns;
+        mid = mid;
+        mid_beside = x;
+        on = g.run.on;
+        ran = g.run.ran;
+        rest = inr (asks_so Next (Stands m) (λ args past. Is turns args × (past ≡ events_of g.run.turns)) mid new x y
+            (λ args past is. subst (λ (p : List Own). Stands m args p) (sym is.1) (g.run.holds args is.0)) a);
+      };
       took = all_part (log_of turns past) log logged g.took;
     }
 

@@ -13,6 +13,15 @@ abbrev pub put_if : Bool → ℕ × ℕ → List (ℕ × ℕ) → List (ℕ × �
 put_if true e es = put e es
 put_if false e es = removed e.1 es
 
+-- the two parts of that: what is due then if its file is there, and what isn't due if that is so
+abbrev pub entered_if : Bool → ℕ × ℕ → List (ℕ × ℕ) → List (ℕ × ℕ)
+entered_if true e es = put e es
+entered_if false e es = es
+
+abbrev pub dropped_if : Bool → ℕ → List (ℕ × ℕ) → List (ℕ × ℕ)
+dropped_if true n es = removed n es
+dropped_if false n es = es
+
 -- a message is known from now on, and is due then on each channel of which it has a file
 abbrev pub learned : Known → ℕ → Messages → Messages
 learned k due m = record {

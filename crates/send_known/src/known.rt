@@ -1,9 +1,12 @@
 // The list of known messages.
-ghost use Rattle.std.specs.Prelude.{◌≡◌, ◌<◌, [], OnOk, OnErr, IfSome, length, position};
-ghost use Rattle.send_known.specs.Known.{is_known, learned, learned_at, forgotten, birth_of, birth_in, sender_of, sender_in, known_at, put_off, put_off_at, local_gone, local_gone_at, remote_gone, remote_gone_at, first_idle, is_idle, is_of, is_from};
+ghost use Rattle.std.specs.Prelude.{◌≡◌, [], OnOk, OnErr};
+ghost use Rattle.send_known.specs.Known.{is_known, learned, forgotten, birth_of, sender_of, put_off, local_gone, remote_gone, first_idle};
 
+use crate::by_number;
+use crate::by_number::ByNumber;
 use mail_bytes::{ByteText, Memory};
 use std::alloc::Global;
+use std::collections::BTreeMap;
 use std::marker::Model;
 
 /// A message that the sender knows.
@@ -24,18 +27,31 @@ pub struct Known {
 }
 
 /// The known messages; contracts see their list, in order of number.
+///
+/// They are kept in a map by number. Beside it stand the numbers of which no channel file is left, some of which may be
+/// known no more: where there is no memory for one of them, `first_idle` walks over the whole map, until the next message
+/// is learned.
 #[derive(Drop)]
 pub struct KnownList {
-    known: Vec<Known>,
+    /// By number.
+    known: ByNumber,
+    /// Among these is each number of which no channel file is left, if `listed` says so.
+    done: Vec<u64>,
+    /// Whether that is so.
+    listed: bool,
 }
 
 impl Model for KnownList {
     ghost use Rattle.std.specs.Prelude.{List};
+    ghost use Rattle.std.specs.Map.{values_of};
     ghost use Rattle.send_known.specs.declared.known.Known.{Known};
+    ghost use Rattle.send_known.specs.ByNumber.{IsKept};
 
     ghost Value = { List Known };
 
-    ghost view = { λ i. i.known.items };
+    ghost view = { λ i. values_of i.known.entries };
+
+    ghost invariant = { λ i. IsKept i.known i.done.items i.listed };
 }
 
 impl KnownList {
@@ -44,7 +60,9 @@ impl KnownList {
         ensures { result ≡ [] }
     {
         KnownList {
-            known: Vec::new(alloc),
+            known: BTreeMap::new(alloc),
+            done: Vec::new(alloc),
+            listed: true,
         }
     }
 
@@ -52,26 +70,16 @@ impl KnownList {
     pub fn is_known(&self, n: u64) -> bool
         ensures { result ≡ is_known n self.now }
     {
-        self.known.iter().any(|known| known.n == n)
+        self.known.contains_key(&n)
     }
 
     /// When a message was born; 0 if it isn't known.
     pub fn birth_of(&self, n: u64) -> u64
         ensures { result ≡ birth_of n self.now }
     {
-        self.birth_at(self.place_of(n))
-    }
-
-    /// When the message at this place was born; 0 if there is none.
-    fn birth_at(&self, at: Option<usize>) -> u64
-        ensures { result ≡ birth_in (known_at at self.now) }
-    {
-        match at {
+        match self.known.get(&n) {
             None => 0,
-            Some(at) => match self.known.get(at) {
-                None => 0,
-                Some(known) => known.birth,
-            },
+            Some(known) => known.birth,
         }
     }
 
@@ -79,19 +87,9 @@ impl KnownList {
     pub fn sender_of(&self, n: u64) -> &[u8]
         ensures { result.now ≡ sender_of n self.now }
     {
-        self.sender_at(self.place_of(n))
-    }
-
-    /// The sender of the message at this place; empty if there is none.
-    fn sender_at(&self, at: Option<usize>) -> &[u8]
-        ensures { result.now ≡ sender_in (known_at at self.now) }
-    {
-        match at {
+        match self.known.get(&n) {
             None => &[],
-            Some(at) => match self.known.get(at) {
-                None => &[],
-                Some(known) => known.sender.as_slice(),
-            },
+            Some(known) => known.sender.as_slice(),
         }
     }
 
@@ -100,119 +98,49 @@ impl KnownList {
         ensures ok { OnOk result (self.new ≡ learned known self.old) }
         ensures err { OnErr result (self.new ≡ self.old) }
     {
-        let at = self.place_from(known.n);
-        self.learn_at(at, known)
-    }
-
-    /// Puts a message at this place, in place of an older entry of its number; without a place, at the end.
-    fn learn_at(&mut self, at: Option<usize>, known: Known) -> Result<(), Memory>
-        requires { IfSome at (λ i. i < length self.old) }
-        ensures ok { OnOk result (self.new ≡ learned_at at known self.old) }
-        ensures err { OnErr result (self.new ≡ self.old) }
-    {
-        match at {
-            None => self.known.push(known)?,
-            Some(at) if self.known[at].n == known.n => self.known[at] = known,
-            Some(at) => self.known.insert(at, known)?,
-        }
-        Ok(())
+        by_number::relist(&self.known, &mut self.done, &mut self.listed)?;
+        by_number::learn(&mut self.known, &mut self.done, known)
     }
 
     /// This number isn't known any more. Takes no memory.
     pub fn forget(&mut self, n: u64)
         ensures { self.new ≡ forgotten n self.old }
     {
-        remove(&mut self.known, n);
+        self.known.remove(&n);
+        by_number::unlist(&mut self.done, n);
     }
 
     /// This message is finished no earlier than then. Takes no memory.
     pub fn put_off(&mut self, n: u64, moment: u64)
         ensures { self.new ≡ put_off n moment self.old }
     {
-        self.put_off_at(self.place_of(n), moment);
+        by_number::put_off(&mut self.known, n, moment);
     }
 
-    /// The message at this place, if there is one, is finished no earlier than then.
-    fn put_off_at(&mut self, at: Option<usize>, moment: u64)
-        requires { IfSome at (λ i. i < length self.old) }
-        ensures { self.new ≡ put_off_at at moment self.old }
-    {
-        if let Some(at) = at {
-            self.known[at].finish_at = moment;
-        }
-    }
-
-    /// The message's file of the local channel is gone. Takes no memory.
+    /// The message's file of the local channel is gone. Takes no memory that it couldn't do without.
     pub fn local_gone(&mut self, n: u64)
         ensures { self.new ≡ local_gone n self.old }
     {
-        self.local_gone_at(self.place_of(n));
+        by_number::local_gone(&mut self.known, n);
+        self.listed = by_number::is_listed(&self.known, &mut self.done, self.listed, n);
     }
 
-    /// The file of the local channel of the message at this place, if there is one, is gone.
-    fn local_gone_at(&mut self, at: Option<usize>)
-        requires { IfSome at (λ i. i < length self.old) }
-        ensures { self.new ≡ local_gone_at at self.old }
-    {
-        if let Some(at) = at {
-            self.known[at].local = false;
-        }
-    }
-
-    /// The message's file of the remote channel is gone. Takes no memory.
+    /// The message's file of the remote channel is gone. Takes no memory that it couldn't do without.
     pub fn remote_gone(&mut self, n: u64)
         ensures { self.new ≡ remote_gone n self.old }
     {
-        self.remote_gone_at(self.place_of(n));
-    }
-
-    /// The file of the remote channel of the message at this place, if there is one, is gone.
-    fn remote_gone_at(&mut self, at: Option<usize>)
-        requires { IfSome at (λ i. i < length self.old) }
-        ensures { self.new ≡ remote_gone_at at self.old }
-    {
-        if let Some(at) = at {
-            self.known[at].remote = false;
-        }
+        by_number::remote_gone(&mut self.known, n);
+        self.listed = by_number::is_listed(&self.known, &mut self.done, self.listed, n);
     }
 
     /// The least number whose channel files are both gone and whose finish moment has come. Takes no memory.
     pub fn first_idle(&self, now: u64) -> Option<u64>
         ensures { result ≡ first_idle now self.now }
     {
-        self.known
-            .iter()
-            .find(|known| is_idle(now, known))
-            .map(|known| known.n)
+        if self.listed {
+            by_number::least_idle(&self.known, &self.done, now)
+        } else {
+            by_number::first_idle(&self.known, now)
+        }
     }
-
-    /// The place of the message of this number, if it is known.
-    fn place_of(&self, n: u64) -> Option<usize>
-        ensures place { result ≡ position (is_of n) self.now }
-        ensures inside { IfSome result (λ i. i < length self.now) }
-    {
-        self.known.iter().position(|known| known.n == n)
-    }
-
-    /// The place of the first message of this number or a greater one, if there is one.
-    fn place_from(&self, n: u64) -> Option<usize>
-        ensures place { result ≡ position (is_from n) self.now }
-        ensures inside { IfSome result (λ i. i < length self.now) }
-    {
-        self.known.iter().position(|known| known.n >= n)
-    }
-}
-
-/// Removes the messages of this number.
-fn remove(known: &mut Vec<Known>, n: u64)
-    ensures { known.new.items ≡ forgotten n known.old.items }
-{
-    known.retain(|known| known.n != n);
-}
-
-/// Whether its channel files are both gone and its finish moment has come.
-fn is_idle(now: u64, known: &Known) -> bool
-    ensures { result ≡ is_idle now known.now }
-{
-    known.finish_at <= now && !(known.local || known.remote)
 }

@@ -2,7 +2,7 @@
 //! each is due, and which may be finished (qmail-send(8); INTERNALS, section 6).
 //!
 //! The contract of this crate: each call of `Messages` does what the definition of the same name does to the list of known
-//! messages, in order of number, and to the two schedules. Only `learn` takes memory, and changes all or nothing.
+//! messages, in order of number, and to the two schedules. Only `learn` may answer that there is no memory, and then nothing changed.
 //!
 //! It is a crate of its own, and no part of send_core, for the checker alone: so a check of either stays short.
 //!
@@ -14,6 +14,7 @@
 //!   remote_gone, forget}`, each an equation with the definition of that name.
 #![tactic(auto)]
 
+mod by_number;
 mod known;
 mod messages;
 

@@ -1,11 +1,12 @@
 // What is known, and when it is due.
-ghost use Rattle.std.specs.Prelude.{◌≡◌, IfOk};
-ghost use Rattle.send_known.specs.Messages.{put_if};
+ghost use Rattle.std.specs.Prelude.{◌≡◌, ℕ, List, IfOk, OnOk, OnErr};
+ghost use Rattle.retry_schedule.specs.Due.{IsSchedule, IsDueOf};
+ghost use Rattle.send_known.specs.Messages.{dropped_if, entered_if};
 
 use crate::known::{Known, KnownList};
 use mail_bytes::Memory;
 use retry_schedule::Due;
-use std::alloc::Global;
+use std::alloc::{AllocError, Global};
 
 /// The known messages, and when each is due on each channel. While a pass over a channel file goes on, its message is due
 /// there at a moment that never comes (`NEVER`).
@@ -38,16 +39,28 @@ impl Messages {
     }
 
     /// A message is known from now on, and is due then on each channel of which it has a file. After an `Err` all is as
-    /// before: the schedules are changed in copies.
-    pub fn learn(&mut self, alloc: Global, known: Known, due: u64) -> Result<(), Memory>
+    /// before: what was put in is taken out again.
+    pub fn learn(&mut self, _alloc: Global, known: Known, due: u64) -> Result<(), Memory>
         ensures ok { OnOk result (self.new ≡ learned known due self.old) }
         ensures err { OnErr result (self.new ≡ self.old) }
     {
-        let local = put_if(alloc, &self.local, known.local, due, known.n)?;
-        let remote = put_if(alloc, &self.remote, known.remote, due, known.n)?;
-        self.known.learn(known)?;
-        self.local = local;
-        self.remote = remote;
+        let n = known.n;
+        let (on_local, on_remote) = (known.local, known.remote);
+        let was_local = enter(&mut self.local, on_local, due, n)?;
+        let was_remote = match enter(&mut self.remote, on_remote, due, n) {
+            Ok(was) => was,
+            Err(_) => {
+                undo(&mut self.local, on_local, was_local, n);
+                return Err(AllocError);
+            }
+        };
+        if self.known.learn(known).is_err() {
+            undo(&mut self.remote, on_remote, was_remote, n);
+            undo(&mut self.local, on_local, was_local, n);
+            return Err(AllocError);
+        }
+        drop_if(&mut self.local, !on_local, n);
+        drop_if(&mut self.remote, !on_remote, n);
         Ok(())
     }
 
@@ -77,15 +90,39 @@ impl Messages {
     }
 }
 
-/// A copy of a schedule in which the number is due then, if it has a file there, and else isn't due.
-fn put_if(alloc: Global, old: &Due, has_file: bool, due: u64, n: u64) -> Result<Due, Memory>
-    ensures { IfOk result (λ new. new ≡ put_if has_file (due, n) old.now) }
+/// The number is due then, if it has a file there; when it was due before. After an `Err` all is as before.
+fn enter(schedule: &mut Due, has_file: bool, due: u64, n: u64) -> Result<Option<u64>, Memory>
+    ensures schedule { IsSchedule schedule.old }
+    ensures was { IfOk result (IsDueOf n schedule.old) }
+    ensures ok { OnOk result (schedule.new ≡ entered_if has_file (due, n) schedule.old) }
+    ensures err { OnErr result (schedule.new ≡ schedule.old) }
 {
-    let mut new = old.copy(alloc)?;
+    schedule.is_schedule();
+    let was = schedule.due_of(n);
     if has_file {
-        new.put(due, n)?;
-    } else {
-        new.remove(n);
+        schedule.put(due, n)?;
     }
-    Ok(new)
+    Ok(was)
+}
+
+/// What `enter` has put in is as it was before. Takes no memory.
+fn undo(schedule: &mut Due, has_file: bool, was: Option<u64>, n: u64)
+    ensures { (due : ℕ) (before : List (ℕ × ℕ)) → IsSchedule before → IsDueOf n before was
+        → schedule.old ≡ entered_if has_file (due, n) before → schedule.new ≡ before }
+{
+    if has_file {
+        match was {
+            Some(due) => schedule.reschedule(n, due),
+            None => schedule.remove(n),
+        }
+    }
+}
+
+/// The number isn't due any more, if that is so. Takes no memory.
+fn drop_if(schedule: &mut Due, is_gone: bool, n: u64)
+    ensures { schedule.new ≡ dropped_if is_gone n schedule.old }
+{
+    if is_gone {
+        schedule.remove(n);
+    }
 }

@@ -13,7 +13,7 @@ use Rattle.program_runner.specs.Programs.{AreFresh, HasFailedToHear}
 use Rattle.program_runner.specs.Runs.{most_turns}
 use Rattle.program_runner.specs.Members.{Beside, GoesOnStill, HasEndedSo, IsRunOf, Leads, RanTo, Step, WasCut, all_asked, events_of}
 use Rattle.program_runner.specs.Members.Step.{Looked}
-use Rattle.program_runner.proofs.Members.{begins}
+use Rattle.program_runner.proofs.Members.{asks_so, begins}
 use Rattle.spawn_command.specs.Spawned.{HasLongField, HasRunOver, StillRuns, WasCutShort, WasSpawned, begun_lines}
 use Rattle.spawn_command.proofs.Causes.{at_53, at_54, done, has_reports, malformed, parted}
 use Rattle.spawn_command.proofs.Laws.{Laws}
@@ -67,7 +67,15 @@ module _ (next : Unit {0} → Table) (words : ChildData → List (List ℕ)) (ro
     }
 
   cut : WasCut next words roomy possible old.last old new beside now → WasCutShort next words old new beside now
-  cut r = record { turns = r.turns; mid = r.mid; mid_beside = r.mid_beside; on = r.on; ran = as_any r.turns r.mid r.mid_beside r.ran; rest = r.rest }
+  cut r = record {
+    turns = r.turns;
+    mid = r.mid;
+    mid_beside = r.mid_beside;
+    on = r.on;
+    ran = as_any r.turns r.mid r.mid_beside r.ran;
+    rest = ⊎_elim (λ same. inl same) (λ a. inr (asks_so next (λ args past. possible args × (past ≡ events_of r.turns)) (λ args past. Unit {0} × (past ≡ events_of r.turns)) r.mid new r.mid_beside now
+        (λ args past is. (all args, is.1)) a)) r.rest;
+  }
 
   still : (stands : Unit {0} → List Own → Type 0) → GoesOnStill next words roomy stands possible old.last most_turns old new beside now → StillRuns next words old new beside now
   still stands r = record { turns = r.turns; long = r.long; on = r.on; ran = as_any r.turns new now r.ran }

@@ -11,6 +11,7 @@ mod host_steps;
 mod host_system;
 mod names;
 mod recorder;
+mod runs;
 mod scripts;
 mod steps;
 mod stopper;

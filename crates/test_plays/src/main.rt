@@ -12,16 +12,19 @@
 //! - `as EVENT : LINE`: the line that makes this event by itself; none if it is `-`. Any other event is made by a step of its
 //!   actor. All events, made so, must be the same.
 //! - `case NAME`: the lines from here to the next `case` are of this case alone. The lines before all cases are of each.
-//! - `stop LINE`: a stop. The case is played with each of its stops, before each event and at the end.
+//! - `stop LINE`: a stop. The case is played with each of its stops, before each event and at the end. `{actor}` at its end is the
+//!   actor of the event before it. By ` | {next}` at its end the next event is made after it, and the case is then played before
+//!   each file call that may fail and before nothing else.
 //! - `then LINE`: a line that is played after the stop. `{stop}` is the stop itself, and another name in braces stands for the
 //!   lines that are so of that name then.
 //! - `from EVENT : NAME : LINES`: these lines, parted by ` | `, are so of this name from an event on that begins so, or
 //!   `from the start`. The lines of one name are taken in turn, each from the first such event on after that of the line before.
 //! - `prints LINE`: a line that must be printed then, with names in braces as after `then`. These are all that is printed.
-//! - `each LINE`, `free LINE`, `pairs LINE : LINE`: in place of `prints`. Each line that is printed after the last `pid 0` must be
-//!   like one of the lines `each` or `free`. If `accepted` is `yes` something must be like each of the lines `each`, and else
-//!   nothing; and as much must be like the second line of `pairs` as like the first, or more. `*` is any part of a first word
-//!   between points, or any rest of a line.
+//! - `each LINE`, `free LINE`, `never LINE`, `pairs LINE : LINE`: in place of `prints`. The last line `pid` must have the number that
+//!   is so of `pids`, or 0. Each line that is printed after it must be like one of the lines `each` or `free`. If `accepted` is
+//!   `yes` something must be like each of the lines `each`, and else nothing; nothing must be like a line `never`; and as much must
+//!   be like the second line of `pairs` as like the first, or more. `*` is any part of a first word between points, or any rest of
+//!   a line.
 //!
 //! If `checked` has lines `from`, nothing is asked while it is empty. The line printed of a case says how many stops it has, after
 //! a line for each stop that goes otherwise.

@@ -9,8 +9,18 @@ use std::alloc::Global;
 use std::io;
 
 /// The names that lines of a file begin with.
-const NAMES: [&str; 11] = [
-    "opening", "play", "as", "case", "stop", "from", "then", "prints", "each", "free", "pairs",
+const NAMES: [&str; 12] = [
+    "opening", "play", "as", "case", "stop", "from", "then", "prints", "each", "free", "never",
+    "pairs",
+];
+
+/// What ends a stop that has the next event made after it.
+const NEXT: &str = " | {next}";
+
+/// The second words of events that are file calls and may fail.
+const CALLS: [&str; 11] = [
+    "create", "open", "read", "write", "append", "truncate", "sync", "link", "unlink", "stat",
+    "next",
 ];
 
 /// Plays the script of a file line by line, and then each of its cases, with each of its stops before each event. What is
@@ -131,28 +141,84 @@ fn first_wrong(rt: &HostRuntime, lines: &str, stop: &str, events: &str) -> io::R
     let mut past = String::new(rt.alloc());
     let mut script = String::new(rt.alloc());
     for event in events.lines() {
-        if !is_right(rt, lines, stop, &past, &script)? {
+        if !is_right(rt, lines, stop, &past, event, &script)? {
             return Ok(String::from_str(rt.alloc(), event)?);
         }
         past.push_str(event)?;
         past.push_str("\n")?;
         push_line(&mut script, lines, event)?;
     }
-    let is_right = is_right(rt, lines, stop, &past, &script)?;
+    let is_right = is_right(rt, lines, stop, &past, "", &script)?;
     Ok(String::from_str(rt.alloc(), if is_right { "" } else { "the end" })?)
 }
 
-/// Whether a stop after these events, which this script makes, goes as the case says, if it asks anything of it.
+/// Whether a stop after these events, which this script makes, and before the next one goes as the case says, if it asks anything
+/// of it.
 fn is_right(
+    rt: &HostRuntime,
+    lines: &str,
+    stop: &str,
+    past: &str,
+    next: &str,
+    script: &str,
+) -> io::Result<bool> {
+    if now(lines, "checked", past) == Some("") || !is_made_before(stop, next) {
+        return Ok(true);
+    }
+    let stop = lines_of(rt.alloc(), lines, stop, past, next)?;
+    goes_on(rt, lines, &stop, past, script)
+}
+
+/// Whether a stop is made before this event: a stop that has the next event made is made before file calls alone.
+fn is_made_before(stop: &str, next: &str) -> bool {
+    let deed = next.split(' ').nth(1).unwrap_or("");
+    stop.strip_suffix(NEXT).is_none() || CALLS.iter().any(|call| *call == deed)
+}
+
+/// The lines of a stop after these events and before the next one.
+fn lines_of(
+    alloc: Global,
+    head: &str,
+    stop: &str,
+    past: &str,
+    next: &str,
+) -> Result<String, Memory> {
+    let mut lines = String::new(alloc);
+    match stop.strip_suffix(NEXT) {
+        Some(before) => {
+            push_made(&mut lines, before)?;
+            push_line(&mut lines, head, next)?;
+        }
+        None => push_stop(&mut lines, stop, past)?,
+    }
+    Ok(lines)
+}
+
+/// Appends a stop after these events, without an end of the line.
+fn push_stop(lines: &mut String, stop: &str, past: &str) -> Result<(), Memory> {
+    let Some(before) = stop.strip_suffix("{actor}") else {
+        return lines.push_str(stop);
+    };
+    lines.push_str(before)?;
+    lines.push_str(last_actor(past))
+}
+
+/// The actor of the last of these events; nothing if there is none.
+fn last_actor(past: &str) -> &str {
+    let events = past.strip_suffix("\n").unwrap_or(past);
+    let (_, last) = events.rsplit_once("\n").unwrap_or(("", events));
+    let (actor, _) = last.split_once(' ').unwrap_or((last, ""));
+    actor
+}
+
+/// Whether what is played after these events and then this stop prints what the case says.
+fn goes_on(
     rt: &HostRuntime,
     lines: &str,
     stop: &str,
     past: &str,
     script: &str,
 ) -> io::Result<bool> {
-    if now(lines, "checked", past) == Some("") {
-        return Ok(true);
-    }
     let text = printed(rt, stopped(rt.alloc(), lines, stop, past, script)?)?;
     if has_field(lines, "each") {
         return Ok(are_accounted(lines, past, &text));

@@ -2,16 +2,26 @@
 
 use crate::stages::now;
 
-/// Whether the lines after the last `pid 0` are those that a case allows: each of them is like one of the lines `each` or `free`;
-/// if the mail is accepted by then, something is like each of the lines `each`, and else nothing is like any of them; and of two
-/// lines `pairs` as much at least is like the second one as like the first.
+/// Whether the lines after the last line `pid` are those that a case allows, and that line has the number that is so of `pids`,
+/// or else 0: each of them is like one of the lines `each` or `free`; if the mail is accepted by then, something is like each of
+/// the lines `each`, and else nothing is like any of them; nothing is like a line `never`; and of two lines `pairs` as much at
+/// least is like the second one as like the first.
 pub(crate) fn are_accounted(lines: &str, past: &str, text: &str) -> bool {
-    let Some((_, told)) = text.rsplit_once("pid 0\n") else {
+    let Some((pids, told)) = told_last(text) else {
         return false;
     };
+    if pids != now(lines, "pids", past).unwrap_or("0") {
+        return false;
+    }
     let is_accepted = now(lines, "accepted", past) == Some("yes");
     told.lines().all(|one| is_allowed(lines, one))
         && lines.lines().all(|rule| is_kept(rule, told, is_accepted))
+}
+
+/// The number in the last line `pid` of a text, and what stands after that line.
+fn told_last(text: &str) -> Option<(&str, &str)> {
+    let (_, last) = text.rsplit_once("pid ")?;
+    last.split_once('\n')
 }
 
 /// Whether a line that is told is like one that may be.
@@ -26,6 +36,7 @@ fn is_allowed(lines: &str, one: &str) -> bool {
 fn is_kept(rule: &str, told: &str, is_accepted: bool) -> bool {
     match rule.split_once(' ') {
         Some(("each", pattern)) => (count(pattern, told) > 0) == is_accepted,
+        Some(("never", pattern)) => count(pattern, told) == 0,
         Some(("pairs", patterns)) => are_paired(patterns, told),
         _ => true,
     }

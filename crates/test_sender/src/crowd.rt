@@ -121,8 +121,8 @@ fn run(alloc: Global, sender: &mut Sender, table: &mut Table, steps: u64) {
     }
 }
 
-/// How many of so many messages are removed in two turns for each, and two more.
-pub(crate) fn removed(alloc: Global, crowd: u64) -> u64 {
+/// How many of so many messages are removed in so many turns.
+pub(crate) fn removed(alloc: Global, crowd: u64, turns: u64) -> u64 {
     let mut table = Table {
         crowd,
         held: b"",
@@ -130,16 +130,15 @@ pub(crate) fn removed(alloc: Global, crowd: u64) -> u64 {
         removed: 0,
     };
     if table.reports.push(b'x').is_ok() {
-        run_through(alloc, &mut table);
+        run_through(alloc, &mut table, turns);
     }
     let removed = table.removed;
     drop(table);
     removed
 }
 
-/// A new sender runs over this table.
-fn run_through(alloc: Global, table: &mut Table) {
-    let turns = table.crowd.saturating_mul(2).saturating_add(2);
+/// A new sender runs over this table for so many turns.
+fn run_through(alloc: Global, table: &mut Table, turns: u64) {
     let steps = table.crowd.saturating_mul(100).saturating_add(1000);
     match Sender::new(alloc, Some(turns)) {
         Ok(mut sender) => {

@@ -34,7 +34,8 @@
 //! In texts `%` and two hexadecimal digits stand for a byte.
 //!
 //! At last a sender runs over a table of answers that knows many messages, as many as the first word says, or else 300, each
-//! with one recipient. How many of these it has removed is printed.
+//! with one recipient, in as many turns as the second word says, or else in enough. How many of these it has removed is
+//! printed.
 #![tactic(auto)]
 
 mod crowd;
@@ -57,19 +58,20 @@ use trouble::Trouble;
 const CROWD: u64 = 300;
 
 fn main(rt: HostRuntime) -> io::Result<()> {
-    let crowd = crowd_of(&rt)?;
+    let crowd = number_at(&rt, 1, CROWD)?;
+    let turns = number_at(&rt, 2, crowd.saturating_mul(2).saturating_add(2))?;
     play_files(&rt, ".run")?;
     play_files(&rt, ".disk")?;
-    let count = removed(rt.alloc(), crowd);
+    let count = removed(rt.alloc(), crowd, turns);
     println!(rt; "crowd: {count} of {crowd} messages removed")
 }
 
-/// How many messages the crowd has, by the first word.
-fn crowd_of(rt: &HostRuntime) -> io::Result<u64> {
-    let Some(word) = env::args(rt)?.nth(1) else {
-        return Ok(CROWD);
+/// The number that the word at this place is, or else this one.
+fn number_at(rt: &HostRuntime, place: usize, or_else: u64) -> io::Result<u64> {
+    let Some(word) = env::args(rt)?.nth(place) else {
+        return Ok(or_else);
     };
-    Ok(word.parse::<u64>().unwrap_or(CROWD))
+    Ok(word.parse::<u64>().unwrap_or(or_else))
 }
 
 /// Plays the files with this ending, in byte order.

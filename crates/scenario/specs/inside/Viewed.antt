@@ -6,13 +6,18 @@ use Rattle.script_disks.specs.Controls.{controls_on}
 use Rattle.mail_world.specs.History.{Event, after}
 use Rattle.world_events.specs.declared.books.Entry.{Entry}
 use Rattle.scenario.specs.declared.overview.Overview.{Overview}
+use Rattle.script_traces.specs.declared.fates.RecipientFate.{RecipientFate}
 use Rattle.scenario.specs.declared.showing.Given.{Given}
 use Rattle.scenario.specs.Fates.{AreFates}
-use Rattle.scenario.specs.Shown.{View, entry_lines}
+use Rattle.scenario.specs.Shown.{View, entry_lines, fates_of}
 
 -- the lines of a mail by its entry in the books, and by what its injector was given
 abbrev pub given_lines : View → Entry × Given → List ℕ
 given_lines v mail = entry_lines v mail.0 mail.1.envelope.now
+
+-- what became of its recipients, by the same
+abbrev pub given_fates : View → Entry × Given → List RecipientFate
+given_fates v mail = fates_of v mail.0 mail.1.envelope.now
 
 -- it was read of a world in which this happened, since it began with this disk
 pub record IsOf (o : Overview) (d : Disk) (h : List Event) : Type 0 where

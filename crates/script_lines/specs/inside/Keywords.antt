@@ -16,7 +16,7 @@ use Rattle.script_lines.specs.Keywords.{keyword_text}
 abbrev pub keywords : List Keyword
 keywords =
     Mail Written ∷ Mail Raw
-    ∷ Alone alone.Trace ∷ Alone alone.Show ∷ Alone alone.Sender ∷ Alone alone.Turn
+    ∷ Alone alone.Trace ∷ Alone alone.Show ∷ Alone alone.Sum ∷ Alone alone.Sender ∷ Alone alone.Turn
     ∷ Actor of_actor.Step ∷ Actor of_actor.Run ∷ Actor of_actor.Stop
     ∷ Count of_count.Fault ∷ Count of_count.Number
     ∷ Moment of_moment.Moment

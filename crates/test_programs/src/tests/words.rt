@@ -1,7 +1,8 @@
 // Words of the command line, and what they are.
 
 use command_words::{
-    Command, LocalWords, Places, QueueWords, SendWords, WordsError, channels, places, read_words,
+    Command, LocalWords, MakeWords, Places, QueueWords, SendWords, WordsError, channels, places,
+    read_words,
 };
 use mail_bytes::{ByteText, Memory};
 use std::alloc::Global;
@@ -10,6 +11,9 @@ use std::alloc::Global;
 /// with what it is told, in the order of the fields of its type; then the file of the envelope and the directory that the
 /// words name, each `-` if there is none, and the channels.
 const ROWS: &str = r#"play -> play; - -; Nothing
+make 7 2000 -> make 7 2000; - -; Nothing
+make 0 0 -> make 0 0; - -; Nothing
+make -- 65536 100000 -> make 65536 100000; - -; Nothing
 queue - DIR -> queue - DIR 0 false; - DIR; Nothing
 queue ENV DIR -> queue ENV DIR 0 false; ENV DIR; Nothing
 queue - DIR --bounce -> queue - DIR 0 true; - DIR; Nothing
@@ -46,6 +50,19 @@ Play
 play more
 play --help
 play --version
+make
+make 7
+make 7 2000 more
+make 7 2000 --help
+make 65537 1
+make 1 100001
+make 1 18446744073709551616
+make 01 1
+make 1 01
+make +1 1
+make -1 1
+make 1 ""
+make --seed 7 --count 1
 queue
 queue -
 queue - DIR more
@@ -160,10 +177,17 @@ fn send_text(alloc: Global, told: &SendWords) -> Result<String, Memory> {
     format!(in alloc; "send {dir} {program} {turns}")
 }
 
+/// What `make` is told.
+fn make_text(alloc: Global, told: MakeWords) -> Result<String, Memory> {
+    let MakeWords { seed, count } = told;
+    format!(in alloc; "make {seed} {count}")
+}
+
 /// A command with what it is told, or why words are none.
 fn text_of(alloc: Global, found: &Result<Command, WordsError>) -> Result<String, Memory> {
     match found {
         Ok(Command::Play) => String::from_str(alloc, "play"),
+        Ok(Command::Make(told)) => make_text(alloc, *told),
         Ok(Command::Queue(queue)) => queue_text(alloc, queue),
         Ok(Command::Audit(dir)) => named(alloc, "audit", dir, b""),
         Ok(Command::Clean(dir)) => named(alloc, "clean", dir, b""),

@@ -1,6 +1,7 @@
 // Which entry is due first.
 
-use retry_schedule::Due;
+use retry_schedule::{Due, PlainDue, Schedule};
+use std::alloc::Global;
 
 /// What is done, and what comes of it.
 #[derive(Clone, Copy, Debug)]
@@ -9,6 +10,10 @@ enum Step {
     Add(u64, u64),
     /// A number gets another due moment.
     Change(u64, u64),
+    /// A number gets a due moment, whether it has one or not.
+    Put(u64, u64),
+    /// A number gets another due moment, if it has one.
+    Again(u64, u64),
     /// The entry of a number is taken out.
     Remove(u64),
     /// The first at a moment.
@@ -21,7 +26,7 @@ enum Step {
 const LAST: u64 = u64::MAX;
 
 /// Steps from a schedule without entries.
-const STEPS: [Step; 27] = [
+const STEPS: [Step; 43] = [
     Step::First(LAST, None),
     Step::Add(8, 3),
     Step::Add(5, 12),
@@ -51,20 +56,38 @@ const STEPS: [Step; 27] = [
     Step::First(LAST - 1, None),
     Step::First(LAST, Some((LAST, 1))),
     Step::Add(LAST, 0),
+    // In place of a moment, and where there was none.
+    Step::Put(0, 4),
+    Step::First(LAST, Some((4, 0))),
+    Step::Put(2, 4),
+    Step::First(LAST, Some((4, 0))),
+    Step::Put(0, 4),
+    Step::Remove(0),
+    Step::First(4, Some((4, 2))),
+    // Of a number that isn't due nothing comes.
+    Step::Again(0, 1),
+    Step::Of(0, None),
+    Step::Again(2, LAST),
+    Step::First(LAST - 1, None),
+    Step::First(LAST, Some((LAST, 1))),
+    Step::Again(2, LAST),
+    Step::Again(1, 3),
+    Step::First(3, Some((3, 1))),
+    Step::First(2, None),
 ];
 
 /// Puts an entry in, if its number has none.
-fn add(due: &mut Due, moment: u64, n: u64) -> bool {
+fn add<S: Schedule>(due: &mut S, moment: u64, n: u64) -> bool {
     due.due_of(n).is_none() && due.add(moment, n).is_ok()
 }
 
 /// Gives a number that has an entry another moment; whether that was done.
-fn change(due: &mut Due, n: u64, moment: u64) -> bool {
+fn change<S: Schedule>(due: &mut S, n: u64, moment: u64) -> bool {
     due.due_of(n).is_some() && due.change(n, moment).is_ok()
 }
 
 /// Removes the entry of a number that has one; whether it had.
-fn remove(due: &mut Due, n: u64) -> bool {
+fn remove<S: Schedule>(due: &mut S, n: u64) -> bool {
     if due.due_of(n).is_none() {
         return false;
     }
@@ -72,23 +95,46 @@ fn remove(due: &mut Due, n: u64) -> bool {
     true
 }
 
+/// Gives a number another moment, if it has one; it has none exactly if it had none.
+fn again<S: Schedule>(due: &mut S, n: u64, moment: u64) -> bool {
+    let was_due = due.is_due(n);
+    due.reschedule(n, moment);
+    due.is_due(n) == was_due
+}
+
 /// Whether the step does what it says.
-fn does(due: &mut Due, step: Step) -> bool {
+fn does<S: Schedule>(due: &mut S, step: Step) -> bool {
     match step {
         Step::Add(moment, n) => add(due, moment, n),
         Step::Change(n, moment) => change(due, n, moment),
+        Step::Put(n, moment) => due.put(moment, n).is_ok(),
+        Step::Again(n, moment) => again(due, n, moment),
         Step::Remove(n) => remove(due, n),
         Step::First(now, found) => due.first(now) == found,
         Step::Of(n, found) => due.due_of(n) == found,
     }
 }
 
+/// The first step that doesn't do what it says.
+fn first_wrong<S: Schedule>(due: &mut S) -> Option<Step> {
+    for step in &STEPS {
+        if !does(due, *step) {
+            return Some(*step);
+        }
+    }
+    None
+}
+
 #[test]
 fn entries_come_in_order(rt: HostRuntime) {
-    let mut due = Due::new(rt.alloc());
-    for step in &STEPS {
-        assert!(rt; does(&mut due, *step), "{step:?}");
-    }
+    let wrong = first_wrong(&mut Due::new(rt.alloc()));
+    assert!(rt; wrong.is_none(), "{wrong:?}");
+}
+
+#[test]
+fn entries_of_the_plain_list_come_in_order(rt: HostRuntime) {
+    let wrong = first_wrong(&mut PlainDue::new(rt.alloc()));
+    assert!(rt; wrong.is_none(), "{wrong:?}");
 }
 
 /// Puts 10,000 entries in, no two of which are due together.
@@ -120,4 +166,61 @@ fn is_emptied(due: &mut Due) -> bool {
 fn many_entries_are_filled_and_emptied(rt: HostRuntime) {
     let mut due = Due::new(rt.alloc());
     assert!(rt; is_filled(&mut due) && is_emptied(&mut due));
+}
+
+/// Whether both forms are due alike: the first of both at some moments, and when each number is due.
+fn are_alike(due: &Due, plain: &PlainDue) -> bool {
+    for at in 0..64 {
+        if due.first(at) != plain.first(at) || due.due_of(at) != plain.due_of(at) {
+            return false;
+        }
+    }
+    due.first(LAST) == plain.first(LAST)
+}
+
+/// Does one of 512 things to both forms; whether both did it and are alike then.
+fn both_do(due: &mut Due, plain: &mut PlainDue, turn: u64) -> bool {
+    let n = turn.wrapping_mul(37) % 61;
+    let moment = turn.wrapping_mul(turn) % 59;
+    let done = match turn % 4 {
+        0 | 1 => due.put(moment, n).is_ok() && plain.put(moment, n).is_ok(),
+        2 => {
+            due.reschedule(n, moment);
+            plain.reschedule(n, moment);
+            true
+        }
+        _ => {
+            due.remove(n);
+            plain.remove(n);
+            true
+        }
+    };
+    done && are_alike(due, plain)
+}
+
+#[test]
+fn both_forms_are_alike(rt: HostRuntime) {
+    let mut due = Due::new(rt.alloc());
+    let mut plain = PlainDue::new(rt.alloc());
+    for turn in 0..512 {
+        assert!(rt; both_do(&mut due, &mut plain, turn), "{turn}");
+    }
+}
+
+/// Whether a copy has the same entries, also after one more was put into it.
+fn is_copied(alloc: Global, due: &Due) -> bool {
+    let Ok(mut copy) = due.copy(alloc) else {
+        return false;
+    };
+    let same = copy.first(LAST) == due.first(LAST) && copy.due_of(5) == due.due_of(5);
+    same && copy.put(0, 5).is_ok() && copy.first(0) == Some((0, 5)) && due.first(0).is_none()
+}
+
+#[test]
+fn a_copy_has_the_same_entries(rt: HostRuntime) {
+    let mut due = Due::new(rt.alloc());
+    for n in 0..100 {
+        assert!(rt; add(&mut due, 100 - n, n), "{n}");
+    }
+    assert!(rt; is_copied(rt.alloc(), &due));
 }

@@ -9,7 +9,7 @@ use std::test::Fail;
 type Row = (u8, u8, u8, &'static [u8]);
 
 /// Bytes with the reports that they give.
-const TEXTS: [(&[u8], &[Row]); 5] = [
+const TEXTS: [(&[u8], &[Row]); 7] = [
     (b"", &[]),
     (b"\x03Kok\0", &[(3, b'K', b'K', b"ok")]),
     (
@@ -25,6 +25,8 @@ const TEXTS: [(&[u8], &[Row]); 5] = [
             (7, 0xff, b'Z', b"\xff"),
         ],
     ),
+    (b"\0Qx\0", &[(0, b'Q', b'Z', b"x")]),
+    (b"\0\0", &[(0, 0, b'Z', b"")]),
     // The letter of the next report isn't that of one without a letter.
     (b"\x04\0\x04K\0", &[(4, 0, b'Z', b""), (4, b'K', b'K', b"")]),
 ];
@@ -98,7 +100,7 @@ fn long_text(alloc: Global, letter: u8, more: &[u8]) -> Result<Vec<u8>, Memory> 
 #[test]
 fn text_past_the_10000th_byte_is_dropped(rt: HostRuntime) -> Result<(), Fail> {
     let rows: [Row; 1] = [(9, b'K', b'K', &LONG)];
-    for more in [b"".as_slice(), b"b", b"bc"] {
+    for more in [b"".as_slice(), b"b", b"bc", b"bcd"] {
         let text = long_text(rt.alloc(), b'K', more)?;
         assert!(rt;
             gives(rt.alloc(), text.as_slice(), b"", &rows) && text.len() == 10_001 + more.len()

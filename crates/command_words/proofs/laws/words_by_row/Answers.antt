@@ -1,14 +1,14 @@
-use Rattle.std.proofs.Common.{◌≡◌, ℕ, List, [], Option, Some, None, true, false, codes, option_and_then, option_map, refl, ap, arith, rules}
+use Rattle.std.proofs.Common.{◌≡◌, ℕ, List, [], Option, Some, None, true, false, codes, option_and_then, option_map, refl, ap, ap₂, arith, rules}
 use Rattle.std.proofs.lemmas.List.Elements.{All-from_recursion}
 use Rattle.mail_bytes.specs.Decimal.{IsDigit, digits, number_of, value}
 use Rattle.mail_bytes.proofs.Digits.{number_of_text}
 use Rattle.call_fs.specs.declared.past.DeliveryWordsData.{DeliveryWordsData}
 use Rattle.clap.proofs.OnLiterals.{clap_on_literals}
 use Rattle.command_words.specs.declared.command.Command.{Command}
-use Rattle.command_words.specs.declared.command.Command.TheVariants.{Queue, Send, Local}
+use Rattle.command_words.specs.declared.command.Command.TheVariants.{Make, Queue, Send, Local}
 use Rattle.command_words.specs.Delivery.{local_told, local_words}
-use Rattle.command_words.specs.Numbers.{as_turns, as_u32}
-use Rattle.command_words.specs.Reads.{dir_words, command_of, play_words, queue_words, rspawn_words, send_words, sender_told, told}
+use Rattle.command_words.specs.Numbers.{as_below, as_turns, as_u32}
+use Rattle.command_words.specs.Reads.{dir_words, command_of, make_words, maker_told, play_words, queue_words, rspawn_words, send_words, sender_told, told}
 use Rattle.command_words.proofs.laws.words_by_row.Goals as goal
 
 -- Numbers that are written out. The digits of a large one aren't computed.
@@ -51,9 +51,28 @@ too_many_is = number_of_text (codes "1000001") (record {
   fits = omega arith;
 })
 
+past_seeds_is : number_of (codes "65537") ≡ Some 65537
+unfolding value
+past_seeds_is = number_of_text (codes "65537") (record {
+  some = omega arith;
+  only = All-from_recursion IsDigit (codes "65537") (search rules);
+  no_zero = λ e. absurd (omega arith);
+  fits = omega arith;
+})
+
+past_counts_is : number_of (codes "100001") ≡ Some 100001
+unfolding value
+past_counts_is = number_of_text (codes "100001") (record {
+  some = omega arith;
+  only = All-from_recursion IsDigit (codes "100001") (search rules);
+  no_zero = λ e. absurd (omega arith);
+  fits = omega arith;
+})
+
 pub returns : goal.returns
-unfolding command_of play_words queue_words dir_words rspawn_words send_words local_words clap_on_literals
+unfolding command_of play_words queue_words dir_words rspawn_words send_words make_words local_words clap_on_literals
 returns c =
+    let maker : Option ℕ → Option ℕ → Option Command = λ seed count. option_map Make (maker_told (option_and_then (as_below 65537) seed) (option_and_then (as_below 100001) count)) in
     let sender : List ℕ → Option ℕ → Option Command = λ program number. option_map Send (sender_told (Some (record { dir = codes "DIR"; program = program })) (option_and_then as_turns number)) in
     let queue : Option ℕ → Option Command = λ number. option_map Queue (told (Some (codes "-")) (Some (codes "DIR")) (option_and_then as_u32 number) false) in
     let bounce : Option ℕ → Option Command = λ number. option_map Queue (told (Some (codes "-")) (Some (codes "DIR")) (option_and_then as_u32 number) true) in
@@ -79,6 +98,12 @@ returns c =
       zero_turns = ap (sender (codes "PROGRAM")) zero_is;
       too_many_turns = ap (sender (codes "PROGRAM")) too_many_is;
       send_no_program = refl;
+      make = ap₂ maker seven_is five_is;
+      make_no_count = refl;
+      make_extra = refl;
+      seed_zero = ap₂ maker none_is five_is;
+      seed_too_great = ap₂ maker past_seeds_is five_is;
+      too_many_mails = ap₂ maker seven_is past_counts_is;
       audit = refl;
       audit_no_directory = refl;
       audit_extra = refl;

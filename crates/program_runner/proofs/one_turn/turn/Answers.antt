@@ -5,7 +5,7 @@ use Rattle.call_fs.specs.declared.past.NeedData.TheVariants as needs
 use Rattle.call_fs.specs.declared.past.GotData.TheVariants as got
 use Rattle.call_fs.specs.declared.program.Port.TheVariants as port
 use Rattle.call_fs.specs.Program.{due_of}
-use Rattle.program_runner.proofs.Turns.{uses_due, fits_by, room_by, few, goes, does_call, does_take, does_give, took_bytes, took_end, took_nothing, gave_all, gave_part}
+use Rattle.program_runner.proofs.Turns.{uses_due, fits_by, room_by, few, goes, does_call, does_take, does_give, took_bytes, took_end, took_nothing, gave_all, gave_part, on_err}
 use Rattle.program_runner.proofs.one_turn.turn.Goals as goal
 
 pub perform-answer-requires-clause-fits : goal.perform-answer-requires-clause-fits
@@ -102,3 +102,74 @@ returns-in_ok-done-in-Failed-give-clause-turned g c =
     (ap due_of c.in-Give-Output-default.is ∙ ap (λ p. needs.Give p c.in-Give-Output-default.given.now) c.in-Give-Output-default.field-0-is) tt
     (does_give _ _ c.now-now.result c.args.ready c.now-now.ensures.moment c.now-now.ensures.later c.now-now.ensures.last c.now-now.ensures.told c.in-Give-Output-default.given.now got.Failed refl refl refl refl refl (gave_part c.now-now.result c.args.ready (g.O.Sink.taken c.args.output.now) (g.O.Sink.taken c.give.new.self) c.in-Give-Output-default.given.now c.in-Failed-give.ensures.told) c.in-Failed-give.ensures.cause.later
     (λ e. c.in-Failed-give.ensures.cause.rose refl))
+
+pub returns-in_err-done-in-File-clause-cut : goal.returns-in_err-done-in-File-clause-cut
+returns-in_err-done-in-File-clause-cut g c =
+    on_err _ _ (goes g.M.Machine.next (g.M.Machine.stands c.args.machine.now) (g.M.Machine.stands c.look.new.self) (λ args past. Unit {0})
+    (g.M.Machine.present c.look.new.self) c.now-now.result (g.M.Machine.found c.look.new.self) c.args.ready (g.M.Machine.due c.look.new.self) (due_of c.need.result) (got.Answered (record { answer = c.perform-answer.result; bytes = c.bytes_read-read.result.now }))
+    c.look.ensures.stands c.look.ensures.present c.look.ensures.found c.need.ensures.due (λ args past s. c.need.ensures.next args past c.look.ensures.looked s)
+    (λ args past s. tt)
+    (λ read found came. Unit {0}) (needs.File (data_of c.in-File.call)) _ _
+    tt
+    (ap due_of c.in-File.is) c.perform-answer.ensures.kind
+    (does_call _ _ c.now-now.result c.args.ready c.now-now.ensures.moment c.now-now.ensures.later c.now-now.ensures.last c.now-now.ensures.told
+    (data_of c.in-File.call) c.perform-answer.result c.bytes_read-read.result.now c.perform-answer.new.into c.bytes_read-read.ensures
+    c.perform-answer.ensures.told c.perform-answer.ensures.recorded c.perform-answer.ensures.read c.perform-answer.ensures.cause refl refl refl refl))
+
+pub returns-in_err-done-in-Got-clause-cut : goal.returns-in_err-done-in-Got-clause-cut
+returns-in_err-done-in-Got-clause-cut g c =
+    on_err _ _ (goes g.M.Machine.next (g.M.Machine.stands c.args.machine.now) (g.M.Machine.stands c.look.new.self) (λ args past. Unit {0})
+    (g.M.Machine.present c.look.new.self) c.now-now.result (g.M.Machine.found c.look.new.self) c.args.ready (g.M.Machine.due c.look.new.self) (due_of c.need.result)
+    (got.Took (take c.in-Got.count c.take.new.buffer))
+    c.look.ensures.stands c.look.ensures.present c.look.ensures.found c.need.ensures.due (λ args past s. c.need.ensures.next args past c.look.ensures.looked s)
+    (λ args past s. tt)
+    (λ read found came. Unit {0}) (needs.Take port.Input) _ _
+    tt
+    (ap due_of c.in-Take-Input.is ∙ ap needs.Take c.in-Take-Input.field-0-is) tt
+    (does_take _ _ c.now-now.result c.args.ready c.now-now.ensures.moment c.now-now.ensures.later c.now-now.ensures.last c.now-now.ensures.told (got.Took (take c.in-Got.count c.take.new.buffer)) refl refl refl
+    (took_bytes (g.S.Source.left c.args.input.now) (g.S.Source.left c.take.new.input) c.in-Got.count c.take.new.buffer c.now-now.result c.args.ready c.in-Got.ensures.told) c.in-Got.ensures.cause.later (λ e. cc) refl refl))
+
+pub returns-in_err-done-in-End-clause-cut : goal.returns-in_err-done-in-End-clause-cut
+returns-in_err-done-in-End-clause-cut g c =
+    on_err _ _ (goes g.M.Machine.next (g.M.Machine.stands c.args.machine.now) (g.M.Machine.stands c.look.new.self) (λ args past. Unit {0})
+    (g.M.Machine.present c.look.new.self) c.now-now.result (g.M.Machine.found c.look.new.self) c.args.ready (g.M.Machine.due c.look.new.self) (due_of c.need.result) (got.End)
+    c.look.ensures.stands c.look.ensures.present c.look.ensures.found c.need.ensures.due (λ args past s. c.need.ensures.next args past c.look.ensures.looked s)
+    (λ args past s. tt)
+    (λ read found came. Unit {0}) (needs.Take port.Input) _ _
+    tt
+    (ap due_of c.in-Take-Input.is ∙ ap needs.Take c.in-Take-Input.field-0-is) tt
+    (does_take _ _ c.now-now.result c.args.ready c.now-now.ensures.moment c.now-now.ensures.later c.now-now.ensures.last c.now-now.ensures.told got.End refl refl refl (took_end c.now-now.result c.args.ready (g.S.Source.left c.args.input.now) (g.S.Source.left c.take.new.input) c.in-End.ensures.told) c.in-End.ensures.cause.later (λ e. cc) refl refl))
+
+pub returns-in_err-done-in-Failed-clause-cut : goal.returns-in_err-done-in-Failed-clause-cut
+returns-in_err-done-in-Failed-clause-cut g c =
+    on_err _ _ (goes g.M.Machine.next (g.M.Machine.stands c.args.machine.now) (g.M.Machine.stands c.look.new.self) (λ args past. Unit {0})
+    (g.M.Machine.present c.look.new.self) c.now-now.result (g.M.Machine.found c.look.new.self) c.args.ready (g.M.Machine.due c.look.new.self) (due_of c.need.result) (got.Failed)
+    c.look.ensures.stands c.look.ensures.present c.look.ensures.found c.need.ensures.due (λ args past s. c.need.ensures.next args past c.look.ensures.looked s)
+    (λ args past s. tt)
+    (λ read found came. Unit {0}) (needs.Take port.Input) _ _
+    tt
+    (ap due_of c.in-Take-Input.is ∙ ap needs.Take c.in-Take-Input.field-0-is) tt
+    (does_take _ _ c.now-now.result c.args.ready c.now-now.ensures.moment c.now-now.ensures.later c.now-now.ensures.last c.now-now.ensures.told got.Failed refl refl refl (took_nothing c.now-now.result c.args.ready (g.S.Source.left c.args.input.now) (g.S.Source.left c.take.new.input) c.in-Failed.ensures.told) c.in-Failed.ensures.cause.later (λ e. c.in-Failed.ensures.cause.rose refl) refl refl))
+
+pub returns-in_err-done-in-Done-clause-cut : goal.returns-in_err-done-in-Done-clause-cut
+returns-in_err-done-in-Done-clause-cut g c =
+    on_err _ _ (goes g.M.Machine.next (g.M.Machine.stands c.args.machine.now) (g.M.Machine.stands c.look.new.self) (λ args past. Unit {0})
+    (g.M.Machine.present c.look.new.self) c.now-now.result (g.M.Machine.found c.look.new.self) c.args.ready (g.M.Machine.due c.look.new.self) (due_of c.need.result) (got.Gave)
+    c.look.ensures.stands c.look.ensures.present c.look.ensures.found c.need.ensures.due (λ args past s. c.need.ensures.next args past c.look.ensures.looked s)
+    (λ args past s. tt)
+    (λ read found came. Unit {0}) (needs.Give port.Output c.in-Give-Output-default.given.now) _ _
+    tt
+    (ap due_of c.in-Give-Output-default.is ∙ ap (λ p. needs.Give p c.in-Give-Output-default.given.now) c.in-Give-Output-default.field-0-is) tt
+    (does_give _ _ c.now-now.result c.args.ready c.now-now.ensures.moment c.now-now.ensures.later c.now-now.ensures.last c.now-now.ensures.told c.in-Give-Output-default.given.now got.Gave refl refl refl refl refl (gave_all c.now-now.result c.args.ready (g.O.Sink.taken c.args.output.now) (g.O.Sink.taken c.give.new.self) c.in-Give-Output-default.given.now c.in-Done.ensures.told) c.in-Done.ensures.cause.later (λ e. cc)))
+
+pub returns-in_err-done-in-Failed-give-clause-cut : goal.returns-in_err-done-in-Failed-give-clause-cut
+returns-in_err-done-in-Failed-give-clause-cut g c =
+    on_err _ _ (goes g.M.Machine.next (g.M.Machine.stands c.args.machine.now) (g.M.Machine.stands c.look.new.self) (λ args past. Unit {0})
+    (g.M.Machine.present c.look.new.self) c.now-now.result (g.M.Machine.found c.look.new.self) c.args.ready (g.M.Machine.due c.look.new.self) (due_of c.need.result) (got.Failed)
+    c.look.ensures.stands c.look.ensures.present c.look.ensures.found c.need.ensures.due (λ args past s. c.need.ensures.next args past c.look.ensures.looked s)
+    (λ args past s. tt)
+    (λ read found came. Unit {0}) (needs.Give port.Output c.in-Give-Output-default.given.now) _ _
+    tt
+    (ap due_of c.in-Give-Output-default.is ∙ ap (λ p. needs.Give p c.in-Give-Output-default.given.now) c.in-Give-Output-default.field-0-is) tt
+    (does_give _ _ c.now-now.result c.args.ready c.now-now.ensures.moment c.now-now.ensures.later c.now-now.ensures.last c.now-now.ensures.told c.in-Give-Output-default.given.now got.Failed refl refl refl refl refl (gave_part c.now-now.result c.args.ready (g.O.Sink.taken c.args.output.now) (g.O.Sink.taken c.give.new.self) c.in-Give-Output-default.given.now c.in-Failed-give.ensures.told) c.in-Failed-give.ensures.cause.later
+    (λ e. c.in-Failed-give.ensures.cause.rose refl)))

@@ -1,9 +1,11 @@
 use Rattle.std.proofs.Common.{inl, inr, refl}
 use Rattle.scenario.proofs.TakenLines.{line_taken}
 use Rattle.audit_command.proofs.Audits.{nothing_done}
+use Rattle.command_words.proofs.Makes.{make_range}
 use Rattle.qmail_top.specs.Command.{usage_line}
 use Rattle.qmail_top.proofs.Families.{delivery_from, lspawned_from, one_local, one_lspawn, one_rspawn, one_send, rspawned_from, sent_from}
 use Rattle.qmail_top.proofs.Injections.{ends_otherwise}
+use Rattle.qmail_top.proofs.Made.{made_from, made_otherwise, nothing_made, one_make}
 use Rattle.qmail_top.proofs.Senders.{sent_otherwise}
 use Rattle.qmail_top.proofs.Spawners.{ended_otherwise, locally_otherwise, spawned_otherwise}
 use Rattle.qmail_top.proofs.top.qmail.Goals as goal
@@ -74,3 +76,16 @@ returns-in-Ok-Send-clause-send g c = λ told is.
 
 pub returns-in-Ok-Send-clause-unlogged : goal.returns-in-Ok-Send-clause-unlogged
 returns-in-Ok-Send-clause-unlogged g c = λ other is. absurd (other (c.in-Ok-Send.told, rw c.in-Ok-Send.field-0-is at c.in-Ok-Send.ensures.ok))
+
+pub returns-clause-make : goal.returns-clause-make
+returns-clause-make g c = λ told is. nothing_made told _ _
+
+pub make_script-requires : goal.make_script-requires
+make_script-requires g c = (make_range _ c.in-Ok-Make.told (rw c.in-Ok-Make.field-0-is at c.in-Ok-Make.ensures.ok)).0
+
+pub returns-in-Ok-Make-clause-usage : goal.returns-in-Ok-Make-clause-usage
+returns-in-Ok-Make-clause-usage g c = λ is. absurd (made_otherwise _ _ _ c.make_script.ensures is)
+
+pub returns-in-Ok-Make-clause-make : goal.returns-in-Ok-Make-clause-make
+returns-in-Ok-Make-clause-make g c = λ told is.
+    made_from told c.in-Ok-Make.told _ _ (one_make _ _ _ (rw c.in-Ok-Make.field-0-is at c.in-Ok-Make.ensures.ok) is) c.make_script.ensures

@@ -4,7 +4,7 @@ use Rattle.call_fs.specs.Apply.{changed, grown}
 use Rattle.mem_fs.specs.Tables.{at_number}
 use Rattle.mem_fs.specs.MemDisk.{Held, disk_of}
 use Rattle.mem_fs.proofs.Steps.{open_entry, sound-file_or, disk-changed}
-use Rattle.mem_fs.proofs.Low.{used_file_or}
+use Rattle.mem_fs.proofs.Indexed.{file_indexed_or}
 use Rattle.mem_fs.proofs.store.Store.append.Goals as goal
 
 pub append-requires-clause-there : goal.append-requires-clause-there
@@ -15,10 +15,9 @@ invariant_of-self c = (
   sound-file_or c.self.invariant.0 c.append.new.files.items c.opened-number.result (grown c.args.now c.args.bytes.now) c.append.result
       (open_entry c.self.invariant.0 c.args.fd.0 c.opened-number.result (rw (← c.self.view_is) at c.opened-number.ensures))
       c.append.ensures.ok c.append.ensures.err,
-  c.self.invariant.1,
-  used_file_or c.self.inside.files.items c.append.new.files.items c.opened-number.result (grown c.args.now c.args.bytes.now) c.append.result
+  file_indexed_or c.self.inside.files.items c.append.new.files.items c.opened-number.result (grown c.args.now c.args.bytes.now) c.append.result
       (open_entry c.self.invariant.0 c.args.fd.0 c.opened-number.result (rw (← c.self.view_is) at c.opened-number.ensures))
-      c.append.ensures.ok c.append.ensures.err c.self.inside.low c.self.invariant.2,
+      c.append.ensures.ok c.append.ensures.err c.self.inside.free c.self.inside.low c.self.invariant.1,
 )
 
 pub returns-clause-ok : goal.returns-clause-ok

@@ -6,7 +6,7 @@ use Rattle.mem_fs.specs.Tables.{at_number}
 use Rattle.mem_fs.specs.MemDisk.{Held, disk_of, closed_inode}
 use Rattle.mem_fs.proofs.Changes.{OpensGain}
 use Rattle.mem_fs.proofs.Steps.{open_entry, open_holds, open_on, sound-closed, files-same, disk-closed}
-use Rattle.mem_fs.proofs.Low.{beside_change, entry_positive}
+use Rattle.mem_fs.proofs.Indexed.{beside_change, entry_positive, held_used}
 use Rattle.mem_fs.proofs.store.Store.close.Goals as goal
 
 pub drop_open-requires-clause-there : goal.drop_open-requires-clause-there
@@ -15,18 +15,12 @@ drop_open-requires-clause-there c = open_entry c.self.invariant.0 c.args.fd.0 c.
 pub drop_open-requires-clause-open : goal.drop_open-requires-clause-open
 drop_open-requires-clause-open c = open_holds c.self.invariant.0 c.args.fd.0 c.opened-number.result (rw (← c.self.view_is) at c.opened-number.ensures)
 
-pub low_after-self-inside-requires-clause-positive : goal.low_after-self-inside-requires-clause-positive
-low_after-self-inside-requires-clause-positive c = (
-  c.self.invariant.1,
-  entry_positive c.self.inside.files.items c.self.invariant.0.files c.opened-number.result (open_entry c.self.invariant.0 c.args.fd.0 c.opened-number.result (rw (← c.self.view_is) at c.opened-number.ensures)),
-)
-
-pub low_after-self-inside-requires-clause-used : goal.low_after-self-inside-requires-clause-used
-low_after-self-inside-requires-clause-used c =
+pub returned-self-inside-requires-clause-indexed : goal.returned-self-inside-requires-clause-indexed
+returned-self-inside-requires-clause-indexed c =
     rw c.deref.ensures.value
-    (beside_change c.self.inside.files.items c.drop_open.new.files.items c.opened-number.result closed_inode
-    (open_entry c.self.invariant.0 c.args.fd.0 c.opened-number.result (rw (← c.self.view_is) at c.opened-number.ensures))
-    c.drop_open.ensures c.self.inside.low c.self.invariant.2)
+    (beside_change c.self.inside.files.items c.drop_open.new.files.items c.opened-number.result closed_inode (open_entry c.self.invariant.0 c.args.fd.0 c.opened-number.result (rw (← c.self.view_is) at c.opened-number.ensures)) c.drop_open.ensures c.self.inside.free c.self.inside.low c.self.invariant.1
+    (entry_positive c.self.inside.files.items c.self.invariant.0.files c.opened-number.result (open_entry c.self.invariant.0 c.args.fd.0 c.opened-number.result (rw (← c.self.view_is) at c.opened-number.ensures)))
+    (held_used c.self.inside.files.items c.opened-number.result (open_holds c.self.invariant.0 c.args.fd.0 c.opened-number.result (rw (← c.self.view_is) at c.opened-number.ensures))))
 
 pub invariant_of-self : goal.invariant_of-self
 invariant_of-self c =
@@ -34,8 +28,7 @@ invariant_of-self c =
       sound-closed c.self.invariant.0 c.drop_open.new.files.items c.remove.new.entries.items c.opened-number.result
           (open_entry c.self.invariant.0 c.args.fd.0 c.opened-number.result (rw (← c.self.view_is) at c.opened-number.ensures))
           c.remove.ensures.in_order (subst (λ (n : ℕ). OpensGain c.remove.new.entries.items c.self.inside.opens.items n) at.2 (λ m. c.remove.ensures.count (λ e. nat_eq e.1.number m) at.0 at.1)) c.drop_open.ensures,
-      c.low_after-self-inside.ensures.positive,
-      rw c.deref.ensures.value at c.low_after-self-inside.ensures.used,
+      rw c.deref.ensures.value at c.returned-self-inside.ensures,
     )
 
 pub returns : goal.returns

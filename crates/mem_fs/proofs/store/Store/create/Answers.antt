@@ -1,4 +1,4 @@
-use Rattle.std.proofs.Common.{◌≡◌, ℕ, List, Some, None, nat_eq, ap, ◌∙◌}
+use Rattle.std.proofs.Common.{◌≡◌, ℕ, List, Some, None, nat_eq, ap, ◌∙◌, arith}
 use Rattle.call_fs.specs.declared.calls.CallData.TheVariants.{CreateExcl}
 use Rattle.call_fs.specs.declared.calls.Answer.TheVariants.{Created}
 use Rattle.mem_fs.specs.declared.file.Inode.{Inode}
@@ -9,14 +9,14 @@ use Rattle.mem_fs.specs.Tables.{at_name, at_number, texts}
 use Rattle.mem_fs.specs.MemDisk.{Held, disk_of}
 use Rattle.mem_fs.proofs.Uses.{unused_idle}
 use Rattle.mem_fs.proofs.Steps.{sound-created, disk-created}
-use Rattle.mem_fs.proofs.Low.{beside_put}
+use Rattle.mem_fs.proofs.Indexed.{with_put}
 use Rattle.mem_fs.proofs.store.Store.create.Goals as goal
 
-pub low_after-self-inside-requires-clause-used : goal.low_after-self-inside-requires-clause-used
-low_after-self-inside-requires-clause-used c =
+pub taken-self-inside-requires : goal.taken-self-inside-requires
+taken-self-inside-requires c =
     rw c.deref.ensures.value
-    (beside_put c.self.inside.files.items c.insert-2.new.entries.items c.args.number (record { links = 1; opens = 1; file = c.new.result })
-    (rw (← c.in_ok-reserve.ensures.items) c.insert-2.ensures.value) c.self.inside.low c.self.invariant.2)
+    (with_put c.self.inside.files.items c.insert-2.new.entries.items c.args.number (record { links = 1; opens = 1; file = c.new.result })
+    (rw (← c.in_ok-reserve.ensures.items) c.insert-2.ensures.value) c.self.inside.free c.self.inside.low c.self.invariant.1 (λ none. absurd (omega (arith, none.0))))
 
 pub invariant_of-self-2 : goal.invariant_of-self-2
 invariant_of-self-2 c =
@@ -28,8 +28,7 @@ invariant_of-self-2 c =
           c.insert-2.ensures.in_order (rw (← c.in_ok-reserve.ensures.items) c.insert-2.ensures.value)
           c.insert-3.ensures.in_order (λ m. rw (← c.in_ok-reserve-2.ensures.items) (c.insert-3.ensures.count (λ e. nat_eq e.1.number m) (ap (λ (es : List (ℕ × Open)). at_number es c.args.fd.0) c.in_ok-reserve-2.ensures.items ∙ closed)))
           (ap (λ (o : Open). o.number) c.created.ensures),
-      c.low_after-self-inside.ensures.positive,
-      rw c.deref.ensures.value at c.low_after-self-inside.ensures.used,
+      rw c.deref.ensures.value at c.taken-self-inside.ensures,
     )
 
 pub returns-clause-ok : goal.returns-clause-ok

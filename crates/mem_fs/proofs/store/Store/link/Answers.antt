@@ -1,4 +1,4 @@
-use Rattle.std.proofs.Common.{◌≡◌, ℕ, List, Some, nat_eq, ap, refl, sym, ◌∙◌, arith}
+use Rattle.std.proofs.Common.{◌≡◌, ℕ, List, Some, nat_eq, ap, refl, sym, ◌∙◌, arith, inr}
 use Rattle.std.proofs.lemmas.List.Sums.{count_by-le-length}
 use Rattle.call_fs.specs.declared.calls.CallData.TheVariants.{Link}
 use Rattle.call_fs.specs.declared.calls.Answer.TheVariants.{Done}
@@ -7,9 +7,9 @@ use Rattle.call_fs.specs.Maps.{put_at}
 use Rattle.mem_fs.specs.Tables.{at_name, texts}
 use Rattle.mem_fs.specs.MemDisk.{Held, disk_of, linked_inode}
 use Rattle.mem_fs.proofs.Changes.{gain_here}
-use Rattle.mem_fs.proofs.Uses.{named_entry}
+use Rattle.mem_fs.proofs.Uses.{named_entry, named_links}
 use Rattle.mem_fs.proofs.Steps.{sound-linked, files-same, disk-linked}
-use Rattle.mem_fs.proofs.Low.{used_change}
+use Rattle.mem_fs.proofs.Indexed.{linked_used, used_change}
 use Rattle.mem_fs.proofs.store.Store.link.Goals as goal
 
 pub add_link-requires-clause-there : goal.add_link-requires-clause-there
@@ -32,9 +32,9 @@ invariant_of-self-2 c =
       sound-linked c.self.invariant.0 (texts c.insert.new.names.entries) c.add_link.new.files.items c.unwrap-number.result
           (named_entry _ c.self.invariant.0 c.args.old.now c.unwrap-number.result found)
           c.insert.ensures.in_order c.in_ok-insert.ensures.count c.add_link.ensures,
-      c.self.invariant.1,
       used_change c.self.inside.files.items c.add_link.new.files.items c.unwrap-number.result linked_inode (named_entry _ c.self.invariant.0 c.args.old.now c.unwrap-number.result found) c.add_link.ensures
-          (λ i. (omega arith, omega arith)) c.self.inside.low c.self.invariant.2,
+          c.self.inside.free c.self.inside.low c.self.invariant.1
+          (linked_used c.self.inside.files.items c.unwrap-number.result (named_links _ c.self.invariant.0 c.args.old.now c.unwrap-number.result found)) (λ i. inr (omega arith, omega arith)),
     )
 
 pub returns-clause-ok : goal.returns-clause-ok

@@ -1,4 +1,4 @@
-use Rattle.std.proofs.Common.{◌≡◌, ℕ, List, Some, None, nat_eq, ap, refl, sym, ◌∙◌, arith}
+use Rattle.std.proofs.Common.{◌≡◌, ℕ, List, Some, None, nat_eq, ap, refl, sym, ◌∙◌, arith, inr}
 use Rattle.call_fs.specs.declared.calls.CallData.TheVariants.{Open}
 use Rattle.call_fs.specs.declared.calls.Answer.TheVariants.{Opened}
 use Rattle.call_fs.specs.Disk.{Open as OpenFile}
@@ -6,9 +6,9 @@ use Rattle.call_fs.specs.Apply.{effect}
 use Rattle.call_fs.specs.Maps.{put}
 use Rattle.mem_fs.specs.Tables.{at_name, at_number, texts}
 use Rattle.mem_fs.specs.MemDisk.{Held, disk_of, opened_inode}
-use Rattle.mem_fs.proofs.Uses.{named_entry}
+use Rattle.mem_fs.proofs.Uses.{named_entry, named_links}
 use Rattle.mem_fs.proofs.Steps.{sound-opened, files-same, disk-opened}
-use Rattle.mem_fs.proofs.Low.{used_change}
+use Rattle.mem_fs.proofs.Indexed.{linked_used, used_change}
 use Rattle.mem_fs.proofs.store.Store.open.Goals as goal
 
 pub add_open-requires-clause-there : goal.add_open-requires-clause-there
@@ -24,9 +24,9 @@ invariant_of-self-2 c =
           (named_entry _ c.self.invariant.0 c.args.name.now c.unwrap-number.result found)
           c.insert.ensures.in_order (λ m. rw (← c.in_ok-reserve.ensures.items) (c.insert.ensures.count (λ e. nat_eq e.1.number m) (ap (λ (es : List (ℕ × OpenFile)). at_number es c.args.fd.0) c.in_ok-reserve.ensures.items ∙ closed)))
           (ap (λ (o : OpenFile). o.number) c.opened.ensures) c.add_open.ensures,
-      c.self.invariant.1,
       used_change c.self.inside.files.items c.add_open.new.files.items c.unwrap-number.result opened_inode (named_entry _ c.self.invariant.0 c.args.name.now c.unwrap-number.result found) c.add_open.ensures
-          (λ i. (omega arith, omega arith)) c.self.inside.low c.self.invariant.2,
+          c.self.inside.free c.self.inside.low c.self.invariant.1
+          (linked_used c.self.inside.files.items c.unwrap-number.result (named_links _ c.self.invariant.0 c.args.name.now c.unwrap-number.result found)) (λ i. inr (omega arith, omega arith)),
     )
 
 pub returns-clause-ok : goal.returns-clause-ok

@@ -4,7 +4,7 @@ use Rattle.mem_fs.specs.Tables.{at_name, texts}
 use Rattle.mem_fs.specs.MemDisk.{Held, disk_of, Places, Changes, on_file}
 use Rattle.mem_fs.proofs.Uses.{named_entry}
 use Rattle.mem_fs.proofs.Steps.{sound-file, disk-replaced}
-use Rattle.mem_fs.proofs.Low.{used_file}
+use Rattle.mem_fs.proofs.Indexed.{file_indexed}
 use Rattle.mem_fs.proofs.store.Store.place.Goals as goal
 
 pub replace-requires-clause-there : goal.replace-requires-clause-there
@@ -16,8 +16,7 @@ pub invariant_of-self : goal.invariant_of-self
 invariant_of-self c =
     let found : at_name (texts c.self.inside.names.entries) c.args.name.now ≡ Some c.in-Some.number = sym c.in-Some.ensures in (
       sound-file c.self.invariant.0 c.replace.new.files.items c.in-Some.number (λ _. c.in_ok-file.file) (named_entry _ c.self.invariant.0 c.args.name.now c.in-Some.number found) c.replace.ensures,
-      c.self.invariant.1,
-      used_file c.self.inside.files.items c.replace.new.files.items c.in-Some.number (λ _. c.in_ok-file.file) (named_entry _ c.self.invariant.0 c.args.name.now c.in-Some.number found) c.replace.ensures c.self.inside.low c.self.invariant.2,
+      file_indexed c.self.inside.files.items c.replace.new.files.items c.in-Some.number (λ _. c.in_ok-file.file) (named_entry _ c.self.invariant.0 c.args.name.now c.in-Some.number found) c.replace.ensures c.self.inside.free c.self.inside.low c.self.invariant.1,
     )
 
 pub returns-in-Some-clause-ok : goal.returns-in-Some-clause-ok

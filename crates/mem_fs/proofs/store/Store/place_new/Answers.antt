@@ -5,8 +5,14 @@ use Rattle.mem_fs.specs.Tables.{at_name, at_number, texts}
 use Rattle.mem_fs.specs.MemDisk.{Held, disk_of, PlacesNew}
 use Rattle.mem_fs.proofs.Uses.{unused_idle}
 use Rattle.mem_fs.proofs.Steps.{sound-placed, disk-placed}
-use Rattle.mem_fs.proofs.Low.{used_put}
+use Rattle.mem_fs.proofs.Indexed.{with_put}
 use Rattle.mem_fs.proofs.store.Store.place_new.Goals as goal
+
+pub taken-self-inside-requires : goal.taken-self-inside-requires
+taken-self-inside-requires c =
+    rw c.deref.ensures.value
+    (with_put c.self.inside.files.items c.insert-2.new.entries.items c.in-Some.number (record { links = 1; opens = 0; file = c.args.file })
+    (rw (← c.in_ok-reserve.ensures.items) c.insert-2.ensures.value) c.self.inside.free c.self.inside.low c.self.invariant.1 (λ none. absurd (omega (arith, none.0))))
 
 pub invariant_of-self-2 : goal.invariant_of-self-2
 invariant_of-self-2 c =
@@ -15,9 +21,7 @@ invariant_of-self-2 c =
           (unused_idle _ c.self.invariant.0 c.in-Some.number free.free.1)
           c.insert.ensures.in_order c.in_ok-insert.ensures.count
           c.insert-2.ensures.in_order (rw (← c.in_ok-reserve.ensures.items) c.insert-2.ensures.value),
-      c.self.invariant.1,
-      used_put c.self.inside.files.items c.insert-2.new.entries.items c.in-Some.number (record { links = 1; opens = 0; file = c.args.file }) (rw (← c.in_ok-reserve.ensures.items) c.insert-2.ensures.value)
-          c.self.inside.low c.self.invariant.2 (λ idle. absurd (omega (arith, idle.0))),
+      rw c.deref.ensures.value at c.taken-self-inside.ensures,
     )
 
 pub returns-clause-ok : goal.returns-clause-ok

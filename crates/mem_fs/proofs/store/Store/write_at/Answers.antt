@@ -4,7 +4,7 @@ use Rattle.call_fs.specs.Apply.{changed, overwritten}
 use Rattle.mem_fs.specs.Tables.{at_number}
 use Rattle.mem_fs.specs.MemDisk.{Held, disk_of}
 use Rattle.mem_fs.proofs.Steps.{open_entry, sound-file_or, disk-changed}
-use Rattle.mem_fs.proofs.Low.{used_file_or}
+use Rattle.mem_fs.proofs.Indexed.{file_indexed_or}
 use Rattle.mem_fs.proofs.store.Store.write_at.Goals as goal
 
 pub overwrite-requires-clause-there : goal.overwrite-requires-clause-there
@@ -15,10 +15,9 @@ invariant_of-self c = (
   sound-file_or c.self.invariant.0 c.overwrite.new.files.items c.opened-number.result (overwritten c.args.now c.args.at c.args.bytes.now) c.overwrite.result
       (open_entry c.self.invariant.0 c.args.fd.0 c.opened-number.result (rw (← c.self.view_is) at c.opened-number.ensures))
       c.overwrite.ensures.ok c.overwrite.ensures.err,
-  c.self.invariant.1,
-  used_file_or c.self.inside.files.items c.overwrite.new.files.items c.opened-number.result (overwritten c.args.now c.args.at c.args.bytes.now) c.overwrite.result
+  file_indexed_or c.self.inside.files.items c.overwrite.new.files.items c.opened-number.result (overwritten c.args.now c.args.at c.args.bytes.now) c.overwrite.result
       (open_entry c.self.invariant.0 c.args.fd.0 c.opened-number.result (rw (← c.self.view_is) at c.opened-number.ensures))
-      c.overwrite.ensures.ok c.overwrite.ensures.err c.self.inside.low c.self.invariant.2,
+      c.overwrite.ensures.ok c.overwrite.ensures.err c.self.inside.free c.self.inside.low c.self.invariant.1,
 )
 
 pub returns-clause-ok : goal.returns-clause-ok

@@ -11,7 +11,7 @@ pub returns-in-Err : goal.returns-in-Err
 returns-in-Err g c = kept_lost _ _ _ _ _ _ c.loop.invariant c.hear.result c.hear.ensures
 
 pub loop-preserved : goal.loop-preserved
-loop-preserved g c = kept_more _ _ _ _ _ _ c.loop.invariant c.hear.result _ c.in-Ok-false.is c.hear.ensures
+loop-preserved g c = kept_more _ _ _ _ _ _ c.loop.invariant c.hear.result _ c.in-Ok-false.is c.in-Ok-false.field-0-test c.hear.ensures
 
 pub returns : goal.returns
 returns g c = kept_on _ _ _ _ c.loop.invariant

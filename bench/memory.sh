@@ -1,0 +1,246 @@
+#!/usr/bin/env bash
+# bench/memory.sh [STEP [PROGRAM..]]: refuses memory to each program: its first growth, in the next run its second one, and so on,
+# until a run asks for no more. With STEP each STEP-th one alone. Prints for each program how many growths were refused, and how
+# often each exit status came with what is left then. The programs: queue, clean, audit, local, forward, lspawn, rspawn, send,
+# play, make; all of them if none is named. Exit status 1 if a run crashes or never ends, or leaves something that a program that
+# is out of memory may not leave:
+#
+#   queue           a mail that is in the queue with another status than 0, or isn't with 0; a number in another state
+#   clean, audit    a file of a message that was accepted is gone; output that isn't the beginning of what must be printed
+#   local, forward  a file in new/ that isn't whole; none with status 0
+#   lspawn, rspawn  output that isn't the beginning of reports, one for each request
+#   send            a recipient that isn't delivered to by the senders that are started afterwards; a number in another state
+#   play, make      output that isn't the beginning of what is printed with enough memory; less than all of it with status 0
+#
+# A growth is a call of malloc or realloc by any thread of the program. Python stops it there by the debug registers of the processor
+# (x86-64), counts, and has that one call answer null. What the program starts gets all memory. The program is ./qmail, or $QMAIL.
+# Needs python3. Ends by itself.
+set -u
+step=${1:-1}
+[ "$#" = 0 ] || shift
+programs=${*:-queue clean audit local forward lspawn rspawn send play make}
+top=$(cd "$(dirname "$0")/.." && pwd)
+program=$(realpath "${QMAIL:-$top/qmail}")
+work=$(mktemp -d)
+trap 'rm -rf "$work"' EXIT
+cd "$work" || exit 1
+. "$top/bench/check.sh"
+
+if ! command -v python3 > noise; then
+  echo "skipped: there is no python3"
+  exit 0
+fi
+cat > refusing.py <<'END'
+import contextlib, ctypes, os, signal, sys
+
+wanted, words = int(sys.argv[1]), sys.argv[2:]
+libc = ctypes.CDLL(None, use_errno=True)
+libc.ptrace.argtypes = [ctypes.c_long, ctypes.c_long, ctypes.c_void_p, ctypes.c_void_p]
+TRACEME, PEEKUSER, POKEUSER, CONT, GETREGS, SETREGS, SETOPTIONS = 0, 3, 6, 7, 12, 13, 0x4200
+DEBUG, RAX, RIP, RSP = 848, 10, 16, 19  # where a thread has its debug registers, and the place of others among all
+
+
+def trace(request, thread, where=0, value=0):
+    if libc.ptrace(request, thread, where, value) < 0:
+        raise OSError(ctypes.get_errno(), "ptrace")
+
+
+def watch(thread, places):
+    for k, place in enumerate(places):
+        trace(POKEUSER, thread, DEBUG + 8 * k, place)
+    trace(POKEUSER, thread, DEBUG + 56, (1 << 2 * len(places)) - 1 & 0x55)
+
+
+def refuse(process, thread):
+    """Has the function that begins here answer null."""
+    regs = (ctypes.c_ulong * 27)()
+    trace(GETREGS, thread, 0, ctypes.addressof(regs))
+    with open(f"/proc/{process}/mem", "rb") as memory:
+        memory.seek(regs[RSP])
+        regs[RIP] = int.from_bytes(memory.read(8), "little")
+    regs[RSP] += 8
+    regs[RAX] = 0
+    trace(SETREGS, thread, 0, ctypes.addressof(regs))
+
+
+def base(process):
+    for line in open(f"/proc/{process}/maps"):
+        if "/libc.so" in line:
+            return int(line.split("-")[0], 16)
+
+
+process = os.fork()
+if process == 0:
+    signal.signal(signal.SIGPIPE, signal.SIG_DFL)
+    trace(TRACEME, 0)
+    os.execv(words[0], words)
+os.waitpid(process, 0)
+trace(SETOPTIONS, process, 0, 0x100008)
+auxv = open(f"/proc/{process}/auxv", "rb").read()
+entry = {int.from_bytes(auxv[k : k + 8], "little"): int.from_bytes(auxv[k + 8 : k + 16], "little") for k in range(0, len(auxv), 16)}[9]
+watch(process, [entry])
+trace(CONT, process)
+os.waitpid(process, 0)
+own = base("self")
+places = [ctypes.cast(f, ctypes.c_void_p).value - own + base(process) for f in (libc.malloc, libc.realloc)]
+watch(process, places)
+trace(CONT, process)
+threads, growths = {process}, 0
+
+
+def go_on(thread, status):
+    """Lets a thread that has stopped go on, after a growth that is counted, or with its signal."""
+    global growths
+    passed = os.WSTOPSIG(status)
+    if thread not in threads:
+        threads.add(thread)
+        watch(thread, places)
+        passed = 0
+    elif passed == signal.SIGTRAP:
+        passed = 0
+        if status >> 16 == 0:
+            growths += 1
+            if growths == wanted:
+                refuse(process, thread)
+                open("refused", "w")
+    trace(CONT, thread, 0, passed)
+
+
+while True:
+    thread, status = os.waitpid(-1, 0x40000000)
+    if os.WIFSTOPPED(status):
+        with contextlib.suppress(ProcessLookupError):  # it has ended meanwhile, with all others
+            go_on(thread, status)
+    elif thread == process:
+        break
+    else:
+        threads.discard(thread)
+sys.exit(os.waitstatus_to_exitcode(status) % 256)
+END
+
+queue() { timeout 60 "$program" "$@"; }
+
+refuse() { # N WORD..: runs the program, whose growth N is refused. There is a file `refused` afterwards if it came so far
+  rm -f refused
+  timeout 120 python3 -I -S refusing.py "$1" "$program" "${@:2}"
+}
+
+each() { # NAME LIKE LAST: refuses each growth of the program of this name; each run must be told like LIKE, and one without as LAST
+  local n=1 status
+  : > told
+  while :; do
+    "fresh_$1"
+    status=0
+    "run_$1" "$n" > out 2> log || status=$?
+    [ -e refused ] || break
+    echo "status $status: $("left_$1" "$status")" >> told
+    n=$((n + step))
+  done
+  echo "$1: $(wc -l < told) growths refused"
+  sort told | uniq -c | sort -rn
+  check "$1: what is left" "$(grep -cvE "^status ($2)\$" told)" 0
+  check "$1: with enough memory" "$status: $("left_$1" "$status")" "$3"
+}
+
+mail() { # RECIPIENT: queues a mail to it
+  printf 'Fa@x\0T%s\0\0' "$1" > envelope
+  printf 'Subject: hello\n\nhello\n' | queue queue envelope q
+}
+
+fresh_queue() { # a queue with the user j, who has a maildir
+  rm -rf q took
+  queue audit q > noise
+  mkdir -p q/home/j/Maildir/tmp q/home/j/Maildir/new q/home/j/Maildir/cur
+  printf '=j:j:1000:1000:home/j:::\n.\n' > q/users/assign
+}
+
+begins() { cmp -s -n "$(stat -c %s "$1")" "$1" "$2" && echo begun || echo other; } # whether the file begins as the other does
+states() { rm -rf q/home q/users q/lock; "$top/bench/states.sh" q | sed 's/^[0-9]* S/S/' | tr '\n' ' '; }
+
+# an injection
+run_queue() { printf 'Fa@x\0Tb@y\0\0' > envelope; printf 'Subject: hello\n\nhello\n' | refuse "$1" queue envelope q; }
+left_queue() { states; }
+
+# the cleaner, which is told to remove what is left of an injection
+fresh_clean() {
+  fresh_queue
+  mail b@y
+  mess=$(ls q/todo)
+  rm "q/todo/$mess"
+}
+run_clean() { printf 'foop/%d\0' "$mess" | refuse "$1" clean q; }
+left_clean() { echo "$(cat out) $(states)"; }
+
+# an audit of a mail in the queue
+fresh_audit() { fresh_queue; mail b@y; printf 'pid 0\n%d S4\n' "$(ls q/todo)" > whole; }
+run_audit() { refuse "$1" audit q; }
+left_audit() { echo "$(begins out whole) $(states)"; }
+
+# a local delivery
+printf 'Return-Path: <a@x>\nDelivered-To: j@localhost\nhi\n' > copy
+fresh_local() { fresh_queue; }
+run_local() { printf '3:hi\n,' | refuse "$1" local q =j =home/j =j = = =localhost =a@x =./Maildir/ --uid 0; }
+left_local() {
+  local file whole=0 torn=0
+  for file in q/home/j/Maildir/new/*; do
+    if cmp -s "$file" copy; then whole=$((whole + 1)); elif [ -e "$file" ]; then torn=$((torn + 1)); fi
+  done
+  echo "$whole whole, $torn torn, $(ls q/home/j/Maildir/tmp | wc -l) in tmp, forwarded $(ls q/todo | wc -l)"
+}
+
+# one that forwards, by an injector that is a process of its own
+fresh_forward() { fresh_queue; echo '&a@b' > q/home/j/.qmail; }
+run_forward() { run_local "$1"; }
+left_forward() { left_local; }
+
+# the spawners, each with a request
+fresh_lspawn() { fresh_queue; mail j@localhost; }
+run_lspawn() { mess=$(ls q/todo); printf '\001%d/%d\0a@x\0j@localhost\0' $((mess % 23)) "$mess" | refuse "$1" lspawn q; }
+left_lspawn() { tr '\0\001' '.!' < out | tr '\n' ' '; }
+fresh_rspawn() { fresh_queue; mail b@y; }
+run_rspawn() { mess=$(ls q/todo); printf '\001%d/%d\0a@x\0b@y\0' $((mess % 23)) "$mess" | refuse "$1" rspawn q ./remote; }
+left_rspawn() { left_lspawn; }
+printf '#!/bin/sh\necho "$3" >> %s/took\nprintf "r\\0Kok\\0"\n' "$work" > remote
+chmod +x remote
+
+# a sender with a mail; then others, until nothing is left
+fresh_send() { fresh_queue; mail b@y; }
+run_send() { QMAIL_IDLE_MS=1 refuse "$1" send q ./remote --turns 20; }
+left_send() {
+  local states k
+  states=$(queue audit q | sed 's/^[0-9]* //' | tr '\n' ' ')
+  for k in $(seq 20); do
+    [ "$(queue audit q)" = "pid 0" ] && break
+    QMAIL_IDLE_MS=1 queue send q ./remote --turns 200 2> noise
+  done
+  echo "$states- $(queue audit q | tr '\n' ' ')$([ -s took ] && echo delivered)"
+}
+
+# a script, and the text of one
+printf 'mail a a@x b@y : hi%%0A\nrun a\nsender\nsettle D\nshow\n' > script
+queue play < script > play.whole
+queue make 1 20 > make.whole 2> noise || programs=${programs/make/} # a program that makes none
+fresh_play() { :; }
+run_play() { refuse "$1" play < script; }
+left_play() { echo "$(begins out play.whole)$(cmp -s out play.whole && echo ", whole")"; }
+fresh_make() { :; }
+run_make() { refuse "$1" make 1 20; }
+left_make() { echo "$(begins out make.whole)$(cmp -s out make.whole && echo ", whole")"; }
+
+for name in $programs; do
+  case $name in
+    queue) each queue '51: pid 0 |0: pid 0 S4 ' '0: pid 0 S4 ' ;;
+    clean) each clean '5[14]: \+? pid 0 (S3 )?|0: \+ pid 0 ' '0: + pid 0 ' ;;
+    audit) each audit '5[14]: begun pid 0 S4 |0: begun pid 0 S4 ' '0: begun pid 0 S4 ' ;;
+    local) each local '51: [01] whole, 0 torn, [01] in tmp, forwarded 0|111: 0 whole, 0 torn, [01] in tmp, forwarded 0|0: 1 whole, 0 torn, [01] in tmp, forwarded 0' \
+      '0: 1 whole, 0 torn, 0 in tmp, forwarded 0' ;;
+    forward) each forward '(51|111): 0 whole, 0 torn, 0 in tmp, forwarded [01]|0: 0 whole, 0 torn, 0 in tmp, forwarded 1' \
+      '0: 0 whole, 0 torn, 0 in tmp, forwarded 1' ;;
+    lspawn) each lspawn '51: x?|0: x!(Kdid 1\+0\+0|ZOut of memory[^.]*\. \(#4\.3\.0\)|Zqmail-local crashed\.) ?\.' '0: x!Kdid 1+0+0 .' ;;
+    rspawn) each rspawn '51: x?|0: x!(Kok|ZOut of memory\. \(#4\.3\.0\)|Zqmail-remote crashed\.) ?\.' '0: x!Kok.' ;;
+    send) each send '(51|0|8[1-5]): .*- pid 0 delivered' '0: pid 0 - pid 0 delivered' ;;
+    play) each play '51: begun|0: begun, whole' '0: begun, whole' ;;
+    make) each make '51: begun|0: begun, whole' '0: begun, whole' ;;
+  esac
+done
+exit "$bad"

@@ -1,0 +1,4 @@
+-- calls that are made one after the other
+pub mod Running
+-- disks in memory that answer alike, whatever each keeps beside what it holds
+pub mod Forms

@@ -1,0 +1,20 @@
+//! Lists of file calls, made one after the other on any disk, and the two forms of a disk in memory.
+//!
+//! # What is claimed
+//!
+//! - A list of calls is made one after the other, each with what `perform` says of it, up to the first one that uses a
+//!   descriptor that none of them has opened so, or doesn't meet another condition: `run_calls`: `ran` (`Runs`, of the
+//!   record `Performs`), `stops` (`StopsAt`), `err`.
+//! - The disk in memory that keeps nothing of its free numbers meets the same clauses as the one that does: `impl CallFs
+//!   for PlainFs`: `went`, `counts`.
+//! - Two disks in memory that hold the same, with the same picks and faults, give each list of calls the same answers,
+//!   numbers included, as long as no answer is that memory ran out: the law `forms_are_alike`.
+#![tactic(auto)]
+
+mod laws;
+mod plain_fs;
+mod running;
+
+pub use laws::forms_are_alike;
+pub use plain_fs::PlainFs;
+pub use running::run_calls;

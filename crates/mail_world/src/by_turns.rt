@@ -1,0 +1,38 @@
+// A world whose actors are stepped in turn.
+ghost use Rattle.std.specs.Prelude.{◌≡◌, ◌↔◌, Err, IsTrue};
+
+use crate::{ActorName, Did, World, WorldError};
+use call_fs::CallFs;
+use mail_bytes::Memory;
+use std::alloc::{AllocError, Global};
+use yard_lock::Stepped;
+
+/// What is asked is the name of an actor; the answer is what a step of it did, or why there was none.
+impl<D: CallFs> Stepped for World<D> {
+    ghost use Rattle.mail_world.specs.Moves.{moves};
+
+    type In = ActorName;
+
+    type Out = Result<Did, WorldError>;
+
+    ghost moves = { moves D.plan D.disk };
+
+    fn apply(
+        &mut self,
+        alloc: Global,
+        actor: ActorName,
+    ) -> Result<Result<Did, WorldError>, Memory> {
+        let answer = self.step(alloc, &actor);
+        if lacked_memory(&answer) {
+            return Err(AllocError);
+        }
+        Ok(answer)
+    }
+}
+
+/// Whether there was no memory for a step.
+fn lacked_memory(answer: &Result<Did, WorldError>) -> bool
+    ensures { IsTrue result ↔ (answer.now ≡ Err WorldError.Memory) }
+{
+    matches!(answer, Err(WorldError::Memory))
+}

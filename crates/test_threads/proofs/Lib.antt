@@ -1,0 +1,2 @@
+-- a mail more of those that a world has
+pub mod Mails

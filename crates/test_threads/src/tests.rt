@@ -1,0 +1,3 @@
+mod beginning;
+mod meeting;
+mod running;

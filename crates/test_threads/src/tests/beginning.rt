@@ -1,0 +1,74 @@
+// Worlds whose actors are to run.
+ghost use Rattle.mail_world.specs.LivingMails.{AreLivingMails};
+
+use actor_names::ActorName;
+use mail_bytes::Memory;
+use mail_world::World;
+use mem_fs::MemFs;
+use queue_paths::queue_dirs;
+use std::alloc::Global;
+
+/// The names of mails.
+const NAMES: [&[u8]; 5] = [b"a", b"b", b"c", b"d", b"e"];
+
+/// A world, and its mails.
+#[derive(Drop)]
+pub struct Begun {
+    /// The world.
+    pub world: World<MemFs>,
+    /// The names of its mails.
+    pub mails: Vec<ActorName>,
+    ghost living: { AreLivingMails world.events mails.items },
+}
+
+/// A world over an empty queue, with the first of the mails, so many, and a generation. If there is no memory, there are fewer mails, or
+/// none is returned.
+pub fn world_with(alloc: Global, count: usize) -> Option<Begun> {
+    let mut world = World::new(alloc, queue_disk(alloc).ok()?).ok()?;
+    let mut mails = Vec::new(alloc);
+    for at in 0..count {
+        if let Some(name) = name_of(at) {
+            add_mail(alloc, &mut world, &mut mails, &name);
+        }
+    }
+    add_generation(alloc, &mut world, &mails);
+    Some(Begun { world, mails })
+}
+
+/// The name of the mail at this place, if there is one.
+fn name_of(at: usize) -> Option<ActorName> {
+    ActorName::of(NAMES.get(at)?)
+}
+
+/// A disk in memory with the directories of a queue.
+fn queue_disk(alloc: Global) -> Result<MemFs, Memory> {
+    let dirs = queue_dirs(alloc)?;
+    let mut disk = MemFs::new(alloc, Vec::new(alloc), Vec::new(alloc))?;
+    let _ = disk.dir(alloc, b"control");
+    let _ = disk.dir(alloc, b"users");
+    for dir in &dirs {
+        let _ = disk.dir(alloc, dir.as_slice());
+    }
+    Ok(disk)
+}
+
+/// One mail more, if there is memory.
+fn add_mail(alloc: Global, world: &mut World<MemFs>, mails: &mut Vec<ActorName>, name: &ActorName)
+    requires { AreLivingMails world.old.events mails.old.items }
+    ensures { AreLivingMails world.new.events mails.new.items }
+{
+    let Ok(()) = mails.reserve(1) else { return };
+    match world.start_mail(alloc, name, b"hi\n", b"Fa@x\0Tb@y\0\0") {
+        Ok(()) => mails.push(name.copy()).unwrap(),
+        Err(_) => {}
+    }
+}
+
+/// Starts a generation, if there is memory.
+fn add_generation(alloc: Global, world: &mut World<MemFs>, mails: &[ActorName])
+    requires { AreLivingMails world.old.events mails.now }
+    ensures { AreLivingMails world.new.events mails.now }
+{
+    let _ = mails;
+    let _ = world.start_generation(alloc);
+}
