@@ -144,10 +144,11 @@ impl PieceQueue {
         self.line.another::<Both>(pass)
     }
 
-    /// Sleeps until a piece is there, at most so long. It may also return for no reason.
+    /// Sleeps until a piece is there, at most so long. It may also return for no reason, as after a piece that was taken before
+    /// its reader had counted it.
     pub fn rest<R: Wait>(&self, rt: &R, most: Duration) {
         let seen = self.pushed.load(Ordering::SeqCst);
-        if seen == self.taken.load(Ordering::SeqCst) {
+        if seen <= self.taken.load(Ordering::SeqCst) {
             self.pushed.park_timeout(rt, low_half(seen), most);
         }
     }

@@ -6,8 +6,13 @@
 //! memory, which it doesn't touch; one that has them gets processes of the system, and a gate that rests until one of them
 //! tells something. A member of a generation holds its lock all the while; a sender waits first until no member of an earlier
 //! generation is left, and ends with 84 if there is another sender.
+//!
+//! The sender and the cleaner take the last name of a file away while it is open, and threads close it. That no call waits for it,
+//! and that the name is gone once the call has ended, no contract says.
 #![tactic(auto)]
 
+mod leaving;
 mod process;
+mod queue_files;
 
 pub use process::{run, words_of};

@@ -1,5 +1,7 @@
 // A command over the real things.
 
+use crate::leaving::{Leaving, start_helpers};
+use crate::queue_files::QueueFiles;
 use call_fs::CallFs;
 use command_words::{Channels, Member, channels, member, places};
 use host_fs::HostFs;
@@ -16,7 +18,7 @@ use resting_gates::{RestingGate, SendingGate, drain_limit, idle_limit};
 use std::alloc::{AllocError, Global};
 use std::env::{self, VarError};
 use std::process::{self, OpenProcess, Processes};
-use std::sync::Wait;
+use std::sync::{Arc, Wait};
 use std::thread::Threads;
 use std::time::Clock;
 use top_call::TopCall;
@@ -60,13 +62,13 @@ where
 {
     let channels = channels(alloc, words)?;
     let Some(limits) = told_limits(rt, channels)? else {
-        return run_alone(call, rt, alloc, &[]);
+        return run_alone(call, rt, handle, alloc, &[]);
     };
     let Some(_lock) = lock(rt, alloc, words)? else {
         return Ok(NO_START);
     };
     match channels {
-        Channels::Nothing => run_alone(call, rt, alloc, words),
+        Channels::Nothing => run_alone(call, rt, handle, alloc, words),
         _ => run_parent(call, rt, handle, alloc, words, channels, limits),
     }
 }
@@ -135,15 +137,17 @@ fn lock(rt: &HostRuntime, alloc: Global, words: &[String]) -> Result<Option<Memb
 }
 
 /// Makes the call with these words of a command that has no children.
-fn run_alone<C: TopCall>(
+fn run_alone<C: TopCall, R: Threads + Wait + Copy + Send + Drop + 'static>(
     call: &C,
     rt: &HostRuntime,
+    handle: R,
     alloc: Global,
     words: &[String],
 ) -> Result<u8, Memory> {
     run_over(
         call,
         rt,
+        handle,
         alloc,
         words,
         &mut MemPosts::new(Vec::new(alloc)),
@@ -183,11 +187,29 @@ where
     match channels {
         Channels::Links => {
             let gate = SendingGate::new(handle, queue, limits.idle, limits.drain);
-            run_over(call, rt, alloc, words, &mut posts, &mut children, &gate)
+            run_over(
+                call,
+                rt,
+                handle,
+                alloc,
+                words,
+                &mut posts,
+                &mut children,
+                &gate,
+            )
         }
         _ => {
             let gate = RestingGate::new(handle, queue);
-            run_over(call, rt, alloc, words, &mut posts, &mut children, &gate)
+            run_over(
+                call,
+                rt,
+                handle,
+                alloc,
+                words,
+                &mut posts,
+                &mut children,
+                &gate,
+            )
         }
     }
 }
@@ -201,9 +223,16 @@ fn room_of(channels: Channels) -> usize {
 }
 
 /// Makes the call with these words over standard input and over the places that they name.
-fn run_over<C: TopCall, P: Posts, S: Spawner, G: Gate>(
+fn run_over<
+    C: TopCall,
+    R: Threads + Wait + Copy + Send + Drop + 'static,
+    P: Posts,
+    S: Spawner,
+    G: Gate,
+>(
     call: &C,
     rt: &HostRuntime,
+    handle: R,
     alloc: Global,
     words: &[String],
     posts: &mut P,
@@ -215,7 +244,9 @@ fn run_over<C: TopCall, P: Posts, S: Spawner, G: Gate>(
     let mut envelope = ReaderSource::new(LateFile::new(rt, places.env));
     Ok(match places.dir {
         Some(dir) => {
-            let mut disk = HostFs::open(rt, alloc, dir.as_slice())?;
+            let leaving = leaving(handle, alloc, words)?;
+            let files = QueueFiles::new(rt, handle, leaving);
+            let mut disk = HostFs::open(&&files, alloc, dir.as_slice())?;
             run_on(
                 call,
                 rt,
@@ -245,6 +276,19 @@ fn run_over<C: TopCall, P: Posts, S: Spawner, G: Gate>(
             )
         }
     })
+}
+
+/// Files to be let go of, with threads for that in the sender and the cleaner.
+fn leaving<R: Threads + Wait + Copy + Send + Drop + 'static>(
+    handle: R,
+    alloc: Global,
+    words: &[String],
+) -> Result<Arc<Leaving, Global>, Memory> {
+    let leaving = Arc::new(alloc, Leaving::new(alloc))?;
+    if let Some(Member::Send | Member::Clean) = member(alloc, words)? {
+        start_helpers(handle, &leaving)?;
+    }
+    Ok(leaving)
 }
 
 /// Makes the call over this disk.

@@ -1,7 +1,7 @@
 -- One round of `settle`, and its rounds so far, by what the calls of a world tell.
 use Rattle.std.proofs.Common.{◌≡◌, ℕ, ◌+◌, ◌*◌, ◌<◌, List, ◌++◌, length, reverse, Bool, true, false, ◌&&◌, sym, ap, ◌∙◌, subst, append_assoc, arith}
 use Rattle.std.specs.Prelude.{drop, codes}
-use Rattle.std.specs.List.{AllZip, list_all, sum_by}
+use Rattle.std.specs.List.{AllZip, sum_by}
 use Rattle.call_fs.specs.Disk.{Disk}
 use Rattle.call_fs.specs.Plan.{Plan}
 use Rattle.crash_fs.specs.Crash.{Crash}
@@ -14,9 +14,9 @@ use Rattle.script_lines.specs.declared.keyword.OfLetter.TheVariants as of_letter
 use Rattle.script_words.specs.declared.letter.Letter.{Letter}
 use Rattle.scenario.specs.Steps.{plan_through, refusal_line}
 use Rattle.scenario.specs.Steps.Refusal.{Rounds}
-use Rattle.scenario.specs.Turns.{NoneBefore, counted, most_rounds, is_search_deed, is_idle, events_of, text_of, events_in, reports_of}
+use Rattle.scenario.specs.Turns.{NoneBefore, counted, most_rounds, are_searches, is_idle, events_of, text_of, events_in, reports_of}
 use Rattle.scenario.specs.Playing.{IsPlaying, HasPlayed}
-use Rattle.scenario.specs.inside.Playing.{HasTurned, HasReported, HasRounded, is_search_kept}
+use Rattle.scenario.specs.inside.Playing.{HasTurned, HasReported, HasRounded, are_searches_kept}
 use Rattle.scenario.proofs.Searches.{searches_told}
 use Rattle.scenario.proofs.TurnRuns.{round_printed, round_reported, HasSettledOn, settle_goes_on, settle_rests, settle_full}
 use Rattle.scenario.proofs.TurnParts.{own_none, own_some}
@@ -24,7 +24,7 @@ use Rattle.scenario.proofs.TurnSteps.{quiet_round, same_text}
 
 -- the events of a round are searches exactly if those that the world kept of it are
 round_searches : (d : Disk) (old w : Seen Crash) (plan left : Plan) (before later h : List Deed) → IsPlaying d old plan h → IsPlaying d w left (later ++ (before ++ h))
-    → list_all is_search_kept (drop (length old.events) w.events) ≡ list_all is_search_deed (later ++ before)
+    → are_searches_kept (drop (length old.events) w.events) ≡ are_searches (later ++ before)
 round_searches d old w plan left before later h was now =
     searches_told old.events w.events (later ++ before) h was.told
     (subst (λ (l : List Deed). AllZip TellsDeed (reverse w.events) l) (sym (append_assoc later before h)) now.told)
@@ -39,7 +39,7 @@ round_stops d w letter idle before after_text plan h turn more =
 pub round_ends : (d : Disk) (old w v : Seen Crash) (letter : Letter) (idle searches : Bool) (before after_text : List ℕ) (plan : Plan) (h : List Deed) → IsPlaying d old plan h
     → (turn : HasTurned d w idle before after_text plan h) → ¬ (length before < length after_text)
     → HasReported d v letter (plan_through plan (events_of turn.parts)) (events_of turn.parts ++ h)
-    → searches ≡ list_all is_search_kept (drop (length old.events) v.events) → HasRounded d v letter (idle && searches) before after_text plan h
+    → searches ≡ are_searches_kept (drop (length old.events) v.events) → HasRounded d v letter (idle && searches) before after_text plan h
 round_ends d old w v letter idle searches before after_text plan h was turn none told is =
     let left = plan_through plan (events_of turn.parts) in
     round_reported d w v letter idle searches before after_text plan h turn (own_none before after_text (text_of turn.parts) turn.text (omega arith)) told

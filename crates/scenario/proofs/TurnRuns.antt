@@ -1,7 +1,6 @@
 -- The parts of a turn and the rounds of `settle`, one after the other.
 use Rattle.std.proofs.Common.{◌≡◌, ◌≢◌, ◌⊎◌, inl, inr, ⊎_elim, ℕ, ◌+◌, ◌<◌, List, [], ◌∷◌, ◌++◌, length, Bool, true, false, ◌&&◌, ◌||◌, Some, None, refl, sym, ap, ◌∙◌, subst, arith, append_assoc}
 use Rattle.std.specs.Prelude.{codes}
-use Rattle.std.specs.List.{list_all}
 use Rattle.std.proofs.lemmas.List.{append-nil}
 use Rattle.call_fs.specs.Disk.{Disk}
 use Rattle.call_fs.specs.Plan.{Plan}
@@ -16,7 +15,7 @@ use Rattle.scenario.specs.Chains.{EachFollows}
 use Rattle.scenario.specs.Deeds.{Deed, event_in, after}
 use Rattle.scenario.specs.Steps.{plan_through, plan_by, idles, has_idled, refusal_line}
 use Rattle.scenario.specs.Steps.Refusal.{Rounds}
-use Rattle.scenario.specs.Turns.{next_living, NoneBefore, Part, events_of, text_of, place_after, AreParts, Round, reports_of, slot_after, ReportsOn, AreReported, AreReportsAfter, round_events, is_search_deed, is_idle, has_bytes, events_in, is_last, most_rounds, SettlesOn}
+use Rattle.scenario.specs.Turns.{next_living, NoneBefore, Part, events_of, text_of, place_after, AreParts, Round, reports_of, slot_after, ReportsOn, AreReported, AreReportsAfter, round_events, are_searches, is_idle, has_bytes, events_in, is_last, most_rounds, SettlesOn}
 use Rattle.scenario.specs.Turns.Settles.{Rests, Full}
 use Rattle.scenario.proofs.DeadStarts.{none_skipped, none_stays}
 use Rattle.scenario.specs.Playing.{IsPlaying, HasRun, HasPlayed}
@@ -201,13 +200,13 @@ round_printed d w letter idle before after_text plan h turn some =
 
 -- whether such a round is idle, by its events and by the newest one of its turn
 pub round_idle : (d : Disk) (h : List Deed) (letter : Letter) (idle searches : Bool) (parts : List Part) (slots : List ℕ) → idle ≡ has_idled d h (events_of parts)
-    → searches ≡ list_all is_search_deed (reports_of letter slots ++ events_of parts) → (idle && searches) ≡ is_idle d h letter (record { parts = parts; slots = slots })
-round_idle d h letter true searches parts [] idled all = all ∙ and_true searches (list_all is_search_deed (events_of parts)) (has_idled d h (events_of parts)) all idled
+    → searches ≡ are_searches (reports_of letter slots ++ events_of parts) → (idle && searches) ≡ is_idle d h letter (record { parts = parts; slots = slots })
+round_idle d h letter true searches parts [] idled all = all ∙ and_true searches (are_searches (events_of parts)) (has_idled d h (events_of parts)) all idled
   where
     and_true : (s t u : Bool) → s ≡ t → true ≡ u → t ≡ (t && u)
     and_true s true u same is = is
     and_true s false u same is = refl
-round_idle d h letter false searches parts [] idled all = and_false (list_all is_search_deed (events_of parts)) (has_idled d h (events_of parts)) idled
+round_idle d h letter false searches parts [] idled all = and_false (are_searches (events_of parts)) (has_idled d h (events_of parts)) idled
   where
     and_false : (t u : Bool) → false ≡ u → false ≡ (t && u)
     and_false true u is = is
@@ -221,7 +220,7 @@ reports_after d h letter (b ∷ text) slots none reported = absurd (cc)
 
 abbrev pub round_reported : (d : Disk) (w v : Seen Crash) (letter : Letter) (idle searches : Bool) (before after_text : List ℕ) (plan : Plan) (h : List Deed) (turn : HasTurned d w idle before after_text plan h)
     → text_of turn.parts ≡ [] → (told : HasReported d v letter (plan_through plan (events_of turn.parts)) (events_of turn.parts ++ h))
-    → searches ≡ list_all is_search_deed (reports_of letter told.slots ++ events_of turn.parts) → HasRounded d v letter (idle && searches) before after_text plan h
+    → searches ≡ are_searches (reports_of letter told.slots ++ events_of turn.parts) → HasRounded d v letter (idle && searches) before after_text plan h
 round_reported d w v letter idle searches before after_text plan h turn quiet told all =
     let round : Round = record { parts = turn.parts; slots = told.slots } in
     record {

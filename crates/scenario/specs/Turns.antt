@@ -1,6 +1,6 @@
 -- Generations, and what runs more than one actor: a turn, and the rounds of `settle`.
 use Rattle.std.specs.Prelude.{◌≡◌, ◌≢◌, ◌⊎◌, ℕ, zero, suc, ◌+◌, ◌*◌, ◌<◌, List, [], ◌∷◌, ◌++◌, length, map, Bool, true, false, not, ◌&&◌, ◌||◌, Option, Some, None, if◌then◌else◌, bytes_eq, codes, nat_lt}
-use Rattle.std.specs.List.{sum_by, list_any, list_all}
+use Rattle.std.specs.List.{count_by, sum_by, list_any, list_all}
 use Rattle.call_fs.specs.Disk.{Disk}
 use Rattle.call_fs.specs.Plan.{Plan}
 use Rattle.call_fs.specs.declared.calls.CallData.TheVariants.{NextName}
@@ -178,9 +178,26 @@ abbrev pub is_search_deed : Deed → Bool
 is_search_deed (Came event) = is_search event
 is_search_deed (Fed a own c message envelope) = false
 
--- Nothing happened in a round but an idle turn of the sender.
+-- one that begins at the start of `todo/`, as one search of each turn does
+abbrev pub is_first_call : NeedData → Bool
+is_first_call (File (NextName dir after)) = bytes_eq after []
+is_first_call other = false
+
+abbrev pub is_first : Event → Bool
+is_first (Act a own wrote) = is_first_call own.due
+is_first other = false
+
+abbrev pub is_first_deed : Deed → Bool
+is_first_deed (Came event) = is_first event
+is_first_deed (Fed a own c message envelope) = false
+
+-- These are nothing but searches, and all of one turn: two turns, or what is left of one and the next, have two from the start.
+abbrev pub are_searches : List Deed → Bool
+are_searches deeds = list_all is_search_deed deeds && nat_lt (count_by is_first_deed deeds) 2
+
+-- Nothing happened in a round but an idle turn of the sender, or what was left of one.
 abbrev pub is_idle : Disk → List Deed → Letter → Round → Bool
-is_idle d h letter round = list_all is_search_deed (round_events letter round) && has_idled d h (round_events letter round)
+is_idle d h letter round = are_searches (round_events letter round) && has_idled d h (round_events letter round)
 
 -- the deeds of some rounds, newest first
 abbrev pub events_in : Letter → List Round → List Deed

@@ -1,6 +1,6 @@
 // Turns, and the rounds of `settle`.
 ghost use Rattle.std.specs.Prelude.{◌≡◌, ◌+◌, ◌*◌, List, drop, length, IfOk, OnOk};
-ghost use Rattle.std.specs.List.{sum_by, list_all};
+ghost use Rattle.std.specs.List.{sum_by};
 ghost use Rattle.call_fs.specs.Disk.{Disk};
 ghost use Rattle.call_fs.specs.Plan.{Plan};
 ghost use Rattle.mail_world.specs.Generations.{next_living};
@@ -9,8 +9,8 @@ ghost use Rattle.script_lines.specs.declared.line.Line.TheVariants as LineOf;
 ghost use Rattle.script_lines.specs.declared.keyword.Alone.TheVariants as AloneOf;
 ghost use Rattle.script_lines.specs.declared.keyword.OfLetter.TheVariants as OfLetterOf;
 ghost use Rattle.scenario.specs.Playing.{IsPlaying, HasPlayed};
-ghost use Rattle.scenario.specs.inside.Playing.{HasTurned, HasParted, HasRounded, HasReported, is_search_kept};
-ghost use Rattle.scenario.specs.Turns.{counted, is_search_call, NoneBefore};
+ghost use Rattle.scenario.specs.inside.Playing.{HasTurned, HasParted, HasRounded, HasReported, are_searches_kept, is_first_kept, is_search_kept};
+ghost use Rattle.scenario.specs.Turns.{counted, is_first_call, is_search_call, NoneBefore};
 
 use crate::refusing::put_refusal;
 use crate::stepping::run;
@@ -157,7 +157,8 @@ fn with_entry(count: u64, entry: &Entry) -> Result<u64, Memory>
 }
 
 /// One round: a turn, in which no actor runs that started before that first place, and then a report for each program of the remote spawner
-/// that has none. Tells whether it is the last one: something was printed, or nothing happened but an idle turn of the sender.
+/// that has none. Tells whether it is the last one: something was printed, or nothing happened but an idle turn of the sender, or what was
+/// left of one.
 fn round(
     alloc: Global,
     world: &mut World<CrashDisk>,
@@ -178,36 +179,50 @@ fn round(
     Ok(idle && only_searches(world, before))
 }
 
-/// Whether all events after the first so many are searches of the sender for a message to preprocess.
+/// Whether all events after the first so many are searches of one turn of the sender.
 fn only_searches(world: &World<CrashDisk>, before: usize) -> bool
-    ensures { result ≡ list_all is_search_kept (drop before world.now.events) }
+    ensures { result ≡ are_searches_kept (drop before world.now.events) }
 {
     match world.history().events().get(before..) {
-        Some(events) => events.iter().all(|event| is_search(event)),
+        Some(events) => are_searches(events),
         None => true,
     }
+}
+
+/// Whether these are searches of the sender for a message to preprocess, and of one turn: at most one of them begins at the start.
+fn are_searches(events: &[Event]) -> bool
+    ensures { result ≡ are_searches_kept events.now }
+{
+    events.iter().all(|event| is_search(event))
+        && events.iter().filter(|event| is_first(event)).count() < 2
 }
 
 /// Whether an event is such a search.
 fn is_search(event: &Event) -> bool
     ensures { result ≡ is_search_kept event.now }
 {
-    match event {
-        Event::Act { actor, own } => {
-            actor.as_slice() == Member::Sender.name() && is_search_call(&own.due)
-        }
-        _ => false,
-    }
+    matches!(event, Event::Act { actor, own } if actor.as_slice() == Member::Sender.name() && is_search_call(&own.due))
 }
 
 /// Whether what was due is a search in `todo/`.
 fn is_search_call(due: &NeedData) -> bool
     ensures { result ≡ is_search_call due.now }
 {
-    match due {
-        NeedData::File(CallData::NextName(dir, _)) => dir.as_slice() == b"todo".as_slice(),
-        _ => false,
-    }
+    matches!(due, NeedData::File(CallData::NextName(dir, _)) if dir.as_slice() == b"todo".as_slice())
+}
+
+/// Whether a search begins at the start.
+fn is_first(event: &Event) -> bool
+    ensures { result ≡ is_first_kept event.now }
+{
+    matches!(event, Event::Act { own, .. } if is_first_call(&own.due))
+}
+
+/// Whether what was due is a search from the start.
+fn is_first_call(due: &NeedData) -> bool
+    ensures { result ≡ is_first_call due.now }
+{
+    matches!(due, NeedData::File(CallData::NextName(_, after)) if after.as_slice() == b"".as_slice())
 }
 
 /// Reports for each program of the living remote spawner that has no report, in order of its slot.

@@ -19,7 +19,7 @@ module _ {I O : Type 0} where
   longer xs ys = cond (ltb (length xs) (length ys)) ys xs
 
   module _ {Y : Type 0} (moves : Y → I → Result O Memory → Y → Type 0) where
-    -- one turn; at want of memory the state is as before
+    -- one turn; out of memory, the state is as before
     abbrev pub Moved : Y → Turn I O → Y → Type 0
     Moved old t new = moves old t.input t.answer new × MatchResult t.answer (λ _. Unit {0}) (λ _. new ≡ old)
 

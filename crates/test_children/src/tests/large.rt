@@ -78,7 +78,8 @@ fn feed<R: Wait + Drop, S: System>(yard: &mut Yard<R, S>, chan: u32, text: &[u8]
     right
 }
 
-/// Whether a command gives back a text that it is fed so often, byte for byte.
+/// Whether a command gives back a text that it is fed so often, byte for byte. The status of a child whose output isn't taken to its
+/// end isn't asked for: its reader would wait for room for ever.
 pub fn gives_back<R: Wait + Drop, S: System>(
     yard: &mut Yard<R, S>,
     alloc: Global,
@@ -97,7 +98,9 @@ pub fn gives_back<R: Wait + Drop, S: System>(
         take(yard, text, &mut back);
     }
     yard.children.finish(chan);
-    right = take_rest(yard, text, &mut back) && right;
+    if !take_rest(yard, text, &mut back) {
+        return false;
+    }
     right = yard.children.status(chan) == Status::Ended(0) && right;
     right && back.is_right && back.bytes == text.len().saturating_mul(times)
 }
@@ -115,7 +118,9 @@ pub fn counts<R: Wait + Drop, S: System>(
     }
     yard.children.finish(chan);
     yard.bytes.clear();
-    right = yard.collect() && right;
+    if !yard.collect() {
+        return false;
+    }
     right = yard.children.status(chan) == Status::Ended(0) && right;
     right && yard.bytes.as_slice() == b"67108864\n".as_slice()
 }

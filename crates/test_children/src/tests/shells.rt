@@ -18,13 +18,11 @@ fn run<R: Wait + Drop, S: System>(
     let is_fed = input.is_empty() || yard.children.feed(chan, input) == Gave::Done;
     yard.children.finish(chan);
     yard.bytes.clear();
-    let is_ended = yard.collect();
-    let status = yard.children.status(chan);
-    if is_fed && is_ended {
-        status
-    } else {
-        Status::Failed
+    if !yard.collect() {
+        return Status::Failed;
     }
+    let status = yard.children.status(chan);
+    if is_fed { status } else { Status::Failed }
 }
 
 /// Whether a command of a shell, which is fed this text, prints this and ends so.
@@ -103,9 +101,11 @@ pub fn itself<R: Wait + Drop, S: System>(yard: &mut Yard<R, S>, alloc: Global) -
     let member = run(yard, alloc, &[b"", b"--list"], b"");
     let chan = yard.start(alloc, &[b"sh", b"-c", b"exec /proc/$PPID/exe --list"]);
     yard.children.finish(chan);
-    let is_whole = yard.collect();
+    if !yard.collect() {
+        return false;
+    }
     let by_shell = yard.children.status(chan);
-    let is_same = is_whole && member == by_shell && matches!(member, Status::Ended(_));
+    let is_same = member == by_shell && matches!(member, Status::Ended(_));
     is_same && (yard.bytes.is_empty() || is_twice(yard.bytes.as_slice()))
 }
 
@@ -118,7 +118,10 @@ pub fn refuses<R: Wait + Drop, S: System>(yard: &mut Yard<R, S>, alloc: Global) 
     let is_unknown = yard.children.feed(99_999, b"lost") == Gave::Failed;
     let is_counted = yard.children.faults() == before.saturating_add(2);
     yard.bytes.clear();
-    let is_silent = yard.collect() && yard.bytes.is_empty();
+    if !yard.collect() {
+        return false;
+    }
+    let is_silent = yard.bytes.is_empty();
     let _ = yard.children.status(chan);
     is_silent && is_late && is_unknown && is_counted
 }

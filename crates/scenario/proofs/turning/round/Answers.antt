@@ -1,6 +1,5 @@
 use Rattle.std.proofs.Common.{◌≡◌, ℕ, ◌++◌, Bool, ◌&&◌, refl, sym, ap, ◌∙◌, subst, drop, length, arith}
-use Rattle.std.specs.List.{list_all}
-use Rattle.scenario.specs.inside.Playing.{HasRounded, is_search_kept}
+use Rattle.scenario.specs.inside.Playing.{HasRounded, are_searches_kept}
 use Rattle.scenario.specs.Steps.{plan_through}
 use Rattle.scenario.specs.Turns.{events_of}
 use Rattle.scenario.proofs.RoundSteps.{round_stops, round_ends}
@@ -16,10 +15,10 @@ returns-then-idle c = λ d plan h playing none.
     let told = c.in_ok-report_all.ensures d (plan_through plan (events_of turn.parts)) (events_of turn.parts ++ h) turn.playing in
     let before = c.args.text.now.items in
     let after_text = c.turn.new.text.items in
-    let searches = list_all is_search_kept (drop (length c.args.world.now.events) c.report_all.new.world.events) in
+    let searches = are_searches_kept (drop (length c.args.world.now.events) c.report_all.new.world.events) in
     let kept = ap length c.history.ensures.events in
     let same : c.len-before.result ≡ length c.args.world.now.events = c.len-before.ensures ∙ kept in
-    let all : c.only_searches.result ≡ searches = c.only_searches.ensures ∙ ap (λ (n : ℕ). list_all is_search_kept (drop n c.report_all.new.world.events)) same in
+    let all : c.only_searches.result ≡ searches = c.only_searches.ensures ∙ ap (λ (n : ℕ). are_searches_kept (drop n c.report_all.new.world.events)) same in
     subst (λ (b : Bool). HasRounded d c.report_all.new.world c.args.letter b before after_text plan h) (ap (λ (t : Bool). t && c.only_searches.result) c.if-idle.true)
     (round_ends d c.args.world.now c.turn.new.world c.report_all.new.world c.args.letter c.in_ok-idle.idle c.only_searches.result before after_text plan h playing turn (λ more. omega arith) told all)
 
@@ -29,6 +28,6 @@ returns-else-idle c = λ d plan h playing none.
     let told = c.in_ok-report_all.ensures d (plan_through plan (events_of turn.parts)) (events_of turn.parts ++ h) turn.playing in
     let before = c.args.text.now.items in
     let after_text = c.turn.new.text.items in
-    let searches = list_all is_search_kept (drop (length c.args.world.now.events) c.report_all.new.world.events) in
+    let searches = are_searches_kept (drop (length c.args.world.now.events) c.report_all.new.world.events) in
     subst (λ (b : Bool). HasRounded d c.report_all.new.world c.args.letter b before after_text plan h) (ap (λ (t : Bool). t && searches) c.if-idle.false ∙ sym c.if-idle.false)
     (round_ends d c.args.world.now c.turn.new.world c.report_all.new.world c.args.letter c.in_ok-idle.idle searches before after_text plan h playing turn (λ more. omega arith) told refl)

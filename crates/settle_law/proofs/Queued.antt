@@ -1,0 +1,24 @@
+-- A search of todo without a name.
+use Rattle.std.proofs.Common.{◌≡◌, Bool, true, false, refl}
+use Rattle.mail_bytes.specs.Decimal.{digits}
+use Rattle.queue_paths.specs.Names.{path}
+use Rattle.queue_paths.specs.Names.Part.{Bounce, Info, Intd, Local, Mess, Remote, Todo}
+use Rattle.queue_states.specs.declared.state.State.TheVariants.{S4}
+use Rattle.queue_states.specs.States.{state_by, is_there}
+use Rattle.queue_states.proofs.MessageFiles.{is_part}
+use Rattle.settle_law.specs.Queued.{NoneIsQueued}
+
+queued : (mess intd todo info local remote bounce : Bool) → state_by mess intd todo info local remote bounce ≡ S4 → todo ≡ true
+queued false false false false false false false e = absurd (cc)
+queued true false false false false false false e = absurd (cc)
+queued true true false false false false false e = absurd (cc)
+queued true intd true info local remote false e = refl
+queued true false false true local remote bounce e = absurd (cc)
+queued mess intd todo info local remote bounce e = absurd (cc)
+
+pub none : NoneIsQueued
+unfolding path
+none d wrote fits n small e =
+    let there : is_there d Todo n ≡ true =
+    queued (is_there d Mess n) (is_there d Intd n) (is_there d Todo n) (is_there d Info n) (is_there d Local n) (is_there d Remote n) (is_there d Bounce n) e in
+    fits.1 (digits n) (there, is_part n small)

@@ -1,0 +1,144 @@
+-- How `settle` ends.
+use Rattle.std.proofs.Common.{◌≡◌, ◌⊎◌, ℕ, suc, ◌+◌, List, [], ◌∷◌, ◌++◌, length, inl, inr, Bool, true, false, not, ◌&&◌, ◌||◌, if◌then◌else◌, Some, bytes_eq, codes, nat_lt, refl, sym, ap, ◌∙◌, subst, append_assoc}
+use Rattle.std.specs.List.{count_by, list_all, list_any}
+use Rattle.std.proofs.lemmas.Bool.{and_parts}
+use Rattle.std.proofs.lemmas.Slice.Eq.{bytes_eq-Decides}
+use Rattle.call_fs.specs.Disk.{Disk}
+use Rattle.call_fs.specs.Plan.{Plan}
+use Rattle.mail_world.specs.Generations.{idled_by, lives_in}
+use Rattle.mail_world.specs.History.{IsLiving, State}
+use Rattle.mail_world.specs.History.Event.{Start, Act, Child, Generation, Report, End, Stop, Moment, Halt}
+use Rattle.script_words.specs.declared.letter.Letter.{Letter}
+use Rattle.scenario.specs.Chains.{EachFollows}
+use Rattle.scenario.specs.Deeds.{Deed, after, event_in}
+use Rattle.scenario.specs.Deeds.Deed.{Came, Fed}
+use Rattle.scenario.specs.Steps.{Refusal, Stops, has_idled, idles, plan_through, refusal_line, stop_text}
+use Rattle.scenario.specs.Steps.Refusal.{Alive, Gone, NotWaiting, Past, Rounds, Steps, Taken, Unknown}
+use Rattle.scenario.specs.Steps.Stops.{Idles, Refused, Full}
+use Rattle.scenario.specs.Turns.{IsRound, Part, Round, Settles, SettlesOn, TurnsOn, are_searches, events_in, events_of, has_bytes, is_first_deed, is_idle, is_next, is_search_call, is_search_deed, next_in, place_after, round_events, starts_of, text_of}
+use Rattle.scenario.specs.Turns.Settles.{Rests as RestsThen, Full as FullThen}
+use Rattle.scenario.proofs.Carried.{living_in}
+use Rattle.scenario.proofs.Outcomes.{alive_waits}
+use Rattle.settle_law.specs.Ends.{EndsIdle, SettleStops, StopsSo}
+use Rattle.settle_law.specs.Ends.StopsSo.{Rests, TooLong, TooMany}
+
+-- Who comes next in a turn lives.
+
+next_lives : (s : State) (from at : ℕ) (starts : List (List ℕ)) (a : List ℕ) (place : ℕ) → next_in s from at starts ≡ Some (a, place) → lives_in (s.actors a) ≡ true
+next_lives s from at [] a place e = absurd (cc)
+next_lives s from at (b ∷ later) a place e = by (is_next s from at b later) refl e (next_lives s from (at + 1) later a place)
+  where
+    by : (t : Bool) → is_next s from at b later ≡ t → (if t then Some (b, at) else next_in s from (at + 1) later) ≡ Some (a, place)
+        → (next_in s from (at + 1) later ≡ Some (a, place) → lives_in (s.actors a) ≡ true) → lives_in (s.actors a) ≡ true
+    by true t eq rest =
+        let pair : ◌≡◌ {A = List ℕ × ℕ} (b, at) (a, place) = cc in
+        let same : b ≡ a = ap (λ (p : List ℕ × ℕ). p.0) pair in
+        let parts = and_parts (not (nat_lt at from)) (not (list_any (bytes_eq b) later) && lives_in (s.actors b)) t in
+        subst (λ c. lives_in (s.actors c) ≡ true) same (and_parts (not (list_any (bytes_eq b) later)) (lives_in (s.actors b)) parts.1).1
+    by false t eq rest = rest eq
+
+-- What a run prints of an actor that lives: nothing, or that it made the most steps.
+
+stop_quiet : (steps : ℕ) (why : Refusal) (a : List ℕ) → why ≡ NotWaiting → stop_text steps why a ≡ []
+stop_quiet steps why a e = subst (λ (w : Refusal). stop_text steps w a ≡ []) (sym e) refl
+
+stop_later : (steps : ℕ) (why : Refusal) (a : List ℕ) → stop_text (suc steps) why a ≡ []
+stop_later steps NotWaiting a = refl
+stop_later steps Unknown a = refl
+stop_later steps Gone a = refl
+stop_later steps Taken a = refl
+stop_later steps Past a = refl
+stop_later steps Steps a = refl
+stop_later steps Alive a = refl
+stop_later steps Rounds a = refl
+
+run_prints : (d : Disk) (h : List Deed) (plan : Plan) (a : List ℕ) (deeds : List Deed) (text : List ℕ) → IsLiving (after d h) a → Stops d h plan a deeds text
+    → (text ≡ []) ⊎ (text ≡ refusal_line Steps a)
+run_prints d h plan a deeds text lives (Idles idle none) = inl none
+run_prints d h plan a deeds text lives (Full idle all more is) = inr is
+run_prints d h plan a [] text lives (Refused idle why steps few is) =
+    inl (is ∙ stop_quiet 0 why a (alive_waits d h plan a lives.actor why lives.is lives.alive steps))
+run_prints d h plan a (x ∷ deeds) text lives (Refused idle why steps few is) = inl (is ∙ stop_later (length deeds) why a)
+
+part_prints : (d : Disk) (h : List Deed) (plan : Plan) (before : List Part) (part : Part) → TurnsOn d h plan before part
+    → (part.text ≡ []) ⊎ (part.text ≡ refusal_line Steps part.actor)
+part_prints d h plan before part on =
+    let g = events_of before ++ h in
+    run_prints d g (plan_through plan (events_of before)) part.actor part.events part.text
+    (living_in (after d g) part.actor ((after d g).actors part.actor) refl (next_lives (after d g) (place_after before) 0 (starts_of g) part.actor part.place on.next)) on.run.stops
+
+turn_prints : (d : Disk) (h : List Deed) (plan : Plan) (parts : List Part) → EachFollows (TurnsOn d h plan) parts
+    → (text_of parts ≡ []) ⊎ ((a : List ℕ) × (text_of parts ≡ refusal_line Steps a))
+turn_prints d h plan [] are = inl refl
+turn_prints d h plan (part ∷ before) are = by (part_prints d h plan before part are.1)
+  where
+    by : (part.text ≡ []) ⊎ (part.text ≡ refusal_line Steps part.actor) → (part.text ≡ []) ⊎ ((a : List ℕ) × (part.text ≡ refusal_line Steps a))
+    by (inl none) = inl none
+    by (inr is) = inr (part.actor, is)
+
+-- What an idle round ends with.
+
+ends_idle : (d : Disk) (before : List Deed) (deed : Deed) → is_search_deed deed ≡ true → idles (after d before) (event_in deed) ≡ true → EndsIdle d deed before
+ends_idle d before (Came (Act a own wrote)) search idle =
+    let parts = and_parts (bytes_eq a (codes "sender")) (is_search_call own.due) search in
+    let same : a ≡ codes "sender" = (bytes_eq-Decides a (codes "sender")).0 parts.0 in
+    record {
+      own = own;
+      wrote = wrote;
+      is = ap (λ b. Came (Act b own wrote)) same;
+      search = parts.1;
+      idle = subst (λ b. idled_by ((after d before).actors b) own ≡ true) same idle;
+    }
+ends_idle d before (Came (Start a program)) search idle = absurd (cc)
+ends_idle d before (Came (Child parent own a program)) search idle = absurd (cc)
+ends_idle d before (Came (Generation sender clean lspawn rspawn)) search idle = absurd (cc)
+ends_idle d before (Came (Report slot output)) search idle = absurd (cc)
+ends_idle d before (Came (End a read ready status)) search idle = absurd (cc)
+ends_idle d before (Came (Stop a)) search idle = absurd (cc)
+ends_idle d before (Came (Moment m)) search idle = absurd (cc)
+ends_idle d before (Came (Halt how contents)) search idle = absurd (cc)
+ends_idle d before (Fed a own c message envelope) search idle = absurd (cc)
+
+record Newest (d : Disk) (events h : List Deed) : Type 0 where
+  deed : Deed
+  older : List Deed
+  is : events ++ h ≡ deed ∷ older
+  ends : EndsIdle d deed older
+
+newest_ends : (d : Disk) (events h : List Deed) → list_all is_search_deed events ≡ true → has_idled d h events ≡ true → Newest d events h
+newest_ends d [] h all idle = absurd (cc)
+newest_ends d (x ∷ before) h all idle =
+    record { deed = x; older = before ++ h; is = refl; ends = ends_idle d (before ++ h) x (and_parts (is_search_deed x) (list_all is_search_deed before) all).0 idle }
+
+rests_so : (d : Disk) (h : List Deed) (letter : Letter) (round : Round) (before : List Round) (text : List ℕ) → text ≡ [] → is_idle d (events_in letter before ++ h) letter round ≡ true
+    → StopsSo d h letter (round ∷ before) text
+rests_so d h letter round before text none idle =
+    let g = events_in letter before ++ h in
+    let events = round_events letter round in
+    let parts = and_parts (are_searches events) (has_idled d g events) idle in
+    let all = (and_parts (list_all is_search_deed events) (nat_lt (count_by is_first_deed events) 2) parts.0).0 in
+    let newest = newest_ends d events g all parts.1 in
+    Rests none round before refl idle newest.deed newest.older (append_assoc events (events_in letter before) h ∙ newest.is) newest.ends
+
+-- All rounds
+
+last_round : (d : Disk) (h : List Deed) (plan : Plan) (letter : Letter) (round : Round) (before : List Round) (text : List ℕ)
+    → IsRound d (events_in letter before ++ h) (plan_through plan (events_in letter before)) letter round
+    → has_bytes (text_of round.parts) || is_idle d (events_in letter before ++ h) letter round ≡ true → text ≡ text_of round.parts → StopsSo d h letter (round ∷ before) text
+last_round d h plan letter round before text is last prints =
+    by (turn_prints d (events_in letter before ++ h) (plan_through plan (events_in letter before)) round.parts is.turn.are)
+  where
+    by : (text_of round.parts ≡ []) ⊎ ((a : List ℕ) × (text_of round.parts ≡ refusal_line Steps a)) → StopsSo d h letter (round ∷ before) text
+    by (inl none) =
+        rests_so d h letter round before text (prints ∙ none)
+        (subst (λ (t : List ℕ). has_bytes t || is_idle d (events_in letter before ++ h) letter round ≡ true) none last)
+    by (inr many) = TooLong many.0 (prints ∙ many.1)
+
+stops_so : (d : Disk) (h : List Deed) (plan : Plan) (letter : Letter) (rounds : List Round) (text : List ℕ) → EachFollows (SettlesOn d h plan letter) rounds
+    → Settles d h letter rounds text → StopsSo d h letter rounds text
+stops_so d h plan letter rounds text are (FullThen more all is) = TooMany all is
+stops_so d h plan letter [] text are (RestsThen last is) = absurd (cc)
+stops_so d h plan letter (round ∷ before) text are (RestsThen last is) = last_round d h plan letter round before text are.1.is last is
+
+pub settle_stops : SettleStops
+settle_stops d h plan letter rounds text settled = stops_so d h plan letter rounds text settled.are settled.stops

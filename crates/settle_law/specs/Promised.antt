@@ -1,0 +1,65 @@
+-- What `settle` promises over a queue in which nothing fails, and of which facts it comes.
+use Rattle.std.specs.Prelude.{◌≡◌, ◌≢◌, ℕ, List, [], ◌∷◌, ◌++◌, true, Some, None, codes}
+use Rattle.address_rules.specs.declared.controls.Controls.{Controls}
+use Rattle.call_fs.specs.Disk.{Disk}
+use Rattle.call_fs.specs.Plan.{Plan}
+use Rattle.mail_world.specs.Generations.{CanNot, lowest_unreported}
+use Rattle.mail_world.specs.History.{Actor, State, next_of}
+use Rattle.mail_world.specs.History.Life.{Alive}
+use Rattle.mail_world.specs.Readiness.{found_in}
+use Rattle.script_words.specs.declared.letter.Letter.{Letter}
+use Rattle.scenario.specs.Deeds.{Deed, after, history_of}
+use Rattle.scenario.specs.Turns.{IsSettled, Round, events_in, is_idle}
+use Rattle.settle_law.specs.Ends.{EndsIdle}
+use Rattle.settle_law.specs.Settled.{AllGone, Settled}
+use Rattle.settle_law.specs.Well.{AllSucceed, GoesWell}
+
+-- What is promised
+
+-- `settle` with this letter made these rounds and printed nothing, and all went well until its end.
+pub record HasSettled (controls : Controls) (d : Disk) (h : List Deed) (letter : Letter) (rounds : List Round) : Type 0 where
+  pub plan : Plan
+  pub settles : IsSettled d h plan letter rounds []
+  pub well : GoesWell controls d (history_of (events_in letter rounds ++ h))
+
+-- Then the state is settled.
+abbrev pub SettlesEnd : Type 0
+SettlesEnd = (controls : Controls) (d : Disk) (h : List Deed) (letter : Letter) (rounds : List Round) → HasSettled controls d h letter rounds
+    → Settled (after d (events_in letter rounds ++ h))
+
+-- And if each report was of a success no message is left.
+abbrev pub SuccessesEnd : Type 0
+SuccessesEnd = (controls : Controls) (d : Disk) (h : List Deed) (letter : Letter) (rounds : List Round) → HasSettled controls d h letter rounds
+    → AllSucceed (history_of (events_in letter rounds ++ h)) → AllGone (after d (events_in letter rounds ++ h))
+
+-- Of which facts
+
+-- Nobody but the sender has anything to do: each other living actor waits, and the living remote spawner has no program without a report.
+pub record OthersWait (s : State) : Type 0 where
+  pub waits : (a : List ℕ) (x : Actor) → s.actors a ≡ Some x → x.life ≡ Alive → a ≢ codes "sender" → CanNot s a (next_of x.program x.past s.now (found_in s a))
+  pub reported : lowest_unreported 0 s ≡ None
+
+-- All went well, the newest deed ended an idle turn of the sender, and nobody else has anything to do.
+pub record IsRest (controls : Controls) (d : Disk) (deed : Deed) (before : List Deed) : Type 0 where
+  pub well : GoesWell controls d (history_of (deed ∷ before))
+  pub idle : EndsIdle d deed before
+  pub others : OthersWait (after d (deed ∷ before))
+
+-- After an idle round nobody else has anything to do.
+abbrev pub IdleRoundsRest : Type 0
+IdleRoundsRest = (controls : Controls) (d : Disk) (h : List Deed) (letter : Letter) (round : Round) (before : List Round)
+    → HasSettled controls d h letter (round ∷ before) → is_idle d (events_in letter before ++ h) letter round ≡ true
+    → OthersWait (after d (events_in letter (round ∷ before) ++ h))
+
+-- Such a rest is settled; and if each report was of a success no message is left.
+abbrev pub RestsAreSettled : Type 0
+RestsAreSettled = (controls : Controls) (d : Disk) (deed : Deed) (before : List Deed) → IsRest controls d deed before → Settled (after d (deed ∷ before))
+
+abbrev pub RestsAreEmpty : Type 0
+RestsAreEmpty = (controls : Controls) (d : Disk) (deed : Deed) (before : List Deed) → IsRest controls d deed before → AllSucceed (history_of (deed ∷ before))
+    → AllGone (after d (deed ∷ before))
+
+-- These make up what is promised.
+pub record RestsEnd : Type 0 where
+  pub settled : IdleRoundsRest → RestsAreSettled → SettlesEnd
+  pub gone : IdleRoundsRest → RestsAreEmpty → SuccessesEnd

@@ -1,0 +1,12 @@
+-- A search of `todo` from the start that gives no name: no message waits to be preprocessed.
+use Rattle.std.specs.Prelude.{◌≢◌, ◌<◌, ◌^◌, ℕ, [], codes}
+use Rattle.call_fs.specs.Apply.{Fits}
+use Rattle.call_fs.specs.Disk.{Disk}
+use Rattle.call_fs.specs.declared.calls.Answer.TheVariants.{NoName}
+use Rattle.call_fs.specs.declared.calls.CallData.TheVariants.{NextName}
+use Rattle.queue_states.specs.declared.state.State.TheVariants.{S4}
+use Rattle.queue_states.specs.States.{state_of}
+
+-- a program can name numbers up to the last of a u64
+abbrev pub NoneIsQueued : Type 0
+NoneIsQueued = (d : Disk) (wrote : ℕ) → Fits d (NextName (codes "todo") []) NoName wrote → (n : ℕ) → n < 2 ^ 64 → state_of d n ≢ S4

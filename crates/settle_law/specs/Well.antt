@@ -1,0 +1,73 @@
+-- Histories in which nothing fails, and in which each delivery succeeds.
+use Rattle.std.specs.Prelude.{◌≡◌, ◌<◌, ◌^◌, ℕ, List, ◌∷◌, Bool, true, false, not, ◌&&◌, ◌||◌, ◌==◌, bytes_eq, codes, nat_lt}
+use Rattle.std.specs.List.{list_all}
+use Rattle.address_rules.specs.declared.controls.Controls.{Controls}
+use Rattle.call_fs.specs.Disk.{Disk}
+use Rattle.call_fs.specs.declared.calls.Answer.{Answer}
+use Rattle.call_fs.specs.declared.calls.Answer.TheVariants.{Created, Refused}
+use Rattle.call_fs.specs.declared.calls.FsError.TheVariants.{Fault, Memory}
+use Rattle.call_fs.specs.declared.past.GotData.{GotData}
+use Rattle.call_fs.specs.declared.past.GotData.TheVariants as came
+use Rattle.call_fs.specs.declared.past.NeedData.{NeedData}
+use Rattle.call_fs.specs.declared.past.NeedData.TheVariants as needs
+use Rattle.call_fs.specs.declared.program.Port.TheVariants.{Output}
+use Rattle.program_law.specs.Sender.Control.{AreControls}
+use Rattle.mail_world.specs.History.{Event, Legal}
+use Rattle.mail_world.specs.History.Event.{Start, Act, Child, Generation, Report, End, Stop, Moment, Halt}
+
+-- Nothing fails
+
+-- The call neither failed nor lacked memory, and a file that it made has a number that a program can name.
+abbrev pub is_well_answered : Answer → Bool
+is_well_answered (Refused Fault) = false
+is_well_answered (Refused Memory) = false
+is_well_answered (Created fd number) = nat_lt number (2 ^ 64)
+is_well_answered answer = true
+
+abbrev pub came_well : GotData → Bool
+came_well (came.Answered told) = is_well_answered told.answer
+came_well came.Failed = false
+came_well came.Memory = false
+came_well got = true
+
+-- An injector whose input is too long ends with 31, one that is too slow with 52, and one that finds all its names in `pid` taken with 63.
+abbrev pub is_well_ended : ℕ → Bool
+is_well_ended status = not (status == 31) && (not (status == 52) && not (status == 63))
+
+abbrev pub goes_well : Event → Bool
+goes_well (Start a program) = true
+goes_well (Act a own wrote) = came_well own.came
+goes_well (Child parent own a program) = true
+goes_well (Generation sender clean lspawn rspawn) = true
+goes_well (Report slot output) = true
+goes_well (End a read ready status) = is_well_ended status
+goes_well (Stop a) = false
+goes_well (Moment m) = true
+goes_well (Halt how contents) = false
+
+-- No call fails, nothing is refused for memory, nothing is stopped, and no injector ends so. The control files say these, by which both channels
+-- may run a delivery.
+pub record GoesWell (controls : Controls) (d : Disk) (h : List Event) : Type 0 where
+  pub are : AreControls controls d
+  pub local : 0 < controls.concurrency_local
+  pub remote : 0 < controls.concurrency_remote
+  pub legal : Legal d h
+  pub well : list_all goes_well h ≡ true
+
+-- Each delivery succeeds
+
+-- Of a report the letter stands after the slot, and `K` is 75. What a spawner gives first is one byte, and no report.
+abbrev pub tells_success : NeedData → Bool
+tells_success (needs.Give Output (slot ∷ letter ∷ text)) = letter == 75
+tells_success due = true
+
+abbrev pub is_spawner : List ℕ → Bool
+is_spawner a = bytes_eq a (codes "lspawn") || bytes_eq a (codes "rspawn")
+
+abbrev pub succeeds : Event → Bool
+succeeds (Act a own wrote) = not (is_spawner a) || tells_success own.due
+succeeds other = true
+
+-- each report that a spawner gave is of a success: also that of a local delivery, which is no event of its own
+abbrev pub AllSucceed : List Event → Type 0
+AllSucceed h = list_all succeeds h ≡ true
