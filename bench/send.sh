@@ -63,6 +63,16 @@ await() { # WHAT COMMAND..: until the command succeeds, at most 20 seconds
 
 is_empty() { [ "$(queue audit "$1")" = "pid 0" ]; }
 
+# PID: kills a sender, and waits until the last of its threads is gone, and its lock with it
+end_at_once() {
+  kill -9 "$1"
+  await "the end of a sender that was killed" is_gone "$1"
+}
+
+is_gone() {
+  [ -z "$(ls "/proc/$1/task" 2> noise | grep -vx "$1")" ] && ! grep -q '^State:.[^Z]' "/proc/$1/status" 2> noise
+}
+
 end() { # the sender of `begin`, and with it its children
   kill "$sender" 2> noise
   wait "$timer" 2> noise
@@ -159,7 +169,7 @@ chmod +x slowly
 mail slow a@x r@y
 begin slow ./slowly log
 await "the program" test -e begun
-kill -9 "$sender"
+end_at_once "$sender"
 begin slow ./slowly log2
 await "the second generation" is_empty slow
 check "no second one beside a killed one" "$(ls both 2> noise)$(grep -c '^send: waiting for lock/rspawn$' log2)" 1
@@ -182,7 +192,7 @@ mail halted a@x r@y
 n=$(basename "$(ls halted/todo/*)")
 await "the message's files" test -e "halted/info/$((n % 23))/$n"
 sleep 1
-kill -9 "$sender"
+end_at_once "$sender"
 begin halted ./take log2
 sleep 2
 check "it waits for a stopped cleaner" "$(cat log2)" "send: waiting for lock/clean"
