@@ -10,7 +10,7 @@
 #   reports      play: the text of a report
 #   controls     play: a control file: the sender ends with 85, or goes on by it
 #   users        play: users/assign
-#   instructions play: a .qmail file
+#   instructions play: a .qmail file: its mail is delivered, deferred or bounced as its lines say
 #   todo         send: a file in todo/: it is preprocessed, or left there
 #   info         send: a file in info/: its message is skipped, or delivered
 #
@@ -207,13 +207,14 @@ ENTRY = b"=j:j:1000:1000:home/j:::\n+j-:j:1000:1000:home/j:-::\n.\n"
 TOLD = re.compile(r"pid 0|[1-9][0-9]* S[45]|[abf][.0-9]* (0|alive)|[abf][.0-9]* (pending|noted|delivered|bounced|dropped)|refused (gone sender|rounds settle|alive clean)")
 
 
-def played(opening, text, lines):
-    """Plays a mail to a user over opening contents, and expects only what may be shown."""
+def played(opening, text, lines, due=None):
+    """Plays a mail to a user over opening contents, and expects only what may be shown, or just what is due of it."""
     script = "".join(f"file {path} : {escaped(body)}\n" for path, body in opening) + MAILDIR + lines
     status, out, log = run(["play"], script.encode())
     told = out.decode().split("\n")[:-1]
-    fates = [it.split(" ", 1)[1] for it in told if it.startswith("a.1 ")]
-    is_right = (status, log) == (0, b"") and len(fates) == 1 and all(TOLD.fullmatch(it) for it in told)
+    fates, ends = ([it[4:] for it in told if it.startswith(name)] for name in ("a.1 ", "f.1 "))
+    is_right = (status, log) == (0, b"") and len(fates) == 1 and due in (None, (fates[0], ends))
+    is_right = is_right and all(TOLD.fullmatch(it) or it == "f.1 11" and due == ("bounced", ["11"]) for it in told)
     expect(is_right, f"{fates[0] if fates else out[:40]}{', the sender ended' if 'refused gone sender' in told else ''}", text + b" " + out[-200:])
 
 
@@ -248,10 +249,34 @@ def users(draw):
         played([("users/assign", text)], text, SETTLE)
 
 
+def due_by(text):
+    """What comes of a mail by a .qmail file, and how its forwards end, which go last, in one injection."""
+    lines = [line.rstrip(b" \t") for line in (text or b"./Maildir/").removesuffix(b"\n").split(b"\n")]
+    if not lines[0]:
+        return "pending", []
+    forwards = []
+    for k, line in enumerate(lines):
+        if line.startswith(b"|"):
+            found = re.fullmatch(rb"\|exit (0|[1-9][0-9]?|1[0-9]{2}|2[0-4][0-9]|25[0-5])", line)
+            status = int(found[1]) if found else 127
+            if status == 99:
+                break
+            if status:
+                return "bounced" if status in (64, 65, 70, 76, 77, 78, 100, 112) else "pending", []
+        elif line.startswith((b".", b"/")):
+            if line != b"./Maildir/" or line in lines[:k]:  # a maildir that isn't there, a mailbox, or a name that is taken
+                return "pending", []
+        elif line and not line.startswith((b"#", b"+")):
+            forwards.append(line.removeprefix(b"&").split(b"\0")[0])
+    if any(len(it) > 1002 for it in forwards):  # the injector refuses it with 11, which is for good
+        return "bounced", ["11"]
+    return "delivered", ["0"] if forwards else []
+
+
 def instructions(draw):
     for _ in range(count):
         text = mangled(draw, b"# j\n|exit 0\n&a@b\n./Maildir/\n|exit 99\n/tmp/x/\n")
-        played([("users/assign", ENTRY), ("home/j/.qmail", text)], text, SETTLE)
+        played([("users/assign", ENTRY), ("home/j/.qmail", text)], text, SETTLE, due_by(text))
 
 
 LOGGED = rb"(new msg|info msg|end msg|bounce msg|starting delivery|delivery|status:|alert: (left|skip)|triple bounce:) [^\n]*"

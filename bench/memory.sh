@@ -3,14 +3,20 @@
 # until a run asks for no more. With STEP each STEP-th one alone. Prints for each program how many growths were refused, and how
 # often each exit status came with what is left then. The programs: queue, clean, audit, local, forward, lspawn, rspawn, send,
 # play, make; all of them if none is named. Exit status 1 if a run crashes or never ends, or leaves something that a program that
-# is out of memory may not leave:
+# is out of memory may not leave. A call that can't answer that it is out of memory counts as failed, so a program may end by that
+# failure too. What may be left:
 #
-#   queue           a mail that is in the queue with another status than 0, or isn't with 0; a number in another state
-#   clean, audit    a file of a message that was accepted is gone; output that isn't the beginning of what must be printed
-#   local, forward  a file in new/ that isn't whole; none with status 0
-#   lspawn, rspawn  output that isn't the beginning of reports, one for each request
-#   send            a recipient that isn't delivered to by the senders that are started afterwards; a number in another state
-#   play, make      output that isn't the beginning of what is printed with enough memory; less than all of it with status 0
+#   queue           51: nothing; but its name in pid/ if the link to mess/ had no memory, and a number in S3 if the link to todo/ had
+#                   none, since nothing is removed then. 63: its name in pid/, if its unlink had none. In the order of these calls
+#   clean           51: all as it was. `!`: an unlink had none; S3 if it was that of intd/, S2 if it was that of mess/
+#   audit           51 or 54: the beginning of what must be printed
+#   local, forward  no file in new/ that isn't whole; with 0 one, or a mail in the queue
+#   lspawn, rspawn  the beginning of reports, one for each request. 54: no report; the input had no thread that reads it
+#   send            any state in which the senders that are started afterwards deliver to the recipient, and leave nothing. 81: the
+#                   cleaner couldn't be told to remove the message that was delivered: a number in S2
+#   play, make      the beginning of what is printed with enough memory; all of it with 0
+#
+# Of a name in pid/, of S2 and of S3 nothing may be left once 37 hours have passed, a sender having been started then.
 #
 # A growth is a call of malloc or realloc by any thread of the program. Python stops it there by the debug registers of the processor
 # (x86-64), counts, and has that one call answer null. What the program starts gets all memory. The program is ./qmail, or $QMAIL.
@@ -125,8 +131,10 @@ refuse() { # N WORD..: runs the program, whose growth N is refused. There is a f
   timeout 120 python3 -I -S refusing.py "$1" "$program" "${@:2}"
 }
 
-each() { # NAME LIKE LAST: refuses each growth of the program of this name; each run must be told like LIKE, and one without as LAST
-  local n=1 status
+each() { # NAME LAST LIKE..: refuses each growth of the program of this name; a run without must be told as LAST, the others like LIKE:
+  # some like the first one, those after them like the second one, and so on
+  local n=1 status like all=
+  for like in "${@:3}"; do all="$all(status ($like);)*"; done
   : > told
   while :; do
     "fresh_$1"
@@ -138,8 +146,8 @@ each() { # NAME LIKE LAST: refuses each growth of the program of this name; each
   done
   echo "$1: $(wc -l < told) growths refused"
   sort told | uniq -c | sort -rn
-  check "$1: what is left" "$(grep -cvE "^status ($2)\$" told)" 0
-  check "$1: with enough memory" "$status: $("left_$1" "$status")" "$3"
+  check "$1: what is left" "$(tr '\n' ';' < told | grep -cxE "$all")" 1
+  check "$1: with enough memory" "$status: $("left_$1" "$status")" "$2"
 }
 
 mail() { # RECIPIENT: queues a mail to it
@@ -156,10 +164,22 @@ fresh_queue() { # a queue with the user j, who has a maildir
 
 begins() { cmp -s -n "$(stat -c %s "$1")" "$1" "$2" && echo begun || echo other; } # whether the file begins as the other does
 states() { rm -rf q/home q/users q/lock; "$top/bench/states.sh" q | sed 's/^[0-9]* S/S/' | tr '\n' ' '; }
+later() { # what is left 37 hours later, when a sender has been started
+  find q/pid q/mess -type f -exec touch -d '37 hours ago' {} +
+  QMAIL_IDLE_MS=1 queue send q ./remote --turns 20 2> noise
+  states
+}
 
 # an injection
 run_queue() { printf 'Fa@x\0Tb@y\0\0' > envelope; printf 'Subject: hello\n\nhello\n' | refuse "$1" queue envelope q; }
-left_queue() { states; }
+left_queue() {
+  local left
+  left=$(states)
+  case $left in
+    "pid 0 " | "pid 0 S4 ") echo "$left" ;;
+    *) echo "$left- $(later)" ;;
+  esac
+}
 
 # the cleaner, which is told to remove what is left of an injection
 fresh_clean() {
@@ -169,7 +189,7 @@ fresh_clean() {
   rm "q/todo/$mess"
 }
 run_clean() { printf 'foop/%d\0' "$mess" | refuse "$1" clean q; }
-left_clean() { echo "$(cat out) $(states)"; }
+left_clean() { echo "$(cat out) $(states)$([ "$(cat out)" != ! ] || echo "- $(later)")"; }
 
 # an audit of a mail in the queue
 fresh_audit() { fresh_queue; mail b@y; printf 'pid 0\n%d S4\n' "$(ls q/todo)" > whole; }
@@ -211,6 +231,7 @@ left_send() {
   states=$(queue audit q | sed 's/^[0-9]* //' | tr '\n' ' ')
   for k in $(seq 20); do
     [ "$(queue audit q)" = "pid 0" ] && break
+    [ "$k" != 20 ] || states="$states- $(queue audit q | sed 's/^[0-9]* //' | tr '\n' ' ')- $(later)"
     QMAIL_IDLE_MS=1 queue send q ./remote --turns 200 2> noise
   done
   echo "$states- $(queue audit q | tr '\n' ' ')$([ -s took ] && echo delivered)"
@@ -229,18 +250,18 @@ left_make() { echo "$(begins out make.whole)$(cmp -s out make.whole && echo ", w
 
 for name in $programs; do
   case $name in
-    queue) each queue '51: pid 0 |0: pid 0 S4 ' '0: pid 0 S4 ' ;;
-    clean) each clean '5[14]: \+? pid 0 (S3 )?|0: \+ pid 0 ' '0: + pid 0 ' ;;
-    audit) each audit '5[14]: begun pid 0 S4 |0: begun pid 0 S4 ' '0: begun pid 0 S4 ' ;;
-    local) each local '51: [01] whole, 0 torn, [01] in tmp, forwarded 0|111: 0 whole, 0 torn, [01] in tmp, forwarded 0|0: 1 whole, 0 torn, [01] in tmp, forwarded 0' \
-      '0: 1 whole, 0 torn, 0 in tmp, forwarded 0' ;;
-    forward) each forward '(51|111): 0 whole, 0 torn, 0 in tmp, forwarded [01]|0: 0 whole, 0 torn, 0 in tmp, forwarded 1' \
-      '0: 0 whole, 0 torn, 0 in tmp, forwarded 1' ;;
-    lspawn) each lspawn '51: x?|0: x!(Kdid 1\+0\+0|ZOut of memory[^.]*\. \(#4\.3\.0\)|Zqmail-local crashed\.) ?\.' '0: x!Kdid 1+0+0 .' ;;
-    rspawn) each rspawn '51: x?|0: x!(Kok|ZOut of memory\. \(#4\.3\.0\)|Zqmail-remote crashed\.) ?\.' '0: x!Kok.' ;;
-    send) each send '(51|0|8[1-5]): .*- pid 0 delivered' '0: pid 0 - pid 0 delivered' ;;
-    play) each play '51: begun|0: begun, whole' '0: begun, whole' ;;
-    make) each make '51: begun|0: begun, whole' '0: begun, whole' ;;
+    queue) each queue '0: pid 0 S4 ' '51: pid 0 ' '51: pid 1 - pid 0 ' '63: pid 1 - pid 0 ' '51: pid 0 ' '51: pid 0 S3 - pid 0 ' '0: pid 0 S4 ' ;;
+    clean) each clean '0: + pid 0 ' '51:  pid 0 S3 |0: (\+|! pid 0 S[23] -) pid 0 ' ;;
+    audit) each audit '0: begun pid 0 S4 ' '(51|54|0): begun pid 0 S4 ' ;;
+    local) each local '0: 1 whole, 0 torn, 0 in tmp, forwarded 0' \
+      '51: [01] whole, 0 torn, [01] in tmp, forwarded 0|111: 0 whole, 0 torn, [01] in tmp, forwarded 0|0: 1 whole, 0 torn, [01] in tmp, forwarded 0' ;;
+    forward) each forward '0: 0 whole, 0 torn, 0 in tmp, forwarded 1' \
+      '(51|111): 0 whole, 0 torn, 0 in tmp, forwarded [01]|0: 0 whole, 0 torn, 0 in tmp, forwarded 1' ;;
+    lspawn) each lspawn '0: x!Kdid 1+0+0 .' '51: x?|54: x?|0: x!(Kdid 1\+0\+0|ZOut of memory[^.]*\. \(#4\.3\.0\)|Zqmail-local crashed\.) ?\.' ;;
+    rspawn) each rspawn '0: x!Kok.' '51: x?|54: x?|0: x!(Kok|ZOut of memory\. \(#4\.3\.0\)|Zqmail-remote crashed\.) ?\.' ;;
+    send) each send '0: pid 0 - pid 0 delivered' '(51|0|8[1-5]): pid 0 (S[2-5] )?- pid 0 delivered|81: pid 0 S2 - pid 0 S2 - pid 0 - pid 0 delivered' ;;
+    play) each play '0: begun, whole' '51: begun|0: begun, whole' ;;
+    make) each make '0: begun, whole' '51: begun|0: begun, whole' ;;
   esac
 done
 exit "$bad"

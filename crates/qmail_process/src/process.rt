@@ -3,7 +3,7 @@
 use crate::leaving::{Leaving, start_helpers};
 use crate::queue_files::QueueFiles;
 use call_fs::CallFs;
-use command_words::{Channels, Member, channels, member, places};
+use command_words::{Channels, Member, Places, channels, member, places};
 use host_fs::HostFs;
 use host_streams::{
     HostClock, LateFile, MemberLock, ReaderSource, WriterSink, lock_member, lock_sender,
@@ -12,7 +12,9 @@ use host_streams::{
 use mail_bytes::Memory;
 use mem_fs::MemFs;
 use outside::{Gate, MemPosts, MemSpawner, OpenGate, Posts, Source, Spawner};
-use proc_runner::{ChildPosts, Children, HostSystem, read_own_input, share};
+use proc_runner::{
+    ChildPosts, Children, HostSystem, Opener, Reader, Shared, read_own_input, share,
+};
 use queue_limits::NO_START;
 use resting_gates::{RestingGate, SendingGate, drain_limit, idle_limit};
 use std::alloc::{AllocError, Global};
@@ -175,41 +177,96 @@ where
     <R::Started as OpenProcess>::Stdout: Send + 'static,
     <R::Started as OpenProcess>::Stderr: Send + 'static,
 {
-    let (mut opener, taker) = share(alloc, room_of(channels))?;
+    let (opener, taker) = share(alloc, room_of(channels))?;
+    let mut posts = ChildPosts::new(handle, taker);
+    let called = run_with_posts(
+        call, rt, handle, alloc, words, channels, limits, opener, &mut posts,
+    );
+    drop(posts);
+    called
+}
+
+/// The same, with these posts, and children whose channels this opener opens.
+fn run_with_posts<
+    C: TopCall,
+    R: Threads + Wait + Processes + Clock + Copy + Send + Sync + Drop + 'static,
+    P: Posts,
+>(
+    call: &C,
+    rt: &HostRuntime,
+    handle: R,
+    alloc: Global,
+    words: &[String],
+    channels: Channels,
+    limits: Limits,
+    mut opener: Opener,
+    posts: &mut P,
+) -> Result<u8, Memory>
+where
+    R::Started: Drop + Send + 'static,
+    <R::Started as OpenProcess>::Stdin: Send + 'static,
+    <R::Started as OpenProcess>::Stdout: Send + 'static,
+    <R::Started as OpenProcess>::Stderr: Send + 'static,
+{
     let own = opener.open()?;
     let queue = opener.queue()?;
-    let mut posts = ChildPosts::new(handle, taker);
     let system = HostSystem::new(handle, process::id(rt.process()));
     let mut children = Children::new(handle, alloc, system, opener, limits.drain)?;
+    let begun = read_requests(rt, handle, alloc, channels, own);
+    let called = match begun {
+        Ok(()) => run_resting(
+            call,
+            rt,
+            handle,
+            alloc,
+            words,
+            channels,
+            limits,
+            queue,
+            posts,
+            &mut children,
+        ),
+        Err(why) => Err(why),
+    };
+    drop(children);
+    called
+}
+
+/// Reads standard input from now on as the program's own channel, if its input is one.
+fn read_requests<R: Threads + Wait + Copy + Send + Drop + 'static>(
+    rt: &HostRuntime,
+    handle: R,
+    alloc: Global,
+    channels: Channels,
+    own: Option<Reader>,
+) -> Result<(), Memory> {
     if let (Channels::InputAndChildren, Some(own)) = (channels, own) {
         read_own_input(handle, alloc, own, rt.stdin())?;
     }
+    Ok(())
+}
+
+/// Makes the call with these words, posts and children, and a gate that rests until a piece comes into this queue.
+fn run_resting<C: TopCall, R: Threads + Wait + Copy + Send + Drop + 'static, P: Posts, S: Spawner>(
+    call: &C,
+    rt: &HostRuntime,
+    handle: R,
+    alloc: Global,
+    words: &[String],
+    channels: Channels,
+    limits: Limits,
+    queue: Shared,
+    posts: &mut P,
+    spawn: &mut S,
+) -> Result<u8, Memory> {
     match channels {
         Channels::Links => {
             let gate = SendingGate::new(handle, queue, limits.idle, limits.drain);
-            run_over(
-                call,
-                rt,
-                handle,
-                alloc,
-                words,
-                &mut posts,
-                &mut children,
-                &gate,
-            )
+            run_over(call, rt, handle, alloc, words, posts, spawn, &gate)
         }
         _ => {
             let gate = RestingGate::new(handle, queue);
-            run_over(
-                call,
-                rt,
-                handle,
-                alloc,
-                words,
-                &mut posts,
-                &mut children,
-                &gate,
-            )
+            run_over(call, rt, handle, alloc, words, posts, spawn, &gate)
         }
     }
 }
@@ -239,43 +296,96 @@ fn run_over<
     spawn: &mut S,
     gate: &G,
 ) -> Result<u8, Memory> {
-    let places = places(alloc, words)?;
+    let Places { dir, env } = places(alloc, words)?;
     let mut message = ReaderSource::new(rt.stdin());
-    let mut envelope = ReaderSource::new(LateFile::new(rt, places.env));
-    Ok(match places.dir {
-        Some(dir) => {
-            let leaving = leaving(handle, alloc, words)?;
-            let files = QueueFiles::new(rt, handle, leaving);
-            let mut disk = HostFs::open(&&files, alloc, dir.as_slice())?;
-            run_on(
-                call,
-                rt,
-                alloc,
-                words,
-                &mut disk,
-                &mut message,
-                &mut envelope,
-                posts,
-                spawn,
-                gate,
-            )
+    let mut envelope = ReaderSource::new(LateFile::new(rt, env));
+    let called = match dir {
+        Some(dir) => run_in(
+            call,
+            rt,
+            handle,
+            alloc,
+            words,
+            dir.as_slice(),
+            &mut message,
+            &mut envelope,
+            posts,
+            spawn,
+            gate,
+        ),
+        None => run_nowhere(
+            call,
+            rt,
+            alloc,
+            words,
+            &mut message,
+            &mut envelope,
+            posts,
+            spawn,
+            gate,
+        ),
+    };
+    drop(envelope);
+    drop(message);
+    called
+}
+
+/// Makes the call over the files below this directory.
+fn run_in<
+    C: TopCall,
+    R: Threads + Wait + Copy + Send + Drop + 'static,
+    M: Source,
+    E: Source,
+    P: Posts,
+    S: Spawner,
+    G: Gate,
+>(
+    call: &C,
+    rt: &HostRuntime,
+    handle: R,
+    alloc: Global,
+    words: &[String],
+    dir: &[u8],
+    message: &mut M,
+    envelope: &mut E,
+    posts: &mut P,
+    spawn: &mut S,
+    gate: &G,
+) -> Result<u8, Memory> {
+    let leaving = leaving(handle, alloc, words)?;
+    let files = QueueFiles::new(rt, handle, leaving);
+    let called = match HostFs::open(&&files, alloc, dir) {
+        Ok(mut disk) => {
+            let status = run_on(
+                call, rt, alloc, words, &mut disk, message, envelope, posts, spawn, gate,
+            );
+            drop(disk);
+            Ok(status)
         }
-        None => {
-            let mut disk = MemFs::new(alloc, Vec::new(alloc), Vec::new(alloc))?;
-            run_on(
-                call,
-                rt,
-                alloc,
-                words,
-                &mut disk,
-                &mut message,
-                &mut envelope,
-                posts,
-                spawn,
-                gate,
-            )
-        }
-    })
+        Err(why) => Err(why),
+    };
+    drop(files);
+    called
+}
+
+/// Makes the call of a command that has no directory, over an empty disk in memory.
+fn run_nowhere<C: TopCall, M: Source, E: Source, P: Posts, S: Spawner, G: Gate>(
+    call: &C,
+    rt: &HostRuntime,
+    alloc: Global,
+    words: &[String],
+    message: &mut M,
+    envelope: &mut E,
+    posts: &mut P,
+    spawn: &mut S,
+    gate: &G,
+) -> Result<u8, Memory> {
+    let mut disk = MemFs::new(alloc, Vec::new(alloc), Vec::new(alloc))?;
+    let status = run_on(
+        call, rt, alloc, words, &mut disk, message, envelope, posts, spawn, gate,
+    );
+    drop(disk);
+    Ok(status)
 }
 
 /// Files to be let go of, with threads for that in the sender and the cleaner.

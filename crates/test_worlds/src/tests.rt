@@ -4,3 +4,4 @@ mod local_rows;
 mod rows;
 mod running;
 mod seen;
+mod threads;

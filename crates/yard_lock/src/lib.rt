@@ -16,8 +16,8 @@
 //! - A pass that is split off has seen what the other one had, and none of those turns is its own; its number is above the other's.
 //!   A pass that takes in another has seen the longer of the two, and what each had seen is a prefix of that; the turns with the
 //!   number of either are those that it had: `Pass::split`, `Pass::join`.
-//! - Who closes the yard gets a state to which all turns lead from the one at the start, and the pass has seen them all:
-//!   `Yard::close`.
+//! - Who closes the yard gets a state to which the turns that its pass has seen lead from the one at the start: `Yard::close`. A pass
+//!   with all parts is the only one left, so these are all turns; that follows from the rule below and stands in no contract of its own.
 //! - What all passes have seen, spent ones too, are prefixes of one list, whatever thread holds them; each finds there just its own
 //!   turns with its number, and a number that no pass has stands nowhere. At most one pass has the state, and no two have one
 //!   ticket: the rule of the lock's table (`Ruled`), and the law `laws::turns_are_one_list`.

@@ -57,8 +57,8 @@ impl<Y: Stepped> Yard<Y> {
         self.lock.step(rt, alloc, &mut pass.seat, input)
     }
 
-    /// The state. All turns lead to it from the start, and these are what the pass has seen. The condition: the pass is of this yard
-    /// and has all parts.
+    /// The state, to which the turns that the pass has seen lead from the start. The condition: the pass is of this yard and has all
+    /// parts.
     pub fn close(self, pass: Pass<Y>) -> Y
         requires { (pass.yard ≡ self.id) × (pass.parts ≡ self.parts) }
         ensures { Replay Y.moves self.start pass.seen result }

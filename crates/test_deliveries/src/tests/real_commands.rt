@@ -7,7 +7,7 @@ use host_streams::HostClock;
 use local_command::deliver;
 use mail_bytes::{ByteText, Memory};
 use outside::{Gate, MemSink, MemSource, Posts, Spawner};
-use proc_runner::{ChildPosts, Children, HostSystem, Opener, Taker, read_own_input, share};
+use proc_runner::{ChildPosts, Children, HostSystem, Opener, Shared, read_own_input, share};
 use resting_gates::{DRAIN, RestingGate};
 use spawn_command::spawn_remote;
 use std::alloc::Global;
@@ -194,15 +194,34 @@ fn is_right_in<P: Posts, S: Spawner, G: Gate>(
     }
 }
 
-/// The same, with children as processes, the posts of their channels and the gate that rests until one of them comes. A
-/// spawner's requests are its own input; that of a delivery is left open, and nothing comes of it.
-fn is_right_with<R: Threads + Wait + Processes + Clock + Copy + Send + Sync + Drop + 'static>(
+/// Opens the program's own channel. A spawner's requests are read there from now on; that of a delivery is left open, and nothing
+/// comes of it. The queue of all pieces.
+fn queue_of<R: Threads + Wait + Copy + Send + Drop + 'static>(
+    handle: R,
+    alloc: Global,
+    row: Row,
+    opener: &mut Opener,
+) -> Result<Shared, Memory> {
+    let own = opener.open()?;
+    if let (false, Some(own)) = (row.program.is_empty(), own) {
+        read_own_input(handle, alloc, own, row.given.as_bytes())?;
+    }
+    opener.queue()
+}
+
+/// The same, with children as processes, whose channels this opener opens. The error: out of memory.
+fn is_right_over<
+    R: Threads + Wait + Processes + Clock + Copy + Send + Sync + Drop + 'static,
+    P: Posts,
+    G: Gate,
+>(
     rt: &HostRuntime,
     handle: R,
     root: &str,
     row: Row,
-    mut opener: Opener,
-    taker: Taker,
+    opener: Opener,
+    posts: &mut P,
+    gate: &G,
 ) -> Result<bool, Memory>
 where
     R::Started: Drop + Send + 'static,
@@ -210,19 +229,32 @@ where
     <R::Started as OpenProcess>::Stdout: Send + 'static,
     <R::Started as OpenProcess>::Stderr: Send + 'static,
 {
-    let alloc = rt.alloc();
-    let own = opener.open()?;
-    let gate = RestingGate::new(handle, opener.queue()?);
-    let mut posts = ChildPosts::new(handle, taker);
-    if let (false, Some(own)) = (row.program.is_empty(), own) {
-        read_own_input(handle, alloc, own, row.given.as_bytes())?;
-    }
-    let mut children = Children::new(handle, alloc, HostSystem::new(handle, 0), opener, DRAIN)?;
-    let is_so = is_right_in(rt, root, row, &mut posts, &mut children, &gate);
+    let system = HostSystem::new(handle, 0);
+    let mut children = Children::new(handle, rt.alloc(), system, opener, DRAIN)?;
+    let is_so = is_right_in(rt, root, row, posts, &mut children, gate);
     drop(children);
-    drop(posts);
-    drop(gate);
     Ok(is_so)
+}
+
+/// The same, with the posts of their channels and the gate that rests until one of them comes.
+fn is_right_with<R: Threads + Wait + Processes + Clock + Copy + Send + Sync + Drop + 'static>(
+    rt: &HostRuntime,
+    handle: R,
+    root: &str,
+    row: Row,
+    mut opener: Opener,
+    posts: &mut ChildPosts<R>,
+) -> Result<bool, Memory>
+where
+    R::Started: Drop + Send + 'static,
+    <R::Started as OpenProcess>::Stdin: Send + 'static,
+    <R::Started as OpenProcess>::Stdout: Send + 'static,
+    <R::Started as OpenProcess>::Stderr: Send + 'static,
+{
+    let gate = RestingGate::new(handle, queue_of(handle, rt.alloc(), row, &mut opener)?);
+    let is_so = is_right_over(rt, handle, root, row, opener, posts, &gate);
+    drop(gate);
+    is_so
 }
 
 /// Whether what comes of a row in a new directory is what it says.
@@ -246,7 +278,10 @@ where
     fill(rt, rt.alloc(), root.as_str(), instructions);
     let is_so = match share(rt.alloc(), 16) {
         Ok((opener, taker)) => {
-            is_right_with(rt, handle, root.as_str(), row, opener, taker).unwrap_or(false)
+            let mut posts = ChildPosts::new(handle, taker);
+            let is_so = is_right_with(rt, handle, root.as_str(), row, opener, &mut posts);
+            drop(posts);
+            is_so.unwrap_or(false)
         }
         Err(_) => false,
     };

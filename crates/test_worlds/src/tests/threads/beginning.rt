@@ -12,7 +12,6 @@ use std::alloc::Global;
 const NAMES: [&[u8]; 5] = [b"a", b"b", b"c", b"d", b"e"];
 
 /// A world, and its mails.
-#[derive(Drop)]
 pub struct Begun {
     /// The world.
     pub world: World<MemFs>,

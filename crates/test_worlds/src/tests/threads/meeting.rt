@@ -1,8 +1,7 @@
 // Six threads meet at the gate: each is held until all six have come, so that none of them waits for another one's end or turn.
 ghost use Rattle.std.specs.Prelude.{◌≤◌};
 
-use super::beginning::{Begun, world_with};
-use actor_runner::run_threads;
+use super::running::ended_by;
 use outside::Gate;
 use std::alloc::Global;
 use std::sync::Wait;
@@ -53,21 +52,17 @@ impl Gate for Meeting {
     }
 }
 
-/// Whether all six met, by so many threads.
+/// Whether all six met, by so many threads, and both mails ended.
 fn holds<R: Threads + Wait + Sync>(rt: &R, alloc: Global, threads: u64) -> bool
     requires { (1 ≤ threads) × (threads ≤ 16) }
 {
-    let Some(Begun { world, mails }) = world_with(alloc, 2) else {
-        return false;
-    };
     let meeting = Meeting {
         came: AtomicU64::new(0),
         late: AtomicU64::new(0),
     };
-    if run_threads(rt, alloc, world, &mails, threads, &meeting).is_err() {
-        return false;
-    }
-    meeting.came.load(Ordering::SeqCst) == ALL && meeting.late.load(Ordering::SeqCst) == 0
+    ended_by(rt, alloc, threads, 2, &meeting) == Some(2)
+        && meeting.came.load(Ordering::SeqCst) == ALL
+        && meeting.late.load(Ordering::SeqCst) == 0
 }
 
 #[test]

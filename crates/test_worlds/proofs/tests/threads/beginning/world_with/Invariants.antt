@@ -1,5 +1,5 @@
 use Rattle.mail_world.specs.LivingMails.{AreLivingMails}
-use Rattle.test_threads.proofs.tests.beginning.world_with.Given as goal
+use Rattle.test_worlds.proofs.tests.threads.beginning.world_with.Given as goal
 
 abbrev pub invariant-loop-at : goal.invariant-loop-at
 invariant-loop-at l = AreLivingMails l.world.events l.mails.items

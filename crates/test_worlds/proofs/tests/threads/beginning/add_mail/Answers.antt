@@ -1,5 +1,5 @@
-use Rattle.test_threads.proofs.Mails.{mail_put}
-use Rattle.test_threads.proofs.tests.beginning.add_mail.Goals as goal
+use Rattle.test_worlds.proofs.Mails.{mail_put}
+use Rattle.test_worlds.proofs.tests.threads.beginning.add_mail.Goals as goal
 
 pub returns-in-Ok-start_mail : goal.returns-in-Ok-start_mail
 returns-in-Ok-start_mail c =

@@ -1,3 +1,0 @@
-mod beginning;
-mod meeting;
-mod running;
