@@ -32,7 +32,7 @@ use Rattle.settle_law.specs.Rests.{BeginsTurn, IdleTurnsRest, PassRests}
 
 -- What comes before a search wasn't there.
 
-abbrev Leads : Row → Type 0
+abbrev pub Leads : Row → Type 0
 Leads row = is_search row ≡ true
 
 skip_taking : (c : Channel) (ready : Ready) (row : Row) → Leads (or_else (taking c ready) row) → (holds (slice_get ready.links (link_of c)) ≡ false) × Leads row

@@ -8,7 +8,7 @@ use Rattle.queue_states.specs.States.{state_by, is_there}
 use Rattle.queue_states.proofs.MessageFiles.{is_part}
 use Rattle.settle_law.specs.Queued.{NoneIsQueued}
 
-queued : (mess intd todo info local remote bounce : Bool) → state_by mess intd todo info local remote bounce ≡ S4 → todo ≡ true
+pub queued : (mess intd todo info local remote bounce : Bool) → state_by mess intd todo info local remote bounce ≡ S4 → todo ≡ true
 queued false false false false false false false e = absurd (cc)
 queued true false false false false false false e = absurd (cc)
 queued true true false false false false false e = absurd (cc)

@@ -3,13 +3,14 @@ use Rattle.std.proofs.Common.{◌≡◌, ℕ, ◌-◌, List, [], ◌∷◌, Bool
 use Rattle.std.specs.Prelude.{is_some, nat_lt}
 use Rattle.std.proofs.lemmas.Bool.{and_parts}
 use Rattle.call_fs.specs.declared.past.GotData.{GotData}
+use Rattle.call_fs.specs.declared.past.Own.{Own}
 use Rattle.call_fs.specs.declared.program.Ready.{Ready}
 use Rattle.send_core.specs.declared.desk.Desk.{Desk}
 use Rattle.send_core.specs.declared.row.Point.TheVariants as point
 use Rattle.send_core.specs.declared.row.Row.{Row}
 use Rattle.send_core.specs.declared.row.Row.TheVariants as at
 use Rattle.send_core.specs.Desk.{next_idle, past_todo, stands_at, sweep_due, turn_counted, turn_over}
-use Rattle.send_core.specs.Stands.{is_between, is_search}
+use Rattle.send_core.specs.Stands.{ends_idle, is_between, is_search}
 use Rattle.send_core.specs.Table.{act, moved, moved_by, row_now}
 use Rattle.send_core.specs.Turn.{todo_named, todo_none}
 use Rattle.send_jobs.specs.declared.slots.Slots.{Slots}
@@ -26,10 +27,10 @@ use Rattle.send_parts.specs.Rows.{is_again}
 use Rattle.settle_law.specs.Rests.{IsAtRest, PassRests, RestsStay}
 use Rattle.settle_law.proofs.IdleTurns.{found_not, idle}
 
-record Keeps (d e : Desk) : Type 0 where
-  slots : e.slots ≡ d.slots
-  messages : e.book.messages ≡ d.book.messages
-  swept : e.swept ≡ d.swept
+pub record Keeps (d e : Desk) : Type 0 where
+  pub slots : e.slots ≡ d.slots
+  pub messages : e.book.messages ≡ d.book.messages
+  pub swept : e.swept ≡ d.swept
 
 counted_keeps : (d : Desk) (turns : Option ℕ) → Keeps d (turn_counted turns (record d { busy = false }))
 counted_keeps d None = record { slots = refl; messages = refl; swept = refl }
@@ -82,10 +83,13 @@ rest_moves d e now ready k r = record {
   swept = ap (λ (s : Option ℕ). sweep_due now s) k.swept ∙ r.swept;
 }
 
-pub rests_stay : RestsStay
-rests_stay d event begins ends =
+pub ends_keep : (d : Desk) (event : Own) → ends_idle d event ≡ true → Keeps d (moved d event)
+ends_keep d event ends =
     let row = row_now d event.read event.ready in
     let parts = and_parts (is_search row) (not d.busy && is_between (moved d event).row) ends in
     let between = and_parts (not d.busy) (is_between (moved d event).row) parts.1 in
     let keeps = row_keeps row d event.read event.came parts.0 between.1 in
-    rest_moves d (moved d event) event.read event.ready (record { slots = keeps.slots; messages = keeps.messages; swept = keeps.swept }) (idle d event begins ends).rests
+    record { slots = keeps.slots; messages = keeps.messages; swept = keeps.swept }
+
+pub rests_stay : RestsStay
+rests_stay d event begins ends = rest_moves d (moved d event) event.read event.ready (ends_keep d event ends) (idle d event begins ends).rests

@@ -37,6 +37,10 @@ next_lives s from at (b ∷ later) a place e = by (is_next s from at b later) re
         subst (λ c. lives_in (s.actors c) ≡ true) same (and_parts (not (list_any (bytes_eq b) later)) (lives_in (s.actors b)) parts.1).1
     by false t eq rest = rest eq
 
+-- a refusal prints something
+pub not_refused : (why : Refusal) (name : List ℕ) → [] ≡ refusal_line why name → ⊥
+not_refused why name e = absurd (cc)
+
 -- What a run prints of an actor that lives: nothing, or that it made the most steps.
 
 stop_quiet : (steps : ℕ) (why : Refusal) (a : List ℕ) → why ≡ NotWaiting → stop_text steps why a ≡ []

@@ -21,9 +21,11 @@ use Rattle.send_known.specs.declared.known.Known.{Known}
 use Rattle.send_known.specs.Known.{first_idle, is_idle}
 use Rattle.send_runs.specs.Rising.{IsLeastIdle}
 use Rattle.send_runs.proofs.Rising.{known_numbers_rise}
+use Rattle.retry_law.specs.Retries.{has_file}
+use Rattle.retry_law.specs.Tried.{tried_in}
 use Rattle.mail_world.specs.History.{State}
-use Rattle.settle_law.specs.Settled.{HasUndone, IsTriedLater, WaitsForRetry, tried_in}
-use Rattle.settle_law.specs.Suffices.{HasRest, IsKnown, RestsSuffice, desk_of, has_file}
+use Rattle.settle_law.specs.Settled.{HasUndone, IsTriedLater, WaitsForRetry}
+use Rattle.settle_law.specs.Suffices.{HasRest, IsKnown, RestsSuffice, desk_of}
 use Rattle.settle_law.proofs.FreeChannels.{rests_free}
 
 -- a message that isn't to be finished, and whose finish wasn't put off, has a channel file

@@ -3,6 +3,7 @@ use Rattle.std.specs.Prelude.{◌≡◌, ◌≢◌, ℕ, List, [], ◌∷◌, �
 use Rattle.address_rules.specs.declared.controls.Controls.{Controls}
 use Rattle.call_fs.specs.Disk.{Disk}
 use Rattle.call_fs.specs.Plan.{Plan}
+use Rattle.call_fs.specs.declared.program.Ready.{Ready}
 use Rattle.mail_world.specs.Generations.{CanNot, lowest_unreported}
 use Rattle.mail_world.specs.History.{Actor, State, next_of}
 use Rattle.mail_world.specs.History.Life.{Alive}
@@ -12,6 +13,7 @@ use Rattle.scenario.specs.Deeds.{Deed, after, history_of}
 use Rattle.scenario.specs.Turns.{IsSettled, Round, events_in, is_idle}
 use Rattle.settle_law.specs.Ends.{EndsIdle}
 use Rattle.settle_law.specs.Settled.{AllGone, Settled}
+use Rattle.settle_law.specs.Suffices.{HasRest}
 use Rattle.settle_law.specs.Well.{AllSucceed, GoesWell}
 
 -- What is promised
@@ -45,10 +47,10 @@ pub record IsRest (controls : Controls) (d : Disk) (deed : Deed) (before : List 
   pub idle : EndsIdle d deed before
   pub others : OthersWait (after d (deed ∷ before))
 
--- After an idle round nobody else has anything to do.
+-- After an idle round of `settle` nobody else has anything to do, whatever failed before.
 abbrev pub IdleRoundsRest : Type 0
-IdleRoundsRest = (controls : Controls) (d : Disk) (h : List Deed) (letter : Letter) (round : Round) (before : List Round)
-    → HasSettled controls d h letter (round ∷ before) → is_idle d (events_in letter before ++ h) letter round ≡ true
+IdleRoundsRest = (d : Disk) (h : List Deed) (plan : Plan) (letter : Letter) (round : Round) (before : List Round)
+    → IsSettled d h plan letter (round ∷ before) [] → is_idle d (events_in letter before ++ h) letter round ≡ true
     → OthersWait (after d (events_in letter (round ∷ before) ++ h))
 
 -- Such a rest is settled; and if each report was of a success no message is left.
@@ -59,7 +61,13 @@ abbrev pub RestsAreEmpty : Type 0
 RestsAreEmpty = (controls : Controls) (d : Disk) (deed : Deed) (before : List Deed) → IsRest controls d deed before → AllSucceed (history_of (deed ∷ before))
     → AllGone (after d (deed ∷ before))
 
--- These make up what is promised.
+-- At each such rest the facts hold of which a settled state comes, by what the sender keeps then.
+abbrev pub RestsHold : Type 0
+RestsHold = (controls : Controls) (d : Disk) (deed : Deed) (before : List Deed) → IsRest controls d deed before → (x : Actor)
+    → (after d (deed ∷ before)).actors (codes "sender") ≡ Some x → (ready : Ready) × HasRest (after d (deed ∷ before)) x.past ready
+
+-- What is promised comes of these, and the first of the last.
 pub record RestsEnd : Type 0 where
-  pub settled : IdleRoundsRest → RestsAreSettled → SettlesEnd
-  pub gone : IdleRoundsRest → RestsAreEmpty → SuccessesEnd
+  pub hold : RestsHold → RestsAreSettled
+  pub settled : RestsAreSettled → SettlesEnd
+  pub gone : RestsAreEmpty → SuccessesEnd

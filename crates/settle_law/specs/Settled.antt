@@ -1,5 +1,5 @@
 -- When a queue has come to rest (qmail-send(8); INTERNALS, sections 2 and 6).
-use Rattle.std.specs.Prelude.{◌≡◌, ◌⊎◌, ℕ, ◌<◌, List, [], ◌∷◌, false, Option, Some, None, Contains, codes}
+use Rattle.std.specs.Prelude.{◌≡◌, ◌⊎◌, ℕ, ◌<◌, List, [], ◌∷◌, false, Some, Contains, codes}
 use Rattle.call_fs.specs.Disk.{Disk}
 use Rattle.call_fs.specs.declared.past.Own.{Own}
 use Rattle.envelope_records.specs.declared.channel.Record.{Record}
@@ -13,26 +13,9 @@ use Rattle.retry_schedule.specs.Retry.{next_retry}
 use Rattle.send_jobs.specs.declared.channels.Channel.{Channel}
 use Rattle.send_jobs.specs.Channels.{skip_of}
 use Rattle.send_parts.specs.Files.{records_of}
-use Rattle.send_runs.specs.DueMoments.{Shift, shift}
-use Rattle.send_runs.specs.DueMoments.Shift.{Learns}
-use Rattle.send_runs.specs.Dues.{pass_in}
+use Rattle.retry_law.specs.Tried.{tried_in}
 use Rattle.mail_world.specs.History.{Actor, State}
 use Rattle.mail_world.specs.History.Life.{Alive}
-
--- Passes
-
--- When the last pass over a message's channel file began that is over: before an event it went on, and after it goes on no more. None once the
--- message becomes known, since its number may have been another's. A pass that finds no `T` never goes on, and isn't told here: it leaves none.
-abbrev pub tried_by : Shift → Option ℕ → Option ℕ → Option ℕ → Option ℕ
-tried_by (Learns moment) before after tried = None
-tried_by other (Some begun) None tried = Some begun
-tried_by other before after tried = tried
-
-abbrev pub tried_in : Channel → ℕ → List Own → Option ℕ
-tried_in c n [] = None
-tried_in c n (event ∷ past) = tried_by (shift c n past event) (pass_in c n past) (pass_in c n (event ∷ past)) (tried_in c n past)
-
--- Settled
 
 -- a record of the message's channel file reads `T`
 pub record HasUndone (d : Disk) (c : Channel) (n : ℕ) : Type 0 where

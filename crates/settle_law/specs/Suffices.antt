@@ -1,5 +1,5 @@
 -- Facts of which a settled state comes: where all of them hold of a state, and of what the sender keeps of it by its past, it is settled.
-use Rattle.std.specs.Prelude.{◌≡◌, ◌≢◌, ◌<◌, ◌≤◌, ℕ, List, length, Bool, false, true, Some, None, Contains}
+use Rattle.std.specs.Prelude.{◌≡◌, ◌≢◌, ◌<◌, ◌≤◌, ℕ, List, length, false, true, Some, None, Contains}
 use Rattle.call_fs.specs.declared.past.Own.{Own}
 use Rattle.call_fs.specs.declared.program.Ready.{Ready}
 use Rattle.queue_law.specs.Routes.{lane_part}
@@ -12,15 +12,16 @@ use Rattle.retry_schedule.specs.Retry.{next_retry}
 use Rattle.send_core.specs.declared.desk.Desk.{Desk}
 use Rattle.send_core.specs.Table.{place_after}
 use Rattle.send_jobs.specs.declared.channels.Channel.{Channel}
-use Rattle.send_jobs.specs.declared.channels.Channel.TheVariants.{Local, Remote}
 use Rattle.send_jobs.specs.Channels.{skip_of}
 use Rattle.send_jobs.specs.Sending.{lane}
 use Rattle.send_jobs.specs.Slots.{attempt_in}
 use Rattle.send_jobs.specs.Tries.{due_on}
 use Rattle.send_known.specs.declared.known.Known.{Known}
+use Rattle.retry_law.specs.Retries.{has_file}
+use Rattle.retry_law.specs.Tried.{tried_in}
 use Rattle.mail_world.specs.History.{State}
 use Rattle.settle_law.specs.Rests.{IsAtRest}
-use Rattle.settle_law.specs.Settled.{HasUndone, SettledBy, tried_in}
+use Rattle.settle_law.specs.Settled.{HasUndone, SettledBy}
 
 -- what a sender that is never told to end keeps after its past
 abbrev pub desk_of : List Own → Desk
@@ -28,10 +29,6 @@ desk_of past = place_after None past
 
 abbrev pub IsKnown : List Own → Known → Type 0
 IsKnown past k = Contains (desk_of past).book.messages.known k
-
-abbrev pub has_file : Channel → Known → Bool
-has_file Local k = k.local
-has_file Remote k = k.remote
 
 -- A known message is due on a channel at the next retry after its last pass there, or at once if there was none.
 pub record IsDueSo (now : ℕ) (past : List Own) (c : Channel) (k : Known) : Type 0 where

@@ -6,25 +6,36 @@
 //! - `settle` prints nothing, `refused steps ACTOR`, or `refused rounds settle`, this just if it made as many rounds as it may. If it prints
 //!   nothing its last round was idle, and the newest event is the search of `todo` that ended an idle turn of the sender: `settle_stops`, by
 //!   `StopsSo` (`specs/Ends.antt`).
+//! - After an idle round nobody but the sender has anything to do, whatever failed before: each other living actor waits, and each remote program
+//!   has its report: `idle_rounds_rest`, by `OthersWait` (`specs/Promised.antt`).
 //! - Over a queue in which nothing fails the state is to be settled then, and if each report was of a success no message is to be left:
-//!   `SettlesEnd` and `SuccessesEnd` (`specs/Promised.antt`). **Neither is proved.** They come of what is to hold after an idle round: `rests_end`.
+//!   `SettlesEnd` and `SuccessesEnd`. **Neither is proved.** They come of `RestsAreSettled` and `RestsAreEmpty`, and the first of
+//!   these of `RestsHold`: `rests_end`.
 //! - A state is settled if each message is gone, or is preprocessed and waits for its next retry on each channel on which a record of it reads
 //!   `T`, and on one at least: `Settled` (`specs/Settled.antt`).
 //! - It is if certain facts hold of it and of what the sender keeps: `rests_suffice`, by `HasRest` (`specs/Suffices.antt`). **That these facts
-//!   hold at the end of an idle round is not proved**, but for what the following laws say of some.
+//!   hold at the end of an idle round (`RestsHold`) is not proved**, but for what the following laws say of some.
 //! - At an event that is an idle turn by itself there is nothing for the sender to take, to mark, to give, to finish or to sweep, and `todo` gave no
 //!   name: `idle_turns_rest`. So it is after that event: `rests_stay`. Then no pass is open on a channel that has a slot and has nothing in flight,
 //!   and all that is due there is due later: `free_channels_rest` (`specs/Rests.antt`).
+//! - Before the search that ends an idle turn the sender stands where a turn begins, or its first search goes on: from the start, since a number
+//!   was left before, or after a name that is no number: `searches_begin` (`specs/Begins.antt`).
 //! - When a sender begins a turn a channel has just as many slots as its spawner and its control file allow, by the sender's past:
-//!   `slots_are_allowed` (`specs/Slots.antt`).
+//!   `slots_are_allowed`. Where nothing fails it has one: `rests_have_slots` (`specs/Slots.antt`).
+//! - After an event that is an idle turn by itself, with a slot on each channel and nothing in flight, each known message is due on each channel of
+//!   which it has a file: at the next retry after its last pass there, or at once. This is said if nothing failed for it there: `rests_are_due`
+//!   (`specs/Dues.antt`).
 //! - A spawner that waits is between two steps, with no request that it would take, and was told of no program of its own that has ended:
 //!   `spawners_wait` (`specs/Waiting.antt`).
-//! - If a search of `todo` from the start gives no name, no message waits to be preprocessed: `none_is_queued` (`specs/Queued.antt`).
+//! - If a search of `todo` from the start gives no name, no message waits to be preprocessed: `none_is_queued`. So none does after a search that
+//!   ended an idle turn, if the sender stood where a turn begins and nothing failed: `rests_unqueued` (`specs/Queued.antt`).
+//! - Where nothing fails each message has a number that a program can name: `numbers_are_small` (`specs/Numbers.antt`).
 #![tactic(auto)]
 
 mod laws;
 
 pub use laws::{
-    free_channels_rest, idle_turns_rest, none_is_queued, rests_end, rests_stay, rests_suffice,
-    settle_stops, slots_are_allowed, spawners_wait,
+    free_channels_rest, idle_rounds_rest, idle_turns_rest, none_is_queued, numbers_are_small,
+    rests_are_due, rests_end, rests_have_slots, rests_stay, rests_suffice, rests_unqueued,
+    searches_begin, settle_stops, slots_are_allowed, spawners_wait,
 };

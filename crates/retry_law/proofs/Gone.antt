@@ -1,0 +1,113 @@
+-- A known message that doesn't have its channel file has none.
+use Rattle.std.proofs.Common.{◌≡◌, ◌⊎◌, ℕ, List, [], ◌∷◌, bytes_eq, Bool, true, false, not, if◌then◌else◌, Option, Some, refl, sym, ap, ◌∙◌, inl, inr, ⊎_elim}
+use Rattle.std.specs.Prelude.{◌||◌, ◌&&◌, ◌==◌}
+use Rattle.call_fs.specs.declared.calls.Answer.TheVariants as answer
+use Rattle.call_fs.specs.declared.calls.Answer.{Answer}
+use Rattle.call_fs.specs.declared.calls.CallData.TheVariants as call
+use Rattle.call_fs.specs.declared.calls.FsError.TheVariants as why
+use Rattle.call_fs.specs.declared.past.GotData.TheVariants as came
+use Rattle.call_fs.specs.declared.past.GotData.{GotData}
+use Rattle.call_fs.specs.declared.past.NeedData.TheVariants as needs
+use Rattle.call_fs.specs.declared.past.NeedData.{NeedData}
+use Rattle.call_fs.specs.declared.past.Own.{Own}
+use Rattle.call_fs.specs.declared.program.Port.TheVariants as port
+use Rattle.queue_paths.specs.Names.Name.{Of}
+use Rattle.queue_paths.specs.Names.Part.{Remote as RemoteFile}
+use Rattle.queue_paths.specs.Names.{Name, parse}
+use Rattle.retry_law.specs.Gone.{MissingAreGone, is_made, is_there, shows}
+use Rattle.send_core.specs.Births.{births}
+use Rattle.send_jobs.specs.declared.channels.Channel.{Channel}
+use Rattle.send_parts.specs.Steps.{remove_text}
+use Rattle.send_runs.specs.DueMoments.{has_unlinked, is_file}
+use Rattle.send_runs.specs.Files.{drops, gone, has_by, has_in, is_done, looked, made, there_by, there_in}
+use Rattle.send_runs.specs.Knowing.{known_by, known_in, looked_for}
+use Rattle.todo_pass.specs.Table.{command_text}
+
+-- What is known was known, or is known by the event
+
+or_either : (b was : Bool) → (b || was) ≡ true → ((b || false) ≡ true) ⊎ (was ≡ true)
+or_either true was e = inl refl
+or_either false was e = inr e
+
+module _ (n : ℕ) where
+  looked_either : (x : Option Name) (told : Answer) (was : Bool) → looked_for x told n was ≡ true → (looked_for x told n false ≡ true) ⊎ (was ≡ true)
+  looked_either (Some (Of RemoteFile m)) (answer.Stat stat) was e = or_either (m == n) was e
+  looked_either (Some (Of RemoteFile m)) (answer.Refused why.NotThere) was e = or_either (m == n) was e
+  looked_either x told was e = inr e
+
+  answered_either : (r k was : Bool) → (if r then false else (if k then true else was)) ≡ true → ((if r then false else (if k then true else false)) ≡ true) ⊎ (was ≡ true)
+  answered_either true k was e = absurd (cc)
+  answered_either false true was e = inl refl
+  answered_either false false was e = inr e
+
+  known_either : (due : NeedData) (got : GotData) (command : List ℕ) (was : Bool) → known_by due got command n was ≡ true → (known_by due got command n false ≡ true) ⊎ (was ≡ true)
+  known_either (needs.File (call.Stat name)) (came.Answered told) command was e = looked_either (parse name) told.answer was e
+  known_either (needs.Take port.Clean) (came.Took bytes) command was e =
+      answered_either (bytes_eq command (remove_text n)) (bytes_eq command (command_text n) && bytes_eq bytes (43 ∷ [])) was e
+  known_either due got command was e = inr e
+
+-- The file
+
+dropped_gone : (own is : Bool) (told : Answer) (was : Bool) → ((own && is) && is_done told) ≡ true → (if is then gone told was else was) ≡ false
+dropped_gone true true answer.Done was e = refl
+dropped_gone true true told was e = absurd (cc)
+dropped_gone true false told was e = absurd (cc)
+dropped_gone false is told was e = absurd (cc)
+
+looked_still : (is : Bool) (told : Answer) → (is && is_there told) ≡ false → (if is then looked told false else false) ≡ false
+looked_still true (answer.Stat stat) e = absurd (cc)
+looked_still true (answer.Refused why.NotThere) e = refl
+looked_still true told e = refl
+looked_still false told e = refl
+
+made_still : (is : Bool) (told : Answer) → (is && is_made told) ≡ false → (if is then made told false else false) ≡ false
+made_still true (answer.Created fd number) e = absurd (cc)
+made_still true told e = refl
+made_still false told e = refl
+
+gone_still : (is : Bool) (told : Answer) → (if is then gone told false else false) ≡ false
+gone_still true answer.Done = refl
+gone_still true (answer.Refused why.NotThere) = refl
+gone_still true told = refl
+gone_still false told = refl
+
+module _ (c : Channel) (n : ℕ) where
+  -- one that is dropped is gone
+  drop_gone : (clears : Bool) (due : NeedData) (got : GotData) (was : Bool) → drops c n clears due got ≡ true → there_by c n due got was ≡ false
+  drop_gone clears (needs.File (call.Unlink name)) (came.Answered told) was e = dropped_gone (not clears) (is_file c n (parse name)) told.answer was e
+  drop_gone clears due got was e = absurd (cc)
+
+  -- one that is gone stays so, if it isn't shown
+  still_gone : (due : NeedData) (got : GotData) → shows c n due got ≡ false → there_by c n due got false ≡ false
+  still_gone (needs.File (call.Stat name)) (came.Answered told) e = looked_still (is_file c n (parse name)) told.answer e
+  still_gone (needs.File (call.CreateExcl name)) (came.Answered told) e = made_still (is_file c n (parse name)) told.answer e
+  still_gone (needs.File (call.Unlink name)) (came.Answered told) e = gone_still (is_file c n (parse name)) told.answer
+  still_gone due got e = refl
+
+  module _ (event : Own) (before : List Own) (known : known_in (event ∷ before) n ≡ true) (first : shows c n event.due event.came ≡ true → known_in before n ≡ false)
+      (held : known_in before n ≡ true → has_in c n before ≡ false → there_in c n before ≡ false) where
+    -- it was known, and had none
+    goes_on : known_in before n ≡ true → has_in c n before ≡ false → there_in c n (event ∷ before) ≡ false
+    goes_on was none = by (shows c n event.due event.came) refl where
+      by : (b : Bool) → shows c n event.due event.came ≡ b → there_in c n (event ∷ before) ≡ false
+      by true e = absurd (cc (sym was ∙ first e))
+      by false e = ap (there_by c n event.due event.came) (held was none) ∙ still_gone event.due event.came e
+
+    was_known : known_by event.due event.came (births before).command n false ≡ false → known_in before n ≡ true
+    was_known unknown = ⊎_elim
+        (λ (now : known_by event.due event.came (births before).command n false ≡ true). absurd (cc (sym unknown ∙ now)))
+        (λ (was : known_in before n ≡ true). was)
+        (known_either n event.due event.came (births before).command (known_in before n) known)
+
+    by_event : (k d : Bool) → known_by event.due event.came (births before).command n false ≡ k → drops c n (has_unlinked before) event.due event.came ≡ d
+        → has_by k d (there_in c n (event ∷ before)) (has_in c n before) ≡ false → there_in c n (event ∷ before) ≡ false
+    by_event true d k_is d_is none = none
+    by_event false true k_is d_is none = drop_gone (has_unlinked before) event.due event.came (there_in c n before) d_is
+    by_event false false k_is d_is none = goes_on (was_known k_is) none
+
+    step : has_in c n (event ∷ before) ≡ false → there_in c n (event ∷ before) ≡ false
+    step none = by_event (known_by event.due event.came (births before).command n false) (drops c n (has_unlinked before) event.due event.came) refl refl none
+
+pub missing_are_gone : MissingAreGone
+missing_are_gone c n [] first known none = absurd (cc)
+missing_are_gone c n (event ∷ before) first known none = step c n event before known first.1 (missing_are_gone c n before first.0) none

@@ -1,0 +1,38 @@
+-- Which channel files are gone, by the sender's past (qmail-send(8)).
+use Rattle.std.specs.Prelude.{◌≡◌, ℕ, List, [], ◌∷◌, Bool, true, false, ◌&&◌}
+use Rattle.call_fs.specs.declared.calls.Answer.TheVariants as answer
+use Rattle.call_fs.specs.declared.calls.Answer.{Answer}
+use Rattle.call_fs.specs.declared.calls.CallData.TheVariants as call
+use Rattle.call_fs.specs.declared.past.GotData.TheVariants as came
+use Rattle.call_fs.specs.declared.past.GotData.{GotData}
+use Rattle.call_fs.specs.declared.past.NeedData.TheVariants as needs
+use Rattle.call_fs.specs.declared.past.NeedData.{NeedData}
+use Rattle.call_fs.specs.declared.past.Own.{Own}
+use Rattle.queue_paths.specs.Names.{parse}
+use Rattle.send_jobs.specs.declared.channels.Channel.{Channel}
+use Rattle.send_runs.specs.DueMoments.{is_file}
+use Rattle.send_runs.specs.Files.{has_in, there_in}
+use Rattle.send_runs.specs.Knowing.{known_in}
+
+abbrev pub is_there : Answer → Bool
+is_there (answer.Stat stat) = true
+is_there told = false
+
+abbrev pub is_made : Answer → Bool
+is_made (answer.Created fd number) = true
+is_made told = false
+
+-- an event finds the channel file of a message, or makes it
+abbrev pub shows : Channel → ℕ → NeedData → GotData → Bool
+shows c n (needs.File (call.Stat name)) (came.Answered told) = is_file c n (parse name) && is_there told.answer
+shows c n (needs.File (call.CreateExcl name)) (came.Answered told) = is_file c n (parse name) && is_made told.answer
+shows c n due got = false
+
+-- each did so before the message was known
+abbrev pub AreShownFirst : Channel → ℕ → List Own → Type 0
+AreShownFirst c n [] = Unit {0}
+AreShownFirst c n (event ∷ past) = AreShownFirst c n past × (shows c n event.due event.came ≡ true → known_in past n ≡ false)
+
+-- Then a known message that doesn't have its file has none: as the past told last, that is gone.
+abbrev pub MissingAreGone : Type 0
+MissingAreGone = (c : Channel) (n : ℕ) (past : List Own) → AreShownFirst c n past → known_in past n ≡ true → has_in c n past ≡ false → there_in c n past ≡ false

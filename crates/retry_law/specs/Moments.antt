@@ -1,0 +1,27 @@
+-- Moments of a past in which a clock tells each moment and each stat tells one that a clock may tell (qmail-send(8)).
+use Rattle.std.specs.Prelude.{◌≡◌, ℕ, List, Some, All}
+use Rattle.call_fs.specs.Columns.{IsMomentIn}
+use Rattle.call_fs.specs.declared.past.GotData.TheVariants as came
+use Rattle.call_fs.specs.declared.past.GotData.{GotData}
+use Rattle.call_fs.specs.declared.past.Own.{Own}
+use Rattle.mail_bytes.specs.Moments.{IsMoment}
+use Rattle.retry_law.specs.Tried.{tried_in}
+use Rattle.send_core.specs.Births.{births}
+use Rattle.send_jobs.specs.Tries.{moment_of}
+use Rattle.send_jobs.specs.declared.channels.Channel.{Channel}
+use Rattle.send_runs.specs.Dues.{pass_in}
+
+abbrev pub IsMomentOf : GotData → Type 0
+IsMomentOf (came.Answered told) = IsMomentIn told.answer
+IsMomentOf got = Unit {0}
+
+pub record TellsMoments (event : Own) : Type 0 where
+  pub read : IsMoment event.read
+  pub came : IsMomentOf event.came
+
+-- Births, and the moments at which passes began, are such moments; and each of these counts as itself.
+pub record MomentsAreTold : Type 0 where
+  pub births : (past : List Own) → All TellsMoments past → (n : ℕ) → IsMoment ((births past).of n)
+  pub passes : (past : List Own) → All TellsMoments past → (c : Channel) (n begun : ℕ) → pass_in c n past ≡ Some begun → IsMoment begun
+  pub tries : (past : List Own) → All TellsMoments past → (c : Channel) (n begun : ℕ) → tried_in c n past ≡ Some begun → IsMoment begun
+  pub same : (moment : ℕ) → IsMoment moment → moment_of moment ≡ moment

@@ -1,0 +1,54 @@
+// When the sender tries a message again, as laws: contracts of functions that do nothing.
+ghost use Rattle.std.specs.Prelude.{◌≡◌, None, Some, codes, true, false};
+ghost use Rattle.call_fs.specs.declared.calls.CallData.TheVariants as call;
+ghost use Rattle.call_fs.specs.declared.past.NeedData.TheVariants as needs;
+ghost use Rattle.send_jobs.specs.declared.channels.Channel.TheVariants.{Local, Remote};
+ghost use Rattle.send_runs.specs.Worked.{absent, stated};
+ghost use Rattle.send_runs.specs.WorkedPasts.{deferred_for};
+ghost use Rattle.retry_law.specs.Gone.{MissingAreGone, shows};
+ghost use Rattle.retry_law.specs.Moments.{MomentsAreTold};
+ghost use Rattle.retry_law.specs.Passes.{ClearChannelsRest, EmptyPassesUnlink, PassesAreJobs};
+ghost use Rattle.retry_law.specs.Retries.{KnownAreDueAgain, TriedAreRetried};
+ghost use Rattle.retry_law.specs.Tried.{SearchesKeepTries, tried_in};
+
+/// Births, and the moments at which passes began, are moments that a clock may tell.
+pub fn moments_are_told()
+    ensures { MomentsAreTold }
+{}
+
+/// A pass goes on just if the sender has a job on it, and none does on a channel where it has nothing.
+pub fn passes_are_jobs()
+    ensures jobs { PassesAreJobs }
+    ensures clear { ClearChannelsRest }
+    ensures empty { EmptyPassesUnlink }
+{}
+
+/// When a message is due that was tried, and when one is that wasn't, by the past alone.
+pub fn tried_are_retried()
+    ensures { TriedAreRetried }
+{}
+
+/// So it is of each known message, by what the sender keeps.
+pub fn known_are_due_again()
+    ensures { KnownAreDueAgain }
+{}
+
+/// A known message that doesn't have its channel file has none, if no event found or made that while the message was known.
+pub fn missing_are_gone()
+    ensures { MissingAreGone }
+{}
+
+/// A search ends no pass, and tells of none.
+pub fn searches_keep_tries()
+    ensures { SearchesKeepTries }
+{}
+
+/// When a message was tried of which one of two recipients is deferred: not yet while its first pass goes on; then at 0, when that began,
+/// also while the second one goes on. And which files are shown by looks.
+pub fn worked_tries()
+    ensures started { tried_in Remote 1 (deferred_for 82) ≡ None }
+    ensures over { tried_in Remote 1 (deferred_for 90) ≡ Some 0 }
+    ensures second { tried_in Remote 1 (deferred_for 96) ≡ Some 0 }
+    ensures shown { shows Local 7 (needs.File (call.Stat (codes "local/7/7"))) (stated 5 9 0) ≡ true }
+    ensures missing { shows Remote 7 (needs.File (call.Stat (codes "remote/7/7"))) absent ≡ false }
+{}

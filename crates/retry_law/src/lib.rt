@@ -1,0 +1,27 @@
+//! When the sender, qmail-send(8), tries a message again, by its past alone: laws of its runs, each the contract of a function that does
+//! nothing. What passes and moments are is said in send_runs.
+//!
+//! # What is claimed
+//!
+//! - At each event of a run a pass of a message goes on by the past just if the sender has a job on it and doesn't unlink its file next. It
+//!   began when the job did, and the job isn't over. So none goes on on a channel where nothing is to be given, in flight or to be marked.
+//!   And if a pass begins with nothing to do its file is unlinked next: `passes_are_jobs` (`specs/Passes.antt`).
+//! - When the last pass that is over began is told by the past: `tried_in` (`specs/Tried.antt`). Of a message that has its channel file, when
+//!   no pass of it goes on: if it was tried it is due at the next retry after that pass, and else at a moment that has come. This is said of
+//!   pasts in which nothing failed for the message and no pass of it began while an attempt at it was in flight (`ArePlain`), and if its file
+//!   isn't unlinked next: `tried_are_retried`. So it is of each known message on a clear channel, by what the sender keeps:
+//!   `known_are_due_again` (both in `specs/Retries.antt`). A search changes nothing of it: `searches_keep_tries`.
+//! - If the clock and each stat told moments that a clock may tell, births and the moments at which passes began are such moments, and each
+//!   counts as itself: `moments_are_told` (`specs/Moments.antt`).
+//! - A known message that doesn't have its channel file has none, as the past told last, if that wasn't found or made while the message was
+//!   known: `missing_are_gone` (`specs/Gone.antt`). Rows of both: `worked_tries`.
+//!
+//! That a past is as these laws ask is not proved here: it takes the disk and the other programs.
+#![tactic(auto)]
+
+mod laws;
+
+pub use laws::{
+    known_are_due_again, missing_are_gone, moments_are_told, passes_are_jobs, searches_keep_tries,
+    tried_are_retried, worked_tries,
+};
