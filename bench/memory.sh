@@ -1,6 +1,6 @@
 #!/usr/bin/env bash
 # bench/memory.sh [STEP [PROGRAM..]]: refuses memory to each program: its first growth, in the next run its second one, and so on,
-# until a run asks for no more. With STEP each STEP-th one alone. Prints for each program how many growths were refused, and how
+# until three runs ask for no more. With STEP each STEP-th one alone. Prints for each program how many growths were refused, and how
 # often each exit status came with what is left then. The programs: queue, clean, audit, local, forward, lspawn, rspawn, send,
 # play, make; all of them if none is named. Exit status 1 if a run crashes or never ends, or leaves something that a program that
 # is out of memory may not leave. A call that can't answer that it is out of memory counts as failed, so a program may end by that
@@ -133,15 +133,14 @@ refuse() { # N WORD..: runs the program, whose growth N is refused. There is a f
 
 each() { # NAME LAST LIKE..: refuses each growth of the program of this name; a run without must be told as LAST, the others like LIKE:
   # some like the first one, those after them like the second one, and so on
-  local n=1 status like all=
+  local n=1 whole=0 status like all=
   for like in "${@:3}"; do all="$all(status ($like);)*"; done
   : > told
-  while :; do
+  while [ "$whole" -lt 3 ]; do
     "fresh_$1"
     status=0
     "run_$1" "$n" > out 2> log || status=$?
-    [ -e refused ] || break
-    echo "status $status: $("left_$1" "$status")" >> told
+    if [ -e refused ]; then echo "status $status: $("left_$1" "$status")" >> told; else whole=$((whole + 1)); fi
     n=$((n + step))
   done
   echo "$1: $(wc -l < told) growths refused"
@@ -250,7 +249,7 @@ left_make() { echo "$(begins out make.whole)$(cmp -s out make.whole && echo ", w
 
 for name in $programs; do
   case $name in
-    queue) each queue '0: pid 0 S4 ' '51: pid 0 ' '51: pid 1 - pid 0 ' '63: pid 1 - pid 0 ' '51: pid 0 ' '51: pid 0 S3 - pid 0 ' '0: pid 0 S4 ' ;;
+    queue) each queue '0: pid 0 S4 ' '51: pid 0 |0: pid 0 S4 ' '51: pid 1 - pid 0 ' '63: pid 1 - pid 0 ' '51: pid 0 ' '51: pid 0 S3 - pid 0 ' ;;
     clean) each clean '0: + pid 0 ' '51:  pid 0 S3 |0: (\+|! pid 0 S[23] -) pid 0 ' ;;
     audit) each audit '0: begun pid 0 S4 ' '(51|54|0): begun pid 0 S4 ' ;;
     local) each local '0: 1 whole, 0 torn, 0 in tmp, forwarded 0' \
