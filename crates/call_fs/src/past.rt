@@ -1,7 +1,7 @@
 // What a program did, as owned data: an event of its own past.
 
 use crate::{CallData, Port, Ready, Told};
-use mail_bytes::ByteText;
+use mail_bytes::{ByteText, OnHeap};
 
 /// The words of a local delivery, with bytes of their own.
 #[derive(Drop)]
@@ -71,7 +71,7 @@ pub enum NeedData {
     /// Gives bytes to a pipe.
     Give(Port, ByteText),
     /// Starts a program.
-    Start(ChildData),
+    Start(OnHeap<ChildData>),
     /// Runs a command of a user.
     Command(ByteText),
     /// Nothing can be done yet.

@@ -190,9 +190,10 @@ module _ {D : Type 0} (disk : D → Option Disk) (calls : D → Option (List Rec
     pub plan : CallKeepsPlan made (chosen old) (chosen new) (disk old) (disk new) answer
     pub cause : AnswerHasCause (failed old) (failed new) answer
 
-  pub performs : (old new : D) (now : ℕ) (made call : CallData) (answer : Answer) (into bytes : List ℕ) → made ≡ call → bytes ≡ bytes_read answer into → Clauses old new now made answer into
-      → Performs disk calls chosen failed old now call (record { answer = answer; bytes = bytes }) new
-  performs old new now made call answer into bytes same is c =
-      subst (λ (x : CallData). Performs disk calls chosen failed old now x (record { answer = answer; bytes = bytes }) new) same
+  pub performs : (old new : D) (now : ℕ) (made call : CallData) (answer kept : Answer) (into bytes : List ℕ) → made ≡ call → kept ≡ answer → bytes ≡ bytes_read answer into
+      → Clauses old new now made answer into → Performs disk calls chosen failed old now call (record { answer = kept; bytes = bytes }) new
+  performs old new now made call answer kept into bytes same keeps is c =
+      subst (λ (x : CallData). Performs disk calls chosen failed old now x (record { answer = kept; bytes = bytes }) new) same
+      (subst (λ (a : Answer). Performs disk calls chosen failed old now made (record { answer = a; bytes = bytes }) new) (sym keeps)
       (subst (λ (l : List ℕ). Performs disk calls chosen failed old now made (record { answer = answer; bytes = l }) new) (sym is)
-      (record { told = c.told; recorded = c.recorded; read = c.read; kind = c.kind; moment = c.moment; number = c.number; plan = c.plan; cause = c.cause }))
+      (record { told = c.told; recorded = c.recorded; read = c.read; kind = c.kind; moment = c.moment; number = c.number; plan = c.plan; cause = c.cause })))

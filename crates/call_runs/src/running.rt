@@ -14,7 +14,7 @@ ghost use Rattle.call_runs.specs.Running.{May, Performs, Runs, StopsAt, none_hel
 ghost use Rattle.mail_bytes.specs.Moments.{IsMoment};
 ghost use Rattle.mail_bytes.specs.Told.{OnTold};
 
-use call_fs::{Answer, Call, CallData, CallFs, Fd, Mode, PIECE, Told, perform};
+use call_fs::{Answer, Call, CallData, CallFs, Fd, KeptAnswer, Mode, PIECE, Told, perform};
 use mail_bytes::{ByteText, LAST_MOMENT, Memory};
 use std::alloc::Global;
 use std::collections::BTreeMap;
@@ -42,7 +42,7 @@ pub fn run_calls<D: CallFs>(
             return Ok(all);
         }
         let told = make(alloc, disk, call.0, &call.1)?;
-        keep(&mut held, &call.1, &told.answer)?;
+        keep(&mut held, &call.1, &told.answer.copy())?;
         all.push(told)?;
     }
     Ok(all)
@@ -111,6 +111,7 @@ fn make<D: CallFs>(alloc: Global, disk: &mut D, now: u64, call: &CallData) -> Re
     let mut into = [0u8; PIECE];
     let answer = perform(alloc, disk, now, lend(call), &mut into);
     let bytes = ByteText::from_slice(alloc, bytes_read(&answer, &into))?;
+    let answer = KeptAnswer::of(alloc, &answer)?;
     Ok(Told { answer, bytes })
 }
 

@@ -8,7 +8,9 @@ pub mod Steps
 pub mod Walks
 -- words of the members of a generation that aren't written out
 pub mod Members
--- words of `make` that aren't written out, and what it is told
+-- words of `make` that aren't written out
 pub mod Makes
+-- numbers that words tell are in range
+pub mod Ranges
 -- words of `local` that aren't written out
 pub mod Delivered

@@ -9,13 +9,13 @@ use Rattle.clap.specs.declared.parser.matches.ArgMatches.{ArgMatches}
 use Rattle.clap.specs.declared.parser.matches.Found.{Found}
 use Rattle.clap.proofs.WalkLemmas.{first_value-rows}
 use Rattle.call_fs.specs.declared.past.DeliveryWordsData.{DeliveryWordsData}
-use Rattle.command_words.specs.Lines.{local_line, make_line, play_line, queue_line, rspawn_line, send_line, takes_words}
+use Rattle.command_words.specs.Lines.{local_line, make_line, play_line, queue_line, rspawn_line, send_line, takes_words, work_line}
 use Rattle.command_words.specs.declared.command.Command.TheVariants.{Play, Queue}
 use Rattle.command_words.specs.declared.command.QueueWords.{QueueWords}
 use Rattle.command_words.specs.declared.command.RspawnWords.{RspawnWords}
 use Rattle.command_words.specs.Delivery.{delivery_told, local_told, local_told_by, local_words, marked, told_as}
-use Rattle.command_words.specs.Numbers.{number_below, turns_of, uid_of}
-use Rattle.command_words.specs.Reads.{dir_words, env_of, is_on, make_words, maker_told, maker_told_by, play_words, queue_words, rspawn_words, send_words, sender_told, sender_told_by, spawner_told, spawner_told_by, told, told_by}
+use Rattle.command_words.specs.Numbers.{number_below, turns_of, uid_of, threads_of}
+use Rattle.command_words.specs.Reads.{dir_words, env_of, is_on, make_words, maker_told, maker_told_by, play_words, queue_words, rspawn_words, send_words, sender_told, sender_told_by, spawner_told, spawner_told_by, told, told_by, work_words}
 
 -- an `Ok` says that no step failed
 pub taken : (a line : App) (words : List Text) (m : ArgMatches) → a ≡ line → is_simple_and_free line ≡ true → (is_simple_and_free a ≡ true → FailsBy (fault_of a words) (Ok m)) → takes_words line words ≡ true
@@ -167,6 +167,20 @@ pub both_told : (found : Found) (first second : Option Text) (seed count : Optio
 both_told found first second seed count s n f of_seed has_seed g of_count has_count =
     ap (λ o. maker_told o (number_below 100001 (first_of (codes "count") (rows_of found)))) (number_found found (codes "seed") 65537 first seed f of_seed ∙ has_seed)
     ∙ ap (maker_told (Some s)) (number_found found (codes "count") 100001 second count g of_count ∙ has_count)
+
+-- the words of `work` that are taken tell it what clap found
+pub work_read : (words : List Text) (found : Found) (threads : Option Text) (number : Option ℕ) → takes_words work_line words ≡ true → rows_of found ≡ matches_of work_line words → threads ≡ first_value found (codes "threads") → number ≡ threads_of threads
+    → work_words words ≡ number
+unfolding work_words
+work_read words found threads number takes is read told =
+    ap (λ t. cond t (threads_of (first_of (codes "threads") (matches_of work_line words))) None) takes
+    ∙ ap (λ rows. threads_of (first_of (codes "threads") rows)) (sym is)
+    ∙ ap threads_of (sym (read ∙ first_value-rows found (codes "threads")))
+    ∙ sym told
+
+pub work_refused : (words : List Text) → takes_words work_line words ≡ false → work_words words ≡ None
+unfolding work_words
+work_refused words refuses = ap (λ t. cond t (threads_of (first_of (codes "threads") (matches_of work_line words))) None) refuses
 
 -- the words of `local` that are taken tell it what clap found; what it is told, by what the getters of the matches read
 pub local_read : (words : List Text) (rows : List Row) → takes_words local_line words ≡ true → rows ≡ matches_of local_line words → local_words words ≡ local_told_by rows

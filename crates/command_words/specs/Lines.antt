@@ -58,6 +58,10 @@ send_line = with_rule (with_program (with_word (new_app (codes "send")) (codes "
 abbrev pub make_line : App
 make_line = with_word (with_word (new_app (codes "make")) (codes "seed")) (codes "count")
 
+-- `work --threads N`
+abbrev pub work_line : App
+work_line = with_rule (new_app (codes "work")) (option_rule (codes "threads"))
+
 -- `local DIR =USER =HOME =LOCAL =DASH =EXT =DOMAIN =SENDER =LINE --uid N`
 abbrev pub local_line : App
 local_line =

@@ -29,3 +29,12 @@ as_turns n = if nat_lt 0 n && nat_lt n 1000001 then Some n else None
 abbrev pub turns_of : Option Text → Option ℕ
 turns_of None = None
 turns_of (Some text) = option_and_then as_turns (number_of text)
+
+-- the number, if it is from 1 to 16
+abbrev pub as_threads : ℕ → Option ℕ
+as_threads n = if nat_lt 0 n && nat_lt n 17 then Some n else None
+
+-- the threads of a decimal text; 2 if there is no text
+abbrev pub threads_of : Option Text → Option ℕ
+threads_of None = Some 2
+threads_of (Some text) = option_and_then as_threads (number_of text)

@@ -4,14 +4,14 @@ use Rattle.std.specs.Option.{option_map_or}
 use Rattle.std.specs.Str.{bytes_eq}
 use Rattle.clap.specs.Words.{App, Row, Text, first_of, matches_of}
 use Rattle.command_words.specs.declared.command.Command.{Command}
-use Rattle.command_words.specs.declared.command.Command.TheVariants.{Play, Make, Queue, Send, Audit, Clean, Lspawn, Rspawn, Local}
+use Rattle.command_words.specs.declared.command.Command.TheVariants.{Play, Make, Queue, Send, Audit, Clean, Lspawn, Rspawn, Local, Work}
 use Rattle.command_words.specs.declared.command.MakeWords.{MakeWords}
 use Rattle.command_words.specs.declared.command.QueueWords.{QueueWords}
 use Rattle.command_words.specs.declared.command.RspawnWords.{RspawnWords}
 use Rattle.command_words.specs.declared.command.SendWords.{SendWords}
 use Rattle.command_words.specs.Delivery.{local_words}
-use Rattle.command_words.specs.Numbers.{number_below, turns_of, uid_of}
-use Rattle.command_words.specs.Lines.{audit_line, clean_line, lspawn_line, make_line, play_line, queue_line, rspawn_line, send_line, takes_words}
+use Rattle.command_words.specs.Numbers.{number_below, turns_of, uid_of, threads_of}
+use Rattle.command_words.specs.Lines.{audit_line, clean_line, lspawn_line, make_line, play_line, queue_line, rspawn_line, send_line, takes_words, work_line}
 
 -- the file of the envelope; `-` is none
 abbrev pub env_of : Text → Option Text
@@ -82,6 +82,10 @@ maker_told_by rows = maker_told (number_below 65537 (first_of (codes "seed") row
 unfoldable pub make_words : List Text → Option MakeWords
 make_words words = if takes_words make_line words then maker_told_by (matches_of make_line words) else None
 
+-- the words after the name `work`, whatever the first word is: how many threads run mails
+unfoldable pub work_words : List Text → Option ℕ
+work_words words = if takes_words work_line words then threads_of (first_of (codes "threads") (matches_of work_line words)) else None
+
 -- the command that this name names, if it isn't `play`
 abbrev pub others_named : Text → List Text → Option Command
 others_named name words = if bytes_eq name (codes "queue") then queue_words words
@@ -91,7 +95,8 @@ others_named name words = if bytes_eq name (codes "queue") then queue_words word
     else (if bytes_eq name (codes "lspawn") then option_map Lspawn (dir_words lspawn_line words)
     else (if bytes_eq name (codes "rspawn") then option_map Rspawn (rspawn_words words)
     else (if bytes_eq name (codes "local") then option_map Local (local_words words)
-    else (if bytes_eq name (codes "make") then option_map Make (make_words words) else None)))))))
+    else (if bytes_eq name (codes "make") then option_map Make (make_words words)
+    else (if bytes_eq name (codes "work") then option_map Work (work_words words) else None))))))))
 
 -- the command that the first word names
 abbrev pub command_named : Option Text → List Text → Option Command

@@ -26,6 +26,8 @@ pub enum Command {
     Rspawn(RspawnWords),
     /// `local`: makes a local delivery.
     Local(LocalWords),
+    /// `work`: runs the mails of a script by threads; with how many of these run mails, from 1 to 16.
+    Work(u64),
 }
 
 /// What `make` is told.

@@ -34,10 +34,12 @@ pub fn places(alloc: Global, words: &[String]) -> Result<Places, Memory>
             env: None,
             dir: Some(delivery.dir),
         }),
-        Ok(Command::Play | Command::Make(_)) | Err(WordsError::Usage) => Ok(Places {
-            env: None,
-            dir: None,
-        }),
+        Ok(Command::Play | Command::Make(_) | Command::Work(_)) | Err(WordsError::Usage) => Ok(
+            Places {
+                env: None,
+                dir: None,
+            },
+        ),
         Err(WordsError::Memory) => Err(AllocError),
     }
 }

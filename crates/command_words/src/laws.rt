@@ -4,7 +4,7 @@ ghost use Rattle.call_fs.specs.declared.past.DeliveryWordsData.{DeliveryWordsDat
 ghost use Rattle.mail_bytes.specs.Decimal.{digits};
 ghost use Rattle.command_words.specs.declared.command.Command.{Command as Told};
 ghost use Rattle.command_words.specs.declared.command.MakeWords.{MakeWords};
-ghost use Rattle.command_words.specs.declared.command.Command.TheVariants.{Play, Make, Queue, Send, Audit, Clean, Lspawn, Rspawn, Local};
+ghost use Rattle.command_words.specs.declared.command.Command.TheVariants.{Play, Make, Queue, Send, Audit, Clean, Lspawn, Rspawn, Local, Work};
 ghost use Rattle.command_words.specs.Delivery.{HasBytes, delivery_words};
 ghost use Rattle.command_words.specs.Lines.{play_line, takes_words};
 ghost use Rattle.command_words.specs.Reads.{IsNoCommand, IsNoOption, Reads};
@@ -71,6 +71,12 @@ pub fn words_by_row()
         ∷ codes "=x" ∷ codes "=a@x" ∷ codes "=./Maildir/" ∷ []) }
     ensures bad_escape { IsNoCommand (codes "local" ∷ codes "DIR" ∷ codes "=j" ∷ codes "=home/j" ∷ codes "=j" ∷ codes "=" ∷ codes "="
         ∷ codes "=x" ∷ codes "=a%4x" ∷ codes "=./Maildir/" ∷ []) }
+    ensures work { Reads (codes "work" ∷ []) (Work 2) }
+    ensures threads { Reads (codes "work" ∷ codes "--threads" ∷ codes "16" ∷ []) (Work 16) }
+    ensures no_threads { IsNoCommand (codes "work" ∷ codes "--threads" ∷ codes "0" ∷ []) }
+    ensures too_many_threads { IsNoCommand (codes "work" ∷ codes "--threads" ∷ codes "17" ∷ []) }
+    ensures thread_zero { IsNoCommand (codes "work" ∷ codes "--threads" ∷ codes "02" ∷ []) }
+    ensures work_extra { IsNoCommand (codes "work" ∷ codes "more" ∷ []) }
     ensures help { IsNoCommand (codes "queue" ∷ codes "-" ∷ codes "DIR" ∷ codes "--help" ∷ []) }
     ensures version { IsNoCommand (codes "play" ∷ codes "--version" ∷ []) }
     ensures no_directory { IsNoCommand (codes "queue" ∷ codes "-" ∷ []) }
@@ -119,4 +125,9 @@ pub fn words_of_make()
     ensures written { (seed count : ℕ) → seed ≤ 65536 → count ≤ 100000
         → Reads (codes "make" ∷ digits seed ∷ digits count ∷ []) (Make (record { seed = seed; count = count })) }
     ensures range { (words : List (List ℕ)) (told : MakeWords) → Reads words (Make told) → (told.seed ≤ 65536) × (told.count ≤ 100000) }
+{}
+
+/// What is read of words of `work` is from 1 to 16 threads.
+pub fn words_of_work()
+    ensures { (words : List (List ℕ)) (threads : ℕ) → Reads words (Work threads) → (1 ≤ threads) × (threads ≤ 16) }
 {}

@@ -15,6 +15,7 @@
 //! | `clean DIR` | runs the cleaner over the queue of DIR |
 //! | `lspawn DIR` | runs the local spawner over the queue of DIR |
 //! | `rspawn DIR PROGRAM` | runs the remote spawner, which delivers by PROGRAM; the empty word is no program |
+//! | `work --threads N` | runs the mails of a script by N threads, from 1 to 16, beside a generation; 2 if no number is told |
 //! | `local DIR =USER =HOME =LOCAL =DASH =EXT =DOMAIN =SENDER =LINE --uid N` | makes a local delivery, as qmail-local(8) |
 //!
 //! `--turns` has to stand. Each word of `local` after DIR begins with `=`, which isn't part of it, and is escaped as in scripts: `%` and two
@@ -24,9 +25,9 @@
 //!
 //! - Which command the words are, as a simple `clap` command for each takes them, and what it is told; the
 //!   places that they name, which channels it has, and as which member of a generation it runs: `read_words`: `ok` (by
-//!   `Reads`), `usage` (by `IsNoCommand`); `places`; `channels`; `member`; the laws `words_are_one_command`,
+//!   `Reads`), `usage` (by `IsNoCommand`); `places`; `channels`; `member`; `threads_told`; the laws `words_are_one_command`,
 //!   `words_by_row`, `words_of_queue`, `words_of_local`, `words_of_members`,
-//!   `words_of_make`.
+//!   `words_of_make`, `words_of_work`.
 #![tactic(auto)]
 
 mod command;
@@ -37,6 +38,7 @@ mod lines;
 mod maker;
 mod read;
 mod sender;
+mod threads;
 
 pub use command::{
     Channels, Command, LocalWords, MakeWords, Member, Places, QueueWords, RspawnWords, SendWords,
@@ -45,6 +47,7 @@ pub use command::{
 pub use given::{channels, member, places};
 pub use laws::{
     words_are_one_command, words_by_row, words_of_local, words_of_make, words_of_members,
-    words_of_queue,
+    words_of_queue, words_of_work,
 };
 pub use read::read_words;
+pub use threads::threads_told;

@@ -1,7 +1,7 @@
 // The simple `clap` commands.
 ghost use Rattle.std.specs.Prelude.{◌≡◌, IfOk};
 ghost use Rattle.clap.specs.Words.{app_of};
-ghost use Rattle.command_words.specs.Lines.{audit_line, clean_line, local_line, lspawn_line, make_line, play_line, queue_line, rspawn_line, send_line, with_program, with_word};
+ghost use Rattle.command_words.specs.Lines.{audit_line, clean_line, local_line, lspawn_line, make_line, play_line, queue_line, rspawn_line, send_line, with_program, with_word, work_line};
 
 use clap::builder::ValueParser;
 use clap::{Arg, ArgAction, Command};
@@ -57,6 +57,13 @@ pub fn rspawn_line<'a>(alloc: Global) -> Result<Command<'a>, Memory>
 {
     let line = with_word(alloc, Command::new(alloc, "rspawn"), "dir")?;
     with_program(alloc, line)
+}
+
+/// The words of `work`. The error: out of memory.
+pub fn work_line<'a>(alloc: Global) -> Result<Command<'a>, Memory>
+    ensures { IfOk result (λ line. app_of line ≡ work_line) }
+{
+    Command::new(alloc, "work").arg(Arg::new(alloc, "threads").long("threads"))
 }
 
 /// The words of `send`. The error: out of memory.

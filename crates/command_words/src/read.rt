@@ -10,6 +10,7 @@ use crate::delivery::read_local;
 use crate::lines::{audit_line, clean_line, lspawn_line, play_line, queue_line, rspawn_line};
 use crate::maker::read_make;
 use crate::sender::read_send;
+use crate::threads::read_work;
 use crate::{Command, QueueWords, RspawnWords, WordsError};
 use clap::error::ErrorKind;
 use clap::{ArgMatches, Command as Line};
@@ -55,6 +56,10 @@ pub fn read_words(alloc: Global, words: &[String]) -> Result<Command, WordsError
         },
         "make" => match read_make(alloc, words) {
             Ok(maker) => Ok(Command::Make(maker)),
+            Err(why) => Err(why),
+        },
+        "work" => match read_work(alloc, words) {
+            Ok(threads) => Ok(Command::Work(threads)),
             Err(why) => Err(why),
         },
         _ => Err(WordsError::Usage),

@@ -8,7 +8,7 @@
 //! - An injector that is given its input some time after its start, or never. Until then it waits, and stands for
 //!   whatever input it will be given; then for the input that it was given; and if nobody gives it any, for one
 //!   that has ended before its first byte. Which message and envelope two netstrings are, exact:
-//!   `FedInjector::{new, awaits, give, cut}` and its `Machine` (by `FedStands`); `texts_of`: `texts`, `none`;
+//!   `FedInjector::{new, given, awaits, give, cut}` and its `Machine` (by `FedStands`); `texts_of`: `texts`, `none`;
 //!   `texts_to_give` (by `GivesTexts`).
 #![tactic(auto)]
 

@@ -60,6 +60,28 @@ impl FedInjector {
         })
     }
 
+    /// An injector of this user that is given copies of this message and this envelope at once. The condition: a clock may tell its start.
+    pub fn given(
+        alloc: Global,
+        uid: u32,
+        pid: u32,
+        invoked: Invoked,
+        start: u64,
+        message: &[u8],
+        envelope: &[u8],
+    ) -> Result<FedInjector, Memory>
+        requires { IsMoment start }
+        ensures stands { IfOk result (λ fed. (args : Arguments) → IsStartedBy args uid pid invoked start → IsNoInput args
+            → FedStands fed (with_input message.now envelope.now args) []) }
+        ensures given { IfOk result (λ fed. awaits fed ≡ false) }
+    {
+        let message = ByteText::from_slice(alloc, message)?;
+        let envelope = ByteText::from_slice(alloc, envelope)?;
+        let mut injector = FedInjector::new(alloc, uid, pid, invoked, start)?;
+        injector.give(message, envelope);
+        Ok(injector)
+    }
+
     /// Whether its input isn't given yet, and may still be.
     pub fn awaits(&self) -> bool
         ensures { result ≡ awaits self.now }

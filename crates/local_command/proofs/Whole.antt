@@ -34,7 +34,7 @@ use Rattle.local_command.specs.Commands.{RunsCommand, shell}
 use Rattle.local_command.specs.Commands.RunsCommand.{HasRun, NoMemory, Unstarted}
 use Rattle.local_command.specs.Delivered.{FailsOverChild, IsOfChild, WasDelivered}
 use Rattle.local_command.specs.Done.{AreServed, AsksInjector, Children, Deed, FeedsInjector, Serves, all_calls, events_of, injector_of}
-use Rattle.local_command.specs.Running.{RanTo}
+use Rattle.local_command.specs.Running.{HasEnded, RanTo, status_of}
 use Rattle.local_command.proofs.Complete.{goes_well}
 use Rattle.local_command.proofs.Hindering.{hindered}
 use Rattle.local_command.proofs.Runs.{nothing_done}
@@ -106,9 +106,8 @@ abbrev pub HaveCauses : Type 0
 HaveCauses = (args : LocalArgs) (past : List Own) (now : ℕ) (ready : Ready) (status : ℕ) → IsRunBy (Next args) past → Next args past now ready ≡ needs.Ended status → IsCausedBy args past status
 
 module _ (words : ChildData → List (List ℕ)) (args : LocalArgs) (old new : Outside) (s w : Children) where
-  pub delivered : (result : Result (Option ℕ) AllocError) (status : ℕ) → result ≡ Ok (Some status) → RanTo result words args old.last old new s w → HaveCauses → WasDelivered words args old new s w status
-  delivered result status is r causes =
-      let e = subst (λ o. RanTo o words args old.last old new s w) is r in
+  delivered : (status : ℕ) → HasEnded words args old.last status old new s w → HaveCauses → WasDelivered words args old new s w status
+  delivered status e causes =
       inl (record {
         ended = e;
         why = causes args (events_of e.deeds) e.read INPUT_READY status e.done.run e.ends;
@@ -121,20 +120,22 @@ module _ (words : ChildData → List (List ℕ)) (args : LocalArgs) (old new : O
             status (hindered args (events_of e.deeds) e.read INPUT_READY status e.done.run e.ends);
       })
 
-  pub gone_on : (result : Result (Option ℕ) AllocError) → result ≡ Ok None → RanTo result words args old.last old new s w → WasDelivered words args old new s w 51
-  gone_on result is r = inr (refl, inr (subst (λ o. RanTo o words args old.last old new s w) is r))
+  by_result : HaveCauses → (result : Result (Option ℕ) AllocError) → RanTo result words args old.last old new s w → WasDelivered words args old new s w (status_of result)
+  by_result causes (Ok (Some status)) r = delivered status r causes
+  by_result causes (Ok None) r = inr (refl, inr r)
+  by_result causes (Err why) r = inr (refl, inl r)
 
-  pub stopped : (result : Result (Option ℕ) AllocError) (why : AllocError) → result ≡ Err why → RanTo result words args old.last old new s w → WasDelivered words args old new s w 51
-  stopped result why is r = inr (refl, inl (subst (λ o. RanTo o words args old.last old new s w) is r))
+-- a run whose forwards go into the queue in this directory
+pub ran_so : (d e : List ℕ) → d ≡ e → (args : LocalArgs) (old new : Outside) (s w : Children) → HaveCauses
+    → (result : Result (Option ℕ) AllocError) → RanTo result (words_of d []) args old.last old new s w
+    → (status : ℕ) → status ≡ status_of result → WasDelivered (words_of e []) args old new s w status
+ran_so d e dir args old new s w causes result r status is =
+    subst (λ (x : List ℕ). WasDelivered (words_of x []) args old new s w status) dir
+    (subst (λ (x : ℕ). WasDelivered (words_of d []) args old new s w x) (sym is) (by_result (words_of d []) args old new s w causes result r))
 
 -- there was no memory to begin with
 pub cut_at_once : (words : ChildData → List (List ℕ)) (args : LocalArgs) (o : Outside) (s : Children) → WasDelivered words args o o s s 51
 cut_at_once words args o s = inr (refl, inl (record { deeds = []; done = nothing_done words args o.last o s (omega arith) }))
-
--- the directory of the forwards' queue is this
-pub as_dir : (d e : List ℕ) → d ≡ e → (args : LocalArgs) (old new : Outside) (s w : Children) (status : ℕ) → WasDelivered (words_of d []) args old new s w status
-    → WasDelivered (words_of e []) args old new s w status
-as_dir d e is args old new s w status h = subst (λ (x : List ℕ). WasDelivered (words_of x []) args old new s w status) is h
 
 -- its arguments are these
 pub stands_for : (m : Local) (a b : LocalArgs) → a ≡ b → Stands m a [] → Stands m b []

@@ -9,6 +9,7 @@ use Rattle.local_parts.specs.declared.arguments.LocalArgs.{LocalArgs}
 use Rattle.local_deliver.specs.Table.{Next}
 use Rattle.program_runner.specs.Outside.{Looks, Outside}
 use Rattle.program_runner.specs.Runs.{most_turns}
+use Rattle.queue_limits.specs.declared.statuses.TheConstants.{MEMORY}
 use Rattle.local_command.specs.Done.{Children, Deed, HasDone, events_of, injector_of}
 
 -- it goes on after so many events
@@ -43,3 +44,9 @@ abbrev pub RanTo : Result (Option ℕ) AllocError → (ChildData → List (List 
 RanTo (Ok (Some status)) words args start old new children now = HasEnded words args start status old new children now
 RanTo (Ok None) words args start old new children now = HasGoneOn words args start old new children now
 RanTo (Err why) words args start old new children now = HasStopped words args start old new children now
+
+-- The exit status after a run: out of memory if it was cut short, or still runs.
+abbrev pub status_of : Result (Option ℕ) AllocError → ℕ
+status_of (Ok (Some status)) = status
+status_of (Ok None) = MEMORY
+status_of (Err why) = MEMORY

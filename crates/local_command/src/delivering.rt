@@ -5,7 +5,7 @@ ghost use Rattle.local_parts.specs.Arguments.{local_args};
 ghost use Rattle.local_parts.specs.declared.arguments.LocalArgs.{LocalArgs as Words};
 ghost use Rattle.program_runner.specs.ChildWords.{dir_word, words_of};
 ghost use Rattle.local_command.specs.Delivered.{WasDelivered};
-ghost use Rattle.local_command.specs.Running.{RanTo};
+ghost use Rattle.local_command.specs.Running.{RanTo, status_of};
 
 use crate::stepping::step;
 use call_fs::{CallFs, DeliveryWordsData};
@@ -50,18 +50,22 @@ pub fn deliver<D: CallFs, M: Source, O: Sink, K: Clock, P: Posts, S: Spawner, G:
 {
     let args = arguments(words, uid, clock.pid());
     match Local::new(alloc, args) {
-        Ok(mut machine) => run_machine(
-            alloc,
-            dir,
-            &mut machine,
-            disk,
-            message,
-            out,
-            clock,
-            posts,
-            spawn,
-            gate,
-        ),
+        Ok(mut machine) => {
+            let status = run_machine(
+                alloc,
+                dir,
+                &mut machine,
+                disk,
+                message,
+                out,
+                clock,
+                posts,
+                spawn,
+                gate,
+            );
+            drop(machine);
+            status
+        }
         Err(_) => MEMORY,
     }
 }
@@ -114,9 +118,18 @@ fn run_machine<D: CallFs, M: Source, O: Sink, K: Clock, P: Posts, S: Spawner, G:
         dir: word.as_slice(),
         program: b"",
     };
-    match run(
+    let ran = run(
         alloc, machine, &words, disk, input, output, clock, posts, spawner, gate,
-    ) {
+    );
+    drop(word);
+    status_of(ran)
+}
+
+/// The exit status after a run.
+fn status_of(ran: Result<Option<u8>, Memory>) -> u8
+    ensures { result ≡ status_of ran }
+{
+    match ran {
         Ok(Some(status)) => status,
         // after all the events that a run may have, which nobody lives to see
         Ok(None) => MEMORY,

@@ -27,7 +27,7 @@ use Rattle.world_events.specs.declared.event.Program.{Program}
 use Rattle.world_events.specs.declared.event.Program.TheVariants.{Injector}
 use Rattle.mail_world.specs.declared.actor.Actor.{Actor as Held}
 use Rattle.mail_world.specs.declared.any_machine.AnyMachine.{AnyMachine}
-use Rattle.mail_world.specs.declared.any_machine.AnyMachine.TheVariants.{Mail, Clean, Send, Local, Deliver, Remote as RemoteSpawns}
+use Rattle.mail_world.specs.declared.any_machine.AnyMachine.TheVariants.{Mail, Clean, Send, Local, Deliver, Over as Gone, Remote as RemoteSpawns}
 use Rattle.mail_world.specs.ByKind.{IsMail, Follows, Mails, CanFind, awaits_of, need_of}
 use Rattle.mail_world.specs.History.{Actor, Life, State, acted, finished, happens, next_of}
 use Rattle.mail_world.specs.History.Event.{Report}
@@ -230,6 +230,7 @@ it_waits (Send m) program past f awaits = absurd cc
 it_waits (Local m) program past f awaits = absurd cc
 it_waits (RemoteSpawns m) program past f awaits = absurd cc
 it_waits (Deliver m) program past f awaits = absurd cc
+it_waits Gone program past f awaits = absurd f
 
 -- who is no mail awaits nothing
 pub none_awaits : (m : AnyMachine) (program : Program) (past : List Own) → Follows m program past → (IsMail program → ⊥) → awaits_of m ≡ false
@@ -270,3 +271,4 @@ can_find s a (Send m) program past f same = tt
 can_find s a (Local m) program past f same = tt
 can_find s a (RemoteSpawns m) program past f same = tt
 can_find s a (Deliver m) program past f same = tt
+can_find s a Gone program past f same = absurd f

@@ -6,9 +6,11 @@ use Rattle.call_fs.specs.declared.program.Need.TheVariants as need
 use Rattle.call_fs.specs.declared.calls.CallData.{CallData}
 use Rattle.call_fs.specs.declared.calls.CallData.TheVariants as call
 use Rattle.call_fs.specs.declared.calls.Answer.{Answer}
+use Rattle.call_fs.specs.declared.calls.Told.{Told}
 use Rattle.call_fs.specs.declared.calls.Answer.TheVariants as told
 use Rattle.call_fs.specs.Columns.{HasRoomFor, IsAnswerTo}
-use Rattle.call_fs.specs.Calls.{bytes_read, told_with}
+use Rattle.call_fs.specs.Calls.{told_with}
+use Rattle.call_fs.specs.Kept.{HasRoomForName}
 use Rattle.call_fs.specs.Disk.{Disk}
 use Rattle.call_fs.specs.Apply.{Apply, IsReadBy}
 use Rattle.mail_bytes.specs.Told.{OnTold, Meets}
@@ -23,7 +25,7 @@ use Rattle.queue_clean.specs.Machine.{Machine as Cleaning}
 use Rattle.queue_clean.specs.Stands.{Stands as Cleaned}
 use Rattle.world_events.specs.declared.event.Program.{Program}
 use Rattle.world_events.specs.declared.event.Program.TheVariants.{Cleaner}
-use Rattle.world_events.specs.Reads.{most_read, HasFew}
+use Rattle.world_events.specs.Reads.{most_brought, HasFew}
 use Rattle.mail_world.specs.declared.any_machine.AnyMachine.{AnyMachine}
 use Rattle.mail_world.specs.ByKind.{Cleans, present_of, found_of, need_of, with_own}
 use Rattle.mail_world.specs.Acting.{IsNoAct, IsCall}
@@ -44,10 +46,10 @@ pub still_cleans : (m n : Cleaning) (program : Program) (past later : List Own) 
 still_cleans m n (Cleaner start) past later stands f = stands tt f
 still_cleans m n other past later stands f = absurd f
 
--- The bytes of a read
+-- What a call brings
 
 -- a read counts no more bytes than it asked for
-pub keeps_few : (c : CallData) (answer : Answer) → HasRoomFor 8192 c → IsAnswerTo c answer → HasFew (most_read c) answer
+pub keeps_few : (c : CallData) (answer : Answer) → HasRoomFor 8192 c → IsAnswerTo c answer → HasFew (most_brought c) answer
 keeps_few c (told.Created fd n) room kind = tt
 keeps_few c (told.Opened fd) room kind = tt
 keeps_few c told.Done room kind = tt
@@ -68,15 +70,37 @@ keeps_few (call.Unlink name) (told.Count n) room kind = absurd kind
 keeps_few (call.Stat name) (told.Count n) room kind = absurd kind
 keeps_few (call.NextName dir last) (told.Count n) room kind = absurd kind
 
--- a call was made, and these are the bytes that it read
-pub read_made : (old new : Option Disk) (now : ℕ) (c : CallData) (answer : Answer) (into bytes : List ℕ) → bytes ≡ bytes_read answer into
+-- only a search brings a name
+pub keeps_name : (c : CallData) (answer : Answer) → IsAnswerTo c answer → HasRoomForName (most_brought c) answer
+keeps_name c (told.Created fd n) kind = tt
+keeps_name c (told.Opened fd) kind = tt
+keeps_name c (told.Count n) kind = tt
+keeps_name c told.Done kind = tt
+keeps_name c (told.Stat stat) kind = tt
+keeps_name c told.NoName kind = tt
+keeps_name c (told.Refused why) kind = tt
+keeps_name (call.NextName dir last) (told.Name name) kind = omega arith
+keeps_name (call.ReadAt fd at len) (told.Name found) kind = absurd kind
+keeps_name (call.CreateExcl name) (told.Name found) kind = absurd kind
+keeps_name (call.Open name how) (told.Name found) kind = absurd kind
+keeps_name (call.WriteAt fd at bytes) (told.Name found) kind = absurd kind
+keeps_name (call.Append fd bytes) (told.Name found) kind = absurd kind
+keeps_name (call.Truncate fd len) (told.Name found) kind = absurd kind
+keeps_name (call.Sync fd) (told.Name found) kind = absurd kind
+keeps_name (call.Close fd) (told.Name found) kind = absurd kind
+keeps_name (call.Link old new) (told.Name found) kind = absurd kind
+keeps_name (call.Unlink name) (told.Name found) kind = absurd kind
+keeps_name (call.Stat name) (told.Name found) kind = absurd kind
+
+-- a call was made, and this is what it told
+pub told_made : (old new : Option Disk) (now : ℕ) (c : CallData) (answer : Answer) (into : List ℕ) (what : Told) → what ≡ told_with answer into
     → Meets old new (λ d e. Apply d now c answer e) → OnTold old (λ d. IsReadBy d c (told_with answer into))
-    → Meets old new (λ d e. Apply d now c answer e × IsReadBy d c (record { answer = answer; bytes = bytes }))
-read_made None None now c answer into bytes is made read = tt
-read_made None (Some e) now c answer into bytes is made read = absurd made
-read_made (Some d) None now c answer into bytes is made read = absurd made
-read_made (Some d) (Some e) now c answer into bytes is made read =
-    (made, subst (λ (bytes : List ℕ). IsReadBy d c (record { answer = answer; bytes = bytes })) (sym is) read)
+    → Meets old new (λ d e. Apply d now c what.answer e × IsReadBy d c what)
+told_made None None now c answer into what is made read = tt
+told_made None (Some e) now c answer into what is made read = absurd made
+told_made (Some d) None now c answer into what is made read = absurd made
+told_made (Some d) (Some e) now c answer into what is made read =
+    subst (λ (what : Told). Apply d now c what.answer e × IsReadBy d c what) (sym is) (made, read)
 
 -- What an actor does
 

@@ -27,7 +27,7 @@ use Rattle.remote_spawn.proofs.Holds.{uses as spawns_held}
 use Rattle.world_events.specs.declared.event.Program.{Program}
 use Rattle.world_events.specs.declared.event.Program.TheVariants.{Injector, Cleaner, Sender, LocalSpawner, RemoteSpawner, Delivery}
 use Rattle.mail_world.specs.declared.any_machine.AnyMachine.{AnyMachine}
-use Rattle.mail_world.specs.declared.any_machine.AnyMachine.TheVariants.{Mail, Clean, Send, Local, Remote, Deliver}
+use Rattle.mail_world.specs.declared.any_machine.AnyMachine.TheVariants.{Mail, Clean, Send, Local, Remote, Deliver, Over as Gone}
 use Rattle.mail_world.specs.Pipework.{Slot, Pipework, is_ready}
 use Rattle.mail_world.specs.History.{Life, State, InputIsFound, FindsInputAlone, MayFind, MayRun, next_of, latest, own_call, booked_by, held_by, cut_off}
 use Rattle.mail_world.specs.History.Life.{Alive, Over}
@@ -137,6 +137,7 @@ machine_takes (Send sender) program past f = inr (send_takes sender program past
 machine_takes (Local spawner) program past f = inr (local_takes spawner program past f)
 machine_takes (Remote spawner) program past f = inr (remote_takes spawner program past f)
 machine_takes (Deliver delivery) program past f = inr (delivery_takes delivery program past f)
+machine_takes Gone program past f = absurd f
 
 -- one that a history may start starts no program
 pub program_starts_none : (program : Program) (past : List Own) (now : ℕ) (ready : Ready) (asked : ChildData) → MayRun program → next_of program past now ready ≡ needs.Start asked → ⊥

@@ -3,7 +3,9 @@
 use Rattle.std.specs.Prelude.{◌≡◌, ℕ, List, ◌∷◌, Bool, true, false, not, ◌&&◌, None}
 use Rattle.call_fs.specs.declared.file_system.TheConstants.{PIECE}
 use Rattle.call_fs.specs.declared.program.Ready.{Ready}
+use Rattle.call_fs.specs.declared.program.TheConstants.{UNREADY}
 use Rattle.call_fs.specs.declared.past.NeedData.{NeedData}
+use Rattle.call_fs.specs.declared.past.NeedData.TheVariants.{Wait}
 use Rattle.call_fs.specs.declared.past.GotData.{GotData}
 use Rattle.call_fs.specs.declared.past.Own.{Own}
 use Rattle.queue_inject.specs.Machine.{due_now}
@@ -26,7 +28,7 @@ use Rattle.fed_injector.specs.declared.machine.FedInjector.{FedInjector}
 use Rattle.fed_injector.specs.Inputs.{FedStands, awaits}
 use Rattle.world_events.specs.Inputs.{with_texts}
 use Rattle.mail_world.specs.declared.any_machine.AnyMachine.{AnyMachine}
-use Rattle.mail_world.specs.declared.any_machine.AnyMachine.TheVariants.{Mail, Clean, Send, Local, Remote, Deliver}
+use Rattle.mail_world.specs.declared.any_machine.AnyMachine.TheVariants.{Mail, Clean, Send, Local, Remote, Deliver, Over}
 -- what an injector is started with
 pub use Rattle.world_events.specs.Programs.{injection_of}
 
@@ -89,7 +91,7 @@ abbrev pub Delivers : Deliverer → Program → List Own → Type 0
 Delivers delivery (Delivery start args) past = DeliveryAfter delivery args past
 Delivers delivery other past = ⊥
 
--- Any machine
+-- Any machine, and none, of an actor that is over
 
 -- the moment that it was told last
 abbrev pub present_of : AnyMachine → ℕ
@@ -99,6 +101,7 @@ present_of (Send sender) = sender.present
 present_of (Local spawner) = spawner.present
 present_of (Remote spawner) = spawner.present
 present_of (Deliver delivery) = delivery.present
+present_of Over = 0
 
 -- what it was told last to be ready
 abbrev pub found_of : AnyMachine → Ready
@@ -108,6 +111,7 @@ found_of (Send sender) = sender.ready
 found_of (Local spawner) = spawner.ready
 found_of (Remote spawner) = spawner.ready
 found_of (Deliver delivery) = delivery.ready
+found_of Over = UNREADY
 
 -- it was told them since its last event
 abbrev pub looked_of : AnyMachine → Bool
@@ -117,6 +121,7 @@ looked_of (Send sender) = sender.looked
 looked_of (Local spawner) = true
 looked_of (Remote spawner) = true
 looked_of (Deliver delivery) = true
+looked_of Over = false
 
 -- it may be told that this is ready
 abbrev pub CanFind : AnyMachine → Ready → Type 0
@@ -126,6 +131,7 @@ CanFind (Send sender) ready = Unit {0}
 CanFind (Local spawner) ready = Unit {0}
 CanFind (Remote spawner) ready = Unit {0}
 CanFind (Deliver delivery) ready = Unit {0}
+CanFind Over ready = ⊥
 
 -- what it does next
 abbrev pub need_of : AnyMachine → NeedData
@@ -135,6 +141,7 @@ need_of (Send sender) = sending_due sender
 need_of (Local spawner) = local_spawning_due spawner
 need_of (Remote spawner) = spawning_due spawner
 need_of (Deliver delivery) = delivery_due delivery
+need_of Over = Wait
 
 -- how many bytes it may be handed of one taking: the sender, the spawners and a delivery take any number
 abbrev pub takes_of : AnyMachine → ℕ
@@ -144,6 +151,7 @@ takes_of (Send sender) = 18446744073709551615
 takes_of (Local spawner) = 18446744073709551615
 takes_of (Remote spawner) = 18446744073709551615
 takes_of (Deliver delivery) = 18446744073709551615
+takes_of Over = 0
 
 -- it takes no memory any more: the sender, the spawners and a delivery take some for what they keep
 abbrev pub HasRoom : AnyMachine → Type 0
@@ -153,6 +161,7 @@ HasRoom (Send sender) = ⊥
 HasRoom (Local spawner) = ⊥
 HasRoom (Remote spawner) = ⊥
 HasRoom (Deliver delivery) = ⊥
+HasRoom Over = ⊥
 
 -- it stands for this program and this past
 abbrev pub Follows : AnyMachine → Program → List Own → Type 0
@@ -162,6 +171,7 @@ Follows (Send sender) program past = Sends sender program past
 Follows (Local spawner) program past = SpawnsLocals spawner program past
 Follows (Remote spawner) program past = Spawns spawner program past
 Follows (Deliver delivery) program past = Delivers delivery program past
+Follows Over program past = ⊥
 
 -- what is due and what came of it as the newest event of a past
 abbrev pub with_own : AnyMachine → GotData → List Own → List Own
@@ -188,6 +198,7 @@ awaits_of (Send sender) = false
 awaits_of (Local spawner) = false
 awaits_of (Remote spawner) = false
 awaits_of (Deliver delivery) = false
+awaits_of Over = false
 
 -- it was given this input, and awaits none any more
 pub record IsGiven (message envelope : List ℕ) (old new : AnyMachine) : Type 0 where

@@ -18,12 +18,10 @@ ghost use Rattle.mail_world.specs.Kept.{events_of, HasRoom};
 use crate::any_machine::AnyMachine;
 use crate::children::own_at;
 use crate::{ActorName, Did, Event, History};
-use call_fs::{
-    CallData, CallFs, Fd, GotData, Machine, Need, NeedData, Own, PIECE, Ready, Told, perform,
-};
+use call_fs::{CallData, CallFs, Fd, GotData, Machine, Need, NeedData, Own, PIECE, Ready, perform};
 use mail_bytes::Memory;
 use std::alloc::Global;
-use world_events::{close_all, got_of, keep_open, kept_read, need_data, room_to_read};
+use world_events::{close_all, got_of, keep_open, need_data, room_for, told_in};
 use world_pipes::{Mouths, exchange, is_of_child, shut_after};
 
 /// An actor of the world.
@@ -124,16 +122,16 @@ impl Actor {
     {
         match self.machine.need() {
             Need::File(call) => {
-                let room = room_to_read(alloc, call)?;
+                let room = room_for(alloc, call)?;
                 let owned = CallData::of(alloc, call)?;
                 let mut buffer = [0; PIECE];
                 let answer = perform(alloc, disk, at.now, call, &mut buffer);
-                let bytes = kept_read(room, &answer, &buffer);
+                let told = told_in(alloc, room, &answer, &buffer);
                 Ok(Came::Did(Own {
                     read: at.now,
                     ready: at.ready,
                     due: NeedData::File(owned),
-                    came: GotData::Answered(Told { answer, bytes }),
+                    came: GotData::Answered(told),
                 }))
             }
             Need::Ended(status) => Ok(Came::Ended(status)),
@@ -389,12 +387,12 @@ impl Actor {
         ensures ended { self.new.ended ≡ Some at }
         ensures status { self.new.status ≡ status }
         ensures name { self.new.name ≡ self.old.name }
-        ensures machine { self.new.machine ≡ self.old.machine }
         ensures stays { StaysAt self.old self.new }
     {
         self.ended = Some(at);
         self.status = status;
         self.owed = None;
+        self.machine = AnyMachine::Over;
         close_all(disk, &mut self.descriptors);
     }
 

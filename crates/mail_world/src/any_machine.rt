@@ -10,7 +10,7 @@ use call_fs::{Got, Machine, Need, Ready};
 use fed_injector::FedInjector;
 use local_deliver::Local as Deliverer;
 use local_spawn::LocalSpawn;
-use mail_bytes::{ByteText, Memory};
+use mail_bytes::{ByteText, Memory, OnHeap};
 use queue_clean::Cleaner;
 use remote_spawn::RemoteSpawn;
 use send_core::Sender;
@@ -20,17 +20,19 @@ use std::alloc::Global;
 #[derive(Drop)]
 pub enum AnyMachine {
     /// The injector of a mail, of a bounce or of a forward, and its input.
-    Mail(FedInjector),
+    Mail(OnHeap<FedInjector>),
     /// A cleaner.
-    Clean(Cleaner),
+    Clean(OnHeap<Cleaner>),
     /// A sender.
-    Send(Sender),
+    Send(OnHeap<Sender>),
     /// A local spawner.
-    Local(LocalSpawn),
+    Local(OnHeap<LocalSpawn>),
     /// A remote spawner.
-    Remote(RemoteSpawn),
+    Remote(OnHeap<RemoteSpawn>),
     /// A local delivery.
-    Deliver(Deliverer),
+    Deliver(OnHeap<Deliverer>),
+    /// None any more: its actor is over.
+    Over,
 }
 
 impl AnyMachine {
@@ -48,12 +50,13 @@ impl AnyMachine {
         ensures err { OnErr result (self.new ≡ self.old) }
     {
         match self {
-            AnyMachine::Mail(injector) => injector.done(alloc, got),
-            AnyMachine::Clean(cleaner) => cleaner.done(got),
-            AnyMachine::Send(sender) => sender.done(alloc, got),
-            AnyMachine::Local(spawner) => spawner.done(alloc, got),
-            AnyMachine::Remote(spawner) => spawner.done(alloc, got),
-            AnyMachine::Deliver(delivery) => delivery.done(alloc, got),
+            AnyMachine::Mail(injector) => injector.get_mut().done(alloc, got),
+            AnyMachine::Clean(cleaner) => cleaner.get_mut().done(got),
+            AnyMachine::Send(sender) => sender.get_mut().done(alloc, got),
+            AnyMachine::Local(spawner) => spawner.get_mut().done(alloc, got),
+            AnyMachine::Remote(spawner) => spawner.get_mut().done(alloc, got),
+            AnyMachine::Deliver(delivery) => delivery.get_mut().done(alloc, got),
+            AnyMachine::Over => unreachable!(),
         }
     }
 
@@ -64,10 +67,9 @@ impl AnyMachine {
         ensures { result ≡ searches self.now }
     {
         match self {
-            AnyMachine::Send(sender) => sender.is_searching(),
-            AnyMachine::Mail(_) | AnyMachine::Clean(_) => false,
-            AnyMachine::Local(_) | AnyMachine::Remote(_) => false,
-            AnyMachine::Deliver(_) => false,
+            AnyMachine::Send(sender) => sender.get().is_searching(),
+            AnyMachine::Mail(_) | AnyMachine::Clean(_) | AnyMachine::Local(_) => false,
+            AnyMachine::Remote(_) | AnyMachine::Deliver(_) | AnyMachine::Over => false,
         }
     }
 
@@ -76,10 +78,9 @@ impl AnyMachine {
         ensures { result ≡ awaits_of self.now }
     {
         match self {
-            AnyMachine::Mail(injector) => injector.awaits(),
-            AnyMachine::Clean(_) | AnyMachine::Send(_) => false,
-            AnyMachine::Local(_) | AnyMachine::Remote(_) => false,
-            AnyMachine::Deliver(_) => false,
+            AnyMachine::Mail(injector) => injector.get().awaits(),
+            AnyMachine::Clean(_) | AnyMachine::Send(_) | AnyMachine::Local(_) => false,
+            AnyMachine::Remote(_) | AnyMachine::Deliver(_) | AnyMachine::Over => false,
         }
     }
 
@@ -89,9 +90,9 @@ impl AnyMachine {
         ensures given { IsGiven message envelope self.old self.new }
     {
         match self {
-            AnyMachine::Mail(injector) => injector.give(message, envelope),
-            AnyMachine::Clean(_) | AnyMachine::Send(_) => {}
-            AnyMachine::Local(_) | AnyMachine::Remote(_) | AnyMachine::Deliver(_) => {}
+            AnyMachine::Mail(injector) => injector.get_mut().give(message, envelope),
+            AnyMachine::Clean(_) | AnyMachine::Send(_) | AnyMachine::Local(_) => {}
+            AnyMachine::Remote(_) | AnyMachine::Deliver(_) | AnyMachine::Over => {}
         }
     }
 
@@ -101,9 +102,9 @@ impl AnyMachine {
         ensures over { awaits_of self.new ≡ false }
     {
         match self {
-            AnyMachine::Mail(injector) => injector.cut(),
-            AnyMachine::Clean(_) | AnyMachine::Send(_) => {}
-            AnyMachine::Local(_) | AnyMachine::Remote(_) | AnyMachine::Deliver(_) => {}
+            AnyMachine::Mail(injector) => injector.get_mut().cut(),
+            AnyMachine::Clean(_) | AnyMachine::Send(_) | AnyMachine::Local(_) => {}
+            AnyMachine::Remote(_) | AnyMachine::Deliver(_) | AnyMachine::Over => {}
         }
     }
 
@@ -112,10 +113,9 @@ impl AnyMachine {
         ensures { result ≡ is_through self.now }
     {
         match self {
-            AnyMachine::Send(sender) => sender.is_between(),
-            AnyMachine::Mail(_) | AnyMachine::Clean(_) => false,
-            AnyMachine::Local(_) | AnyMachine::Remote(_) => false,
-            AnyMachine::Deliver(_) => false,
+            AnyMachine::Send(sender) => sender.get().is_between(),
+            AnyMachine::Mail(_) | AnyMachine::Clean(_) | AnyMachine::Local(_) => false,
+            AnyMachine::Remote(_) | AnyMachine::Deliver(_) | AnyMachine::Over => false,
         }
     }
 }
@@ -153,34 +153,37 @@ impl Machine for AnyMachine {
 
     fn look(&mut self, now: u64, ready: Ready) {
         match self {
-            AnyMachine::Mail(injector) => injector.look(now, ready),
-            AnyMachine::Clean(cleaner) => cleaner.look(now, ready),
-            AnyMachine::Send(sender) => sender.look(now, ready),
-            AnyMachine::Local(spawner) => spawner.look(now, ready),
-            AnyMachine::Remote(spawner) => spawner.look(now, ready),
-            AnyMachine::Deliver(delivery) => delivery.look(now, ready),
+            AnyMachine::Mail(injector) => injector.get_mut().look(now, ready),
+            AnyMachine::Clean(cleaner) => cleaner.get_mut().look(now, ready),
+            AnyMachine::Send(sender) => sender.get_mut().look(now, ready),
+            AnyMachine::Local(spawner) => spawner.get_mut().look(now, ready),
+            AnyMachine::Remote(spawner) => spawner.get_mut().look(now, ready),
+            AnyMachine::Deliver(delivery) => delivery.get_mut().look(now, ready),
+            AnyMachine::Over => unreachable!(),
         }
     }
 
     fn need(&self) -> Need<'_> {
         match self {
-            AnyMachine::Mail(injector) => injector.need(),
-            AnyMachine::Clean(cleaner) => cleaner.need(),
-            AnyMachine::Send(sender) => sender.need(),
-            AnyMachine::Local(spawner) => spawner.need(),
-            AnyMachine::Remote(spawner) => spawner.need(),
-            AnyMachine::Deliver(delivery) => delivery.need(),
+            AnyMachine::Mail(injector) => injector.get().need(),
+            AnyMachine::Clean(cleaner) => cleaner.get().need(),
+            AnyMachine::Send(sender) => sender.get().need(),
+            AnyMachine::Local(spawner) => spawner.get().need(),
+            AnyMachine::Remote(spawner) => spawner.get().need(),
+            AnyMachine::Deliver(delivery) => delivery.get().need(),
+            AnyMachine::Over => Need::Wait,
         }
     }
 
     fn taking_room(&self) -> usize {
         match self {
-            AnyMachine::Mail(injector) => injector.taking_room(),
-            AnyMachine::Clean(cleaner) => cleaner.taking_room(),
-            AnyMachine::Send(sender) => sender.taking_room(),
-            AnyMachine::Local(spawner) => spawner.taking_room(),
-            AnyMachine::Remote(spawner) => spawner.taking_room(),
-            AnyMachine::Deliver(delivery) => delivery.taking_room(),
+            AnyMachine::Mail(injector) => injector.get().taking_room(),
+            AnyMachine::Clean(cleaner) => cleaner.get().taking_room(),
+            AnyMachine::Send(sender) => sender.get().taking_room(),
+            AnyMachine::Local(spawner) => spawner.get().taking_room(),
+            AnyMachine::Remote(spawner) => spawner.get().taking_room(),
+            AnyMachine::Deliver(delivery) => delivery.get().taking_room(),
+            AnyMachine::Over => 0,
         }
     }
 

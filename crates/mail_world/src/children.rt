@@ -19,7 +19,7 @@ use call_fs::{ChildData, GotData, Machine, NeedData, Own};
 use fed_injector::{FedInjector, texts_to_give};
 use local_deliver::Local as Deliverer;
 use local_parts::LocalArgs;
-use mail_bytes::{ByteText, Memory};
+use mail_bytes::{ByteText, Memory, OnHeap};
 use received_line::Invoked;
 use std::alloc::Global;
 use world_events::{Born, Places, Starts};
@@ -81,12 +81,13 @@ pub fn machine_of(alloc: Global, asked: &ChildData, at: Setting) -> Result<AnyMa
         ChildData::Forward { uid, .. } => (*uid, Invoked::Uid(*uid)),
         ChildData::Local { words, uid, .. } => {
             let args = LocalArgs::of(alloc, words, *uid, at.pid)?;
-            return Ok(AnyMachine::Deliver(Deliverer::new(alloc, args)?));
+            let delivery = OnHeap::new(alloc, Deliverer::new(alloc, args)?)?;
+            return Ok(AnyMachine::Deliver(delivery));
         }
         ChildData::Remote { .. } => unreachable!(),
     };
     let injector = FedInjector::new(alloc, uid, at.pid, invoked, at.now)?;
-    Ok(AnyMachine::Mail(injector))
+    Ok(AnyMachine::Mail(OnHeap::new(alloc, injector)?))
 }
 
 /// Makes room for so many events, and hands an actor the event that it owes. After `Memory` it is as before, and so is what happened.
@@ -173,7 +174,7 @@ pub fn take_in(alloc: Global, actor: &mut Actor, own: &Own, at: Setting, index: 
 }
 
 /// The event that an actor started this child.
-pub fn child_event(actor: &ActorName, own: Own, born: Born) -> Event
+pub fn child_event(actor: &ActorName, own: OnHeap<Own>, born: Born) -> Event
     ensures { result ≡ kept.Child actor.now own born.name born.program }
 {
     Event::Child {

@@ -10,7 +10,7 @@ use crate::actor::Actor;
 use crate::any_machine::AnyMachine;
 use actor_names::Member;
 use local_spawn::LocalSpawn;
-use mail_bytes::Memory;
+use mail_bytes::{Memory, OnHeap};
 use queue_clean::Cleaner;
 use remote_spawn::RemoteSpawn;
 use send_core::Sender;
@@ -42,15 +42,15 @@ pub fn spawner_lives(crew: &[Actor]) -> bool
 pub fn members(alloc: Global) -> Result<Vec<Actor>, Memory>
     ensures { IfOk result (λ crew. AreNew crew.items) }
 {
-    let sender = AnyMachine::Send(Sender::new(alloc, None)?);
-    let clean = AnyMachine::Clean(Cleaner::new());
-    let lspawn = AnyMachine::Local(LocalSpawn::new(alloc)?);
-    let rspawn = AnyMachine::Remote(RemoteSpawn::new(alloc)?);
+    let sender = OnHeap::new(alloc, Sender::new(alloc, None)?)?;
+    let clean = OnHeap::new(alloc, Cleaner::new())?;
+    let lspawn = OnHeap::new(alloc, LocalSpawn::new(alloc)?)?;
+    let rspawn = OnHeap::new(alloc, RemoteSpawn::new(alloc)?)?;
     let mut crew = Vec::with_capacity(alloc, Member::COUNT)?;
-    crew.push(seated(alloc, Member::Sender, sender))?;
-    crew.push(seated(alloc, Member::Cleaner, clean))?;
-    crew.push(seated(alloc, Member::LocalSpawner, lspawn))?;
-    crew.push(seated(alloc, Member::RemoteSpawner, rspawn))?;
+    crew.push(seated(alloc, Member::Sender, AnyMachine::Send(sender)))?;
+    crew.push(seated(alloc, Member::Cleaner, AnyMachine::Clean(clean)))?;
+    crew.push(seated(alloc, Member::LocalSpawner, AnyMachine::Local(lspawn)))?;
+    crew.push(seated(alloc, Member::RemoteSpawner, AnyMachine::Remote(rspawn)))?;
     Ok(crew)
 }
 

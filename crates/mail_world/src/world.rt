@@ -30,15 +30,15 @@ use crate::children::{
 use crate::generation::{first_alive, members, spawner_lives};
 use crate::laws::books_are_the_models;
 use crate::starts::next_living;
-use crate::{ActorName, Books, Event, History, Program, WorldError};
+use crate::{ActorName, Books, Event, History, WorldError};
 use actor_names::{Member, is_mail_name};
 use call_fs::{CallFs, CrashFs, GotData, NeedData, Port, Survival, Taken};
 use fed_injector::FedInjector;
-use mail_bytes::{ByteText, Memory};
+use mail_bytes::{ByteText, Memory, OnHeap};
 use received_line::Invoked;
 use std::alloc::Global;
 use std::marker::Model;
-use world_events::{MAIL_USER, Places, Starts, child_of, counts_with, mail_of, started_by};
+use world_events::{MAIL_USER, Places, Starts, child_of, counts_with, mail_program, started_by};
 use world_pipes::{
     Mouths, add_pipes, due_slot, first_unreported, is_unreported, pipes_for, pipes_of, put_report,
     ready_at, renew, seat,
@@ -209,22 +209,22 @@ impl<D: CallFs> World<D> {
         self.actors.reserve(1)?;
         self.books.make_room()?;
         self.starts.make_room(1)?;
-        let arguments = mail_of(alloc, pid, start, message, envelope)?;
-        let message = ByteText::from_slice(alloc, message)?;
-        let envelope = ByteText::from_slice(alloc, envelope)?;
-        let mut injector = FedInjector::new(alloc, MAIL_USER, pid, Invoked::Uid(MAIL_USER), start)?;
-        injector.give(message, envelope);
+        let program = mail_program(alloc, pid, start, message, envelope)?;
+        let invoked = Invoked::Uid(MAIL_USER);
+        let injector = FedInjector::given(
+            alloc, MAIL_USER, pid, invoked, start, message, envelope,
+        )?;
+        let injector = OnHeap::new(alloc, injector)?;
         self.places
             .add(alloc, name.as_slice(), self.actors.len() - self.crew)?;
-        let entry = next_entry(&self.books);
+        let entry = self.books.enter(name, program.get());
         let machine = AnyMachine::Mail(injector);
-        let actor = Actor::new(alloc, name.copy(), machine, None, None, Some(entry));
+        let actor = Actor::new(alloc, name.copy(), machine, None, None, entry);
         self.actors.push(actor).unwrap();
-        self.books.add(name, &arguments);
         self.starts.add_other(self.actors.len() - self.crew - 1);
         self.history.put(Event::Start {
             actor: name.copy(),
-            program: Program::Injector(arguments),
+            program,
         });
         self.next_pid = self.next_pid.saturating_add(1);
         Ok(())
@@ -381,11 +381,14 @@ impl<D: CallFs> World<D> {
         let NeedData::Start(asked) = &*due else {
             unreachable!()
         };
+        let asked = asked.get();
         let counts = counts_with(self.bounces, self.deliveries, asked);
         let born = child_of(alloc, actor, asked, counts, at.pid, at.now)?;
         let machine = machine_of(alloc, asked, at)?;
         let own_pipes = pipes_of(alloc, asked)?;
         let number = due_slot(due);
+        let own = own_at(at, due, GotData::Started { pid: at.pid });
+        let own = OnHeap::new(alloc, own)?;
         room_for_one(
             &mut self.actors,
             &mut self.mouths,
@@ -398,11 +401,10 @@ impl<D: CallFs> World<D> {
         let wire = parent.wire.unwrap();
         pay_with_room(alloc, &mut self.history, parent, events)?;
         self.places.add(alloc, born.name.as_slice(), place)?;
-        let own = own_at(at, due, GotData::Started { pid: at.pid });
-        let did = take_in(alloc, parent, &own, at, self.history.len());
+        let did = take_in(alloc, parent, own.get(), at, self.history.len());
         self.mouths[wire].start_actor(number, born.name.copy());
         let pipes = add_pipes(&mut self.mouths, own_pipes);
-        let entry = self.books.enter(&born.name, &born.program);
+        let entry = self.books.enter(&born.name, born.program.get());
         let slot = Some((wire, number));
         let child = Actor::new(alloc, born.name.copy(), machine, pipes, slot, entry);
         self.actors.push(child).unwrap();
@@ -468,18 +470,20 @@ impl<D: CallFs> World<D> {
     {
         // for this event, and for the stop of each actor
         let room = self.actors.len() + 1;
+        let slot = due_slot(due);
+        let own = own_at(at, due, GotData::Gave);
+        let own = OnHeap::new(alloc, own)?;
         let parent = &mut self.actors[at.place];
         let wire = parent.wire;
-        let child = child_at(&self.mouths, wire, due_slot(due), &self.places, self.crew).unwrap();
+        let child = child_at(&self.mouths, wire, slot, &self.places, self.crew).unwrap();
         let (message, envelope, kept_message, kept_envelope) = ready_to_feed(
             alloc,
             &mut self.history,
             parent,
             room,
-            due,
+            &own.get().due,
         )?;
-        let own = own_at(at, due, GotData::Gave);
-        let did = take_in(alloc, parent, &own, at, self.history.len());
+        let did = take_in(alloc, parent, own.get(), at, self.history.len());
         let fed = &mut self.actors[child];
         let entry = fed.entry.unwrap();
         self.books.feed(entry, envelope.as_slice());
@@ -726,13 +730,6 @@ fn place_among(places: &Places, crew: usize, name: &ActorName) -> Option<usize>
         Some(_) => None,
         None => places.find(name.as_slice()).map(|place| crew + place),
     }
-}
-
-/// The place of the next entry in the books.
-fn next_entry(books: &Books) -> usize
-    ensures { result ≡ length (entries_of books.now) }
-{
-    books.entries().len()
 }
 
 /// The books take the newest event into account, which is that of the actor with this entry, if it has one.

@@ -1,5 +1,5 @@
 -- The names of a tree, by their bytes.
-use Rattle.std.proofs.Common.{◌≡◌, ◌⊎◌, ⊎_elim, inl, inr, ℕ, ◌+◌, ◌<◌, Bool, true, false, cond, List, [], ◌∷◌, length, get_or, filter, Option, Some, None, IsSome, unwrap_or, fold, nat_eq, bytes_eq, nat_cmp, Ordering, Less, Equal, Greater, refl, sym, ap, ◌∙◌, subst, arith}
+use Rattle.std.proofs.Common.{◌≡◌, ⊎_elim, inl, inr, ℕ, ◌+◌, ◌<◌, Bool, true, false, cond, List, [], ◌∷◌, ◌++◌, length, get_or, filter, Option, Some, None, IsSome, unwrap_or, fold, nat_eq, bytes_eq, nat_cmp, Ordering, Less, Equal, Greater, refl, sym, ap, ◌∙◌, subst, arith}
 use mathlib.Core.Path.{fun_ext}
 use Rattle.std.specs.declared.vec.Vec.{Vec}
 use Rattle.std.specs.BTreeMap.{insert_entry, is_at}
@@ -156,14 +156,6 @@ module _ {A : Type 0} (p : Vec ℕ A × ℕ → Bool) where
       by true later = (above-part e.0.items es h.0, later)
       by false later = later
 
-  pub among-whole : (es : List (Vec ℕ A × ℕ)) (q : List ℕ) → Among q (keys_of (texts (filter p es))) → Among q (keys_of (texts es))
-  among-whole [] q h = h
-  among-whole (e ∷ es) q h = by (p e) (among-whole es q) h
-    where
-      by : (b : Bool) → (Among q (keys_of (texts (filter p es))) → Among q (keys_of (texts es))) → Among q (keys_of (texts (cond b (e ∷ filter p es) (filter p es)))) → (q ≡ e.0.items) ⊎ Among q (keys_of (texts es))
-      by true deeper found = ⊎_elim (λ here. inl here) (λ later. inr (deeper later)) found
-      by false deeper found = inr (deeper found)
-
   pub among-part : (q : List ℕ) → ((e : Vec ℕ A × ℕ) → q ≡ e.0.items → p e ≡ true) → (es : List (Vec ℕ A × ℕ)) → IsSome (at_name (texts es) q) → Among q (keys_of (texts (filter p es)))
   among-part q passes [] some = absurd cc
   among-part q passes (e ∷ es) some =
@@ -175,3 +167,30 @@ module _ {A : Type 0} (p : Vec ℕ A × ℕ → Bool) where
       by : (b : Bool) → Among q (keys_of (texts (filter p es))) → Among q (keys_of (texts (cond b (e ∷ filter p es) (filter p es))))
       by true later = inr later
       by false later = later
+
+  pub not_among : (q : List ℕ) → ((e : Vec ℕ A × ℕ) → q ≡ e.0.items → p e ≡ false) → (es : List (Vec ℕ A × ℕ)) → ¬ (Among q (keys_of (texts (filter p es))))
+  not_among q fails [] h = h
+  not_among q fails (e ∷ es) h = by (p e) refl (not_among q fails es) h
+    where
+      by : (b : Bool) → p e ≡ b → ¬ (Among q (keys_of (texts (filter p es)))) → Among q (keys_of (texts (cond b (e ∷ filter p es) (filter p es)))) → ⊥
+      by true passes deeper found = ⊎_elim (λ here. let fails_here = fails e here in absurd cc) deeper found
+      by false passes deeper found = deeper found
+
+  -- a test that each name passes which comes after one that does leaves the end of a tree
+  all-part : (x : List ℕ) → ((e : Vec ℕ A × ℕ) → slice_cmp nat_cmp x e.0.items ≡ Less → p e ≡ true)
+      → (es : List (Vec ℕ A × ℕ)) → AllByRecursion (λ y. slice_cmp nat_cmp x y ≡ Less) (keys_of (texts es)) → filter p es ≡ es
+  all-part x passes [] h = refl
+  all-part x passes (e ∷ es) h =
+      ap (λ b. cond b (e ∷ filter p es) (filter p es)) (passes e h.0)
+      ∙ ap (λ (fs : List (Vec ℕ A × ℕ)). e ∷ fs) (all-part x passes es h.1)
+
+  pub end-part : ((e f : Vec ℕ A × ℕ) → slice_cmp nat_cmp e.0.items f.0.items ≡ Less → p e ≡ true → p f ≡ true)
+      → (es : List (Vec ℕ A × ℕ)) → AreNamesInOrder (texts es) → (before : List (List ℕ × ℕ)) × (texts es ≡ before ++ texts (filter p es))
+  unfolding IsStrictlySortedBy
+  end-part rises [] ordered = ([], refl)
+  end-part rises (e ∷ es) ordered = by (p e) refl (end-part rises es ordered.1)
+    where
+      by : (b : Bool) → p e ≡ b → ((before : List (List ℕ × ℕ)) × (texts es ≡ before ++ texts (filter p es)))
+          → (before : List (List ℕ × ℕ)) × (texts (e ∷ es) ≡ before ++ texts (cond b (e ∷ filter p es) (filter p es)))
+      by true passes deeper = ([], ap (λ (fs : List (Vec ℕ A × ℕ)). texts (e ∷ fs)) (sym (all-part e.0.items (λ f less. rises e f less passes) es ordered.0)))
+      by false passes deeper = ((e.0.items, e.1) ∷ deeper.0, ap (λ (xs : List (List ℕ × ℕ)). (e.0.items, e.1) ∷ xs) deeper.1)

@@ -1,7 +1,9 @@
 -- A name as a directory, a `/` and a part, and the order of such names.
-use Rattle.std.proofs.Common.{◌≡◌, ℕ, ◌↔◌, IsTrue, true, false, nat_eq, List, [], ◌∷◌, ◌++◌, length, drop, take, min, bytes_eq, nat_cmp, Ordering, Less, Equal, Greater, refl, sym, ap, ◌∙◌, take-append-drop, arith}
+use Rattle.std.proofs.Common.{◌≡◌, ℕ, ◌+◌, true, false, nat_eq, Some, List, [], ◌∷◌, ◌++◌, length, drop, take, get_or, min, bytes_eq, nat_cmp, Ordering, Less, Equal, Greater, refl, sym, ap, ◌∙◌, take-append-drop, arith}
 use Rattle.std.proofs.lemmas.Bool.Decides.{Decides-eqb}
-use Rattle.std.proofs.lemmas.List.{take_min, drop_min}
+use Rattle.std.proofs.lemmas.List.{take_min, drop_min, drop_more}
+use Rattle.std.proofs.lemmas.List.Quantifiers.{position-Some}
+use Rattle.std.specs.Prelude.{position}
 use Rattle.std.specs.Cmp.Lexicographic.{slice_cmp}
 use Rattle.std.specs.Ordering.{ordering_then}
 use Rattle.std.proofs.lemmas.Cmp.{nat_list_eq_equiv, nat_cmp_total, tied_itself}
@@ -22,12 +24,12 @@ prefix_is dir name part front rest =
     ∙ ap (λ (x : List ℕ). x ++ drop (length dir) name) ((bytes_eq-decides (take (length dir) name) dir).0 front)
     ∙ ap (λ (x : List ℕ). dir ++ x) rest
 
--- what begins with a directory is below it exactly if a `/` follows
-pub below_by_first : (dir name tail : List ℕ) (first : ℕ) → bytes_eq (take (length dir) name) dir ≡ true → drop (length dir) name ≡ first ∷ tail → IsTrue (nat_eq first 47) ↔ ((rest : List ℕ) × (name ≡ dir ++ 47 ∷ rest))
-below_by_first dir name tail first front back = (
-  λ t. (tail, prefix_is dir name tail front (back ∙ ap (λ (b : ℕ). b ∷ tail) ((Decides-eqb first 47).0 t))),
-  λ h. (Decides-eqb first 47).1 (let same : first ∷ tail ≡ 47 ∷ h.0 = sym back ∙ ap (drop (length dir)) h.1 ∙ drop-append_seam dir (47 ∷ h.0) in cc),
-)
+-- what stands before the first `/`, and after it
+pub at_slash : (text : List ℕ) (at : ℕ) → position (λ b. nat_eq b 47) text ≡ Some at → text ≡ take at text ++ 47 ∷ drop (at + 1) text
+at_slash text at found =
+    let place = position-Some (λ b. nat_eq b 47) text at 47 found in
+    sym (take-append-drop at text)
+    ∙ ap (λ (x : List ℕ). take at text ++ x) (drop_more text at 47 place.0 ∙ ap (λ (b : ℕ). b ∷ drop (at + 1) text) ((Decides-eqb (get_or text at 47) 47).0 place.1))
 
 then_assoc : (a b c : Ordering) → ordering_then a (ordering_then b c) ≡ ordering_then (ordering_then a b) c
 then_assoc Less b c = refl

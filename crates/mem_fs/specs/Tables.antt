@@ -49,8 +49,9 @@ IsPlace R es k place = MatchResult place (IsAt es k) (IsGapFor R es k)
 abbrev pub texts : {A : Type 0} → List (Vec ℕ A × ℕ) → List (List ℕ × ℕ)
 texts entries = map (λ e. (e.0.items, e.1)) entries
 
--- some of the names in order, among them each one of the directory that comes after that one
+-- the names in order from some place on, among them each one of the directory that comes after that one
 pub record IsRest (names : List (List ℕ × ℕ)) (dir after : List ℕ) (rest : List (List ℕ × ℕ)) : Type 0 where
   pub in_order : AreNamesInOrder rest
-  pub there : (name : List ℕ) → Among name (keys_of rest) → IsSome (at_name names name)
+  pub before : List (List ℕ × ℕ)
+  pub whole : names ≡ before ++ rest
   pub all : (other : List ℕ) → IsSome (at_name names (dir ++ 47 ∷ other)) → IsLater after other → Among (dir ++ 47 ∷ other) (keys_of rest)

@@ -231,8 +231,7 @@ impl CallFs for MemFs {
 
     fn read_at(&mut self, fd: Fd, at: u64, into: &mut [u8]) -> Result<u64, FsError>
         requires { MayUse (disk_of self.old.held) fd.0 }
-        ensures went { MemWent self.old self.new 0 (call.ReadAt fd at (length into.old))
-            (told_with (counted result) into.new) }
+        ensures went { MemWent self.old self.new 0 (call.ReadAt fd at (length into.old)) (told_with (counted result) into.new) }
         ensures counts { Counts self.old self.new None (counted result) }
     {
         self.plan.begin()?;
@@ -337,8 +336,7 @@ impl CallFs for MemFs {
     }
 
     fn next_name(&mut self, dir: &[u8], after: &[u8], into: &mut NameBuf) -> Result<bool, FsError>
-        ensures went { MemWent self.old self.new 0 (call.NextName dir.now after.now)
-            (without_bytes (next_found result into.new)) }
+        ensures went { MemWent self.old self.new 0 (call.NextName dir.now after.now) (without_bytes (next_found result into.new)) }
         ensures counts { Counts self.old self.new None (next_found result into.new) }
     {
         self.plan.begin()?;

@@ -30,23 +30,10 @@ impl Model for FileData {
 
     ghost Value = { File };
 
-    ghost view = { λ f. record {
-      bytes = f.bytes.items;
-      kept = f.kept.items;
-      given = f.given.items;
-      least = f.least;
-      greatest = f.greatest;
-      moment = f.moment;
-    } };
+    ghost view = { λ f. record { bytes = f.bytes.items; kept = f.kept.items; given = f.given.items; least = f.least; greatest = f.greatest; moment = f.moment } };
 
-    ghost invariant = { λ f. (vec_len f.bytes ≤ vec_capacity f.kept) × IsMoment f.moment × IsSurvivor (record {
-      bytes = f.bytes.items;
-      kept = f.kept.items;
-      given = f.given.items;
-      least = f.least;
-      greatest = f.greatest;
-      moment = f.moment;
-    }) };
+    ghost invariant = { λ f. (vec_len f.bytes ≤ vec_capacity f.kept) × IsMoment f.moment
+        × IsSurvivor (record { bytes = f.bytes.items; kept = f.kept.items; given = f.given.items; least = f.least; greatest = f.greatest; moment = f.moment }) };
 }
 
 impl FileData {
@@ -69,14 +56,7 @@ impl FileData {
     pub fn settled(alloc: Global, bytes: &[u8]) -> Result<Self, Memory>
         ensures { IfOk result (λ file. file ≡ settled_file bytes.now) }
     {
-        Ok(FileData {
-            bytes: Vec::from_slice(alloc, bytes)?,
-            kept: Vec::from_slice(alloc, bytes)?,
-            given: Vec::new(alloc),
-            least: bytes.len(),
-            greatest: bytes.len(),
-            moment: 0,
-        })
+        FileData::new(alloc, 0).settled_as(alloc, Vec::from_slice(alloc, bytes)?)
     }
 
     /// Its bytes.

@@ -9,8 +9,14 @@ use crate::file::{FileData, Inode};
 use crate::numbers;
 use mail_bytes::Memory;
 
+/// A number with its file.
+pub type Entry = (u64, Inode);
+
+/// The files with their numbers.
+pub type Files = Vec<Entry>;
+
 /// The file of a number. The condition: the number is there.
-pub fn file_of(files: &[(u64, Inode)], number: u64) -> &FileData
+pub fn file_of(files: &[Entry], number: u64) -> &FileData
     requires in_order { AreNumbersInOrder files.now }
     requires there { IsSome (at_number files.now number) }
     ensures { result.now ≡ file_at files.now number }
@@ -21,12 +27,7 @@ pub fn file_of(files: &[(u64, Inode)], number: u64) -> &FileData
 
 /// Writes bytes at the end of a file. After an `Err` all is as before. The conditions: the number is there, and `now` is
 /// a moment.
-pub fn append(
-    files: &mut Vec<(u64, Inode)>,
-    number: u64,
-    now: u64,
-    bytes: &[u8],
-) -> Result<(), Memory>
+pub fn append(files: &mut Files, number: u64, now: u64, bytes: &[u8]) -> Result<(), Memory>
     requires in_order { AreNumbersInOrder files.old.items }
     requires there { IsSome (at_number files.old.items number) }
     requires moment { IsMoment now }
@@ -41,7 +42,7 @@ pub fn append(
 /// Overwrites what lies below the length of a file. After an `Err` all is as before. The conditions: the number is
 /// there, and `now` is a moment.
 pub fn overwrite(
-    files: &mut Vec<(u64, Inode)>,
+    files: &mut Files,
     number: u64,
     now: u64,
     place: usize,
@@ -50,8 +51,7 @@ pub fn overwrite(
     requires in_order { AreNumbersInOrder files.old.items }
     requires there { IsSome (at_number files.old.items number) }
     requires moment { IsMoment now }
-    ensures ok { OnOk result (Changes files.old.items files.new.items number
-        (on_file (overwritten now place bytes.now))) }
+    ensures ok { OnOk result (Changes files.old.items files.new.items number (on_file (overwritten now place bytes.now))) }
     ensures err { OnErr result (files.new.items ≡ files.old.items) }
 {
     let at = numbers::index_of(files, number);
@@ -60,7 +60,7 @@ pub fn overwrite(
 }
 
 /// Cuts a file. The condition: the number is there.
-pub fn cut(files: &mut Vec<(u64, Inode)>, number: u64, len: usize)
+pub fn cut(files: &mut Files, number: u64, len: usize)
     requires in_order { AreNumbersInOrder files.old.items }
     requires there { IsSome (at_number files.old.items number) }
     ensures { Changes files.old.items files.new.items number (on_file (cut len)) }
@@ -71,7 +71,7 @@ pub fn cut(files: &mut Vec<(u64, Inode)>, number: u64, len: usize)
 }
 
 /// All bytes of a file are on the disk. The condition: the number is there.
-pub fn sync(files: &mut Vec<(u64, Inode)>, number: u64)
+pub fn sync(files: &mut Files, number: u64)
     requires in_order { AreNumbersInOrder files.old.items }
     requires there { IsSome (at_number files.old.items number) }
     ensures { Changes files.old.items files.new.items number (on_file synced) }
@@ -82,7 +82,7 @@ pub fn sync(files: &mut Vec<(u64, Inode)>, number: u64)
 }
 
 /// Puts another file in the place of a number's. The condition: the number is there.
-pub fn replace(files: &mut Vec<(u64, Inode)>, number: u64, file: FileData)
+pub fn replace(files: &mut Files, number: u64, file: FileData)
     requires in_order { AreNumbersInOrder files.old.items }
     requires there { IsSome (at_number files.old.items number) }
     ensures { Changes files.old.items files.new.items number (on_file (λ _. file)) }
@@ -93,7 +93,7 @@ pub fn replace(files: &mut Vec<(u64, Inode)>, number: u64, file: FileData)
 }
 
 /// A number has one name more. The conditions: it is there, and its count of names has room.
-pub fn add_link(files: &mut Vec<(u64, Inode)>, number: u64)
+pub fn add_link(files: &mut Files, number: u64)
     requires in_order { AreNumbersInOrder files.old.items }
     requires there { IsSome (at_number files.old.items number) }
     requires room { links_of files.old.items number + 1 < 2 ^ 64 }
@@ -105,7 +105,7 @@ pub fn add_link(files: &mut Vec<(u64, Inode)>, number: u64)
 }
 
 /// A number has one name less. The conditions: it is there, and has a name.
-pub fn drop_link(files: &mut Vec<(u64, Inode)>, number: u64)
+pub fn drop_link(files: &mut Files, number: u64)
     requires in_order { AreNumbersInOrder files.old.items }
     requires there { IsSome (at_number files.old.items number) }
     requires linked { 1 ≤ links_of files.old.items number }
@@ -117,7 +117,7 @@ pub fn drop_link(files: &mut Vec<(u64, Inode)>, number: u64)
 }
 
 /// A number has one open descriptor more. The conditions: it is there, and its count of descriptors has room.
-pub fn add_open(files: &mut Vec<(u64, Inode)>, number: u64)
+pub fn add_open(files: &mut Files, number: u64)
     requires in_order { AreNumbersInOrder files.old.items }
     requires there { IsSome (at_number files.old.items number) }
     requires room { holds_of files.old.items number + 1 < 2 ^ 64 }
@@ -129,7 +129,7 @@ pub fn add_open(files: &mut Vec<(u64, Inode)>, number: u64)
 }
 
 /// A number has one open descriptor less. The conditions: it is there, and has one.
-pub fn drop_open(files: &mut Vec<(u64, Inode)>, number: u64)
+pub fn drop_open(files: &mut Files, number: u64)
     requires in_order { AreNumbersInOrder files.old.items }
     requires there { IsSome (at_number files.old.items number) }
     requires open { 1 ≤ holds_of files.old.items number }
@@ -141,7 +141,7 @@ pub fn drop_open(files: &mut Vec<(u64, Inode)>, number: u64)
 }
 
 /// Whether nothing uses the number.
-pub fn is_idle(files: &[(u64, Inode)], number: u64) -> bool
+pub fn is_idle(files: &[Entry], number: u64) -> bool
     requires { AreNumbersInOrder files.now }
     ensures { IsTrue result ↔ IsIdle files.now number }
 {
@@ -152,7 +152,7 @@ pub fn is_idle(files: &[(u64, Inode)], number: u64) -> bool
 }
 
 /// The greatest u64 that nothing uses; None only if every u64 from 1 is used.
-pub fn greatest_idle(files: &[(u64, Inode)]) -> Option<u64>
+pub fn greatest_idle(files: &[Entry]) -> Option<u64>
     requires { AreNumbersInOrder files.now }
     ensures fits { IfSome result (λ n. n < 2 ^ 64) }
     ensures some { IfSome result (IsGreatestIdle files.now) }

@@ -5,8 +5,7 @@ ghost use Rattle.std.specs.BTreeSet.{contains};
 ghost use Rattle.mem_fs.specs.Tables.{AreNumbersInOrder};
 ghost use Rattle.mem_fs.specs.MemDisk.{IsIndexed, IsIndexedBeside, IsIndexedWith, IsLeastIdle, IsLeastOf, NoneIdle};
 
-use crate::file::Inode;
-use crate::files;
+use crate::files::{self, Entry};
 use std::collections::BTreeSet;
 
 /// Numbers that nothing uses, in order.
@@ -14,7 +13,7 @@ pub type Free = BTreeSet<u64>;
 
 /// The least number from 1 that nothing uses; None only if every u64 from 1 is used. The condition: each idle number below
 /// `low` is among `free`, which are idle.
-pub fn least(files: &[(u64, Inode)], free: &Free, low: u64) -> Option<u64>
+pub fn least(files: &[Entry], free: &Free, low: u64) -> Option<u64>
     requires in_order { AreNumbersInOrder files.now }
     requires indexed { IsIndexed files.now free.now low }
     ensures some { IfSome result (IsLeastIdle files.now) }
@@ -40,7 +39,7 @@ fn first_below(free: &Free, low: u64) -> Option<u64>
 }
 
 /// A number is used from now on. Gives the number below which each idle one is listed.
-pub fn taken(free: &mut Free, low: u64, number: u64, files: &[(u64, Inode)]) -> u64
+pub fn taken(free: &mut Free, low: u64, number: u64, files: &[Entry]) -> u64
     requires { IsIndexedWith files.now free.old low number }
     ensures { IsIndexed files.now free.new result }
 {
@@ -53,7 +52,7 @@ pub fn taken(free: &mut Free, low: u64, number: u64, files: &[(u64, Inode)]) -> 
 
 /// What uses a number became less. Gives the number below which each idle one is listed: where there is no memory for an
 /// entry of this one, that is this number.
-pub fn returned(free: &mut Free, low: u64, number: u64, files: &[(u64, Inode)]) -> u64
+pub fn returned(free: &mut Free, low: u64, number: u64, files: &[Entry]) -> u64
     requires in_order { AreNumbersInOrder files.now }
     requires indexed { IsIndexedBeside files.now free.old low number }
     ensures { IsIndexed files.now free.new result }

@@ -5,7 +5,8 @@ ghost use Rattle.mem_fs.specs.MemFile.{IsSurvivor};
 ghost use Rattle.mem_fs.specs.MemHalt.{seed_of, left_of, settled_entry, settled_entries};
 
 use crate::file::Inode;
-use crate::junk;
+use crate::files::{Entry, Files};
+use crate::junk::{self, Drawn};
 use call_fs::Survival;
 use mail_bytes::Memory;
 use std::alloc::Global;
@@ -22,7 +23,7 @@ fn seed_of(how: Survival) -> u64
 }
 
 /// The bytes that a number's file has then, and the x that follows.
-fn left_of(alloc: Global, how: Survival, inode: &Inode, x: u64) -> Result<(Vec<u8>, u64), Memory>
+fn left_of(alloc: Global, how: Survival, inode: &Inode, x: u64) -> Result<Drawn, Memory>
     requires { x < 2 ^ 32 }
     ensures value { IfOk result (λ left. (left.0.items, left.1) ≡ left_of how inode.now x) }
     ensures small { IfOk result (λ left. left.1 < 2 ^ 32) }
@@ -47,8 +48,7 @@ fn settled_entry(
     x: u64,
 ) -> Result<(Inode, u64), Memory>
     requires { x < 2 ^ 32 }
-    ensures value { IfOk result (λ made. (made.0 ≡ settled_entry (left_of how inode.now x).0 inode.now)
-        × (made.1 ≡ (left_of how inode.now x).1)) }
+    ensures value { IfOk result (λ made. (made.0 ≡ settled_entry (left_of how inode.now x).0 inode.now) × (made.1 ≡ (left_of how inode.now x).1)) }
     ensures small { IfOk result (λ made. made.1 < 2 ^ 32) }
     ensures survivor { IsSurvivor inode.now.file }
 {
@@ -63,11 +63,7 @@ fn settled_entry(
 }
 
 /// All entries then, one after another. The error: out of memory.
-pub fn settled_entries(
-    alloc: Global,
-    how: Survival,
-    files: &[(u64, Inode)],
-) -> Result<Vec<(u64, Inode)>, Memory>
+pub fn settled_entries(alloc: Global, how: Survival, files: &[Entry]) -> Result<Files, Memory>
     ensures value { IfOk result (λ settled. settled.items ≡ settled_entries how (seed_of how) files.now) }
     ensures survivors { OnOk result (All (λ e. IsSurvivor e.1.file) files.now) }
 {

@@ -6,6 +6,9 @@ use crate::file::FileData;
 use mail_bytes::Memory;
 use std::alloc::Global;
 
+/// Bytes that were drawn, and the x that follows.
+pub type Drawn = (Vec<u8>, u64);
+
 /// The draw that follows x.
 fn drawn(x: u64) -> u64
     requires { x < 2 ^ 32 }
@@ -54,12 +57,7 @@ fn junk_byte(values: &[u8], x: u64) -> (u8, u64)
 }
 
 /// The first bytes of a file, as many, and the x that follows.
-fn junk_bytes(
-    alloc: Global,
-    file: &FileData,
-    x: u64,
-    count: usize,
-) -> Result<(Vec<u8>, u64), Memory>
+fn junk_bytes(alloc: Global, file: &FileData, x: u64, count: usize) -> Result<Drawn, Memory>
     requires { x < 2 ^ 32 }
     ensures value { IfOk result (λ made. (made.0.items, made.1) ≡ junk_bytes file.now x count) }
     ensures small { IfOk result (λ made. made.1 < 2 ^ 32) }
@@ -77,7 +75,7 @@ fn junk_bytes(
 }
 
 /// A file's bytes, of a length that is drawn first, and the x that follows. The error: out of memory.
-pub fn junked(alloc: Global, file: &FileData, x: u64) -> Result<(Vec<u8>, u64), Memory>
+pub fn junked(alloc: Global, file: &FileData, x: u64) -> Result<Drawn, Memory>
     requires { x < 2 ^ 32 }
     ensures value { IfOk result (λ made. (made.0.items, made.1) ≡ junked file.now x) }
     ensures small { IfOk result (λ made. made.1 < 2 ^ 32) }

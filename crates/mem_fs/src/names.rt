@@ -1,5 +1,5 @@
 // The names of a disk in memory, in byte order, with their numbers.
-ghost use Rattle.std.specs.Prelude.{◌≡◌, ◌<◌, ◌+◌, ◌^◌, ◌++◌, ◌∷◌, ◌==◌, ℕ, List, length, Some, None, IsSome, IfSome, IfNone, IfOk, OnOk, OnErr, if◌then◌else◌};
+ghost use Rattle.std.specs.Prelude.{◌≡◌, ◌<◌, ◌≤◌, ◌+◌, ◌^◌, ◌++◌, [], ◌∷◌, ◌==◌, ℕ, List, length, Some, None, IsSome, IfSome, IfNone, IfOk, OnOk, OnErr, if◌then◌else◌};
 ghost use Rattle.call_fs.specs.Maps.{put_at};
 ghost use Rattle.call_fs.specs.Disk.{Disk};
 ghost use Rattle.call_fs.specs.Apply.{IsNextName, IsLastName};
@@ -15,6 +15,9 @@ use std::ops::Bound;
 
 /// The names with their numbers.
 pub type Names = BTreeMap<Vec<u8>, u64>;
+
+/// What is left of a walk over them.
+type Rest<'a> = Range<'a, Vec<u8>, u64>;
 
 /// The number of a name.
 pub fn number_of(names: &Names, name: &[u8]) -> Option<u64>
@@ -62,12 +65,7 @@ fn joined(alloc: Global, dir: &[u8], part: &[u8]) -> Result<Vec<u8>, Memory>
 }
 
 /// The names from that one in the directory on, without it. If memory runs out, all names.
-fn rest_after<'a>(
-    alloc: Global,
-    names: &'a Names,
-    dir: &[u8],
-    after: &[u8],
-) -> Range<'a, Vec<u8>, u64>
+fn rest_after<'a>(alloc: Global, names: &'a Names, dir: &[u8], after: &[u8]) -> Rest<'a>
     ensures { IsRest (texts names.now.entries) dir.now after.now (texts result) }
 {
     match joined(alloc, dir, after) {
@@ -76,22 +74,45 @@ fn rest_after<'a>(
     }
 }
 
-/// The least name in a directory after that one.
-pub fn next<'a>(alloc: Global, names: &'a Names, dir: &[u8], after: &[u8]) -> Option<&'a [u8]>
-    ensures some { IfSome result (λ name. (d : Disk) → d.names ≡ at_name (texts names.now.entries)
-        → IsNextName d dir.now after.now name.now) }
-    ensures none { IfNone result ((d : Disk) → d.names ≡ at_name (texts names.now.entries)
-        → IsLastName d dir.now after.now) }
+/// A text after all names below a directory in the directory, and before what comes after them: `0` is the byte after `/`.
+fn end_of(alloc: Global, dir: &[u8], subdir: &[u8]) -> Result<Vec<u8>, Memory>
+    ensures { IfOk result (λ end. end.items ≡ dir.now ++ 47 ∷ (subdir.now ++ 48 ∷ [])) }
 {
-    for (name, _) in rest_after(alloc, names, dir, after) {
+    let mut end = joined(alloc, dir, subdir)?;
+    end.push(b'0')?;
+    Ok(end)
+}
+
+/// What is left after a name below the directory, without what else is below the same directory in there. If memory runs
+/// out, all that is left.
+fn beyond<'a>(alloc: Global, names: &'a Names, dir: &[u8], below: &[u8], rest: Rest<'a>) -> Rest<'a>
+    ensures { (after : List ℕ) (number : ℕ) → IsRest (texts names.now.entries) dir.now after ((dir.now ++ 47 ∷ below.now, number) ∷ texts rest.entry)
+        → IsRest (texts names.now.entries) dir.now after (texts rest.entry)
+        → IsRest (texts names.now.entries) dir.now after (texts result) × (length result ≤ length rest.entry) }
+{
+    let Some(at) = part::place_of_slash(below) else {
+        return rest;
+    };
+    match end_of(alloc, dir, &below[..at]) {
+        Ok(end) => names.range((Bound::Included(&end), Bound::Unbounded)),
+        Err(_) => rest,
+    }
+}
+
+/// The least name in a directory after that one. It looks at each subdirectory before it once, however much is in there.
+pub fn next<'a>(alloc: Global, names: &'a Names, dir: &[u8], after: &[u8]) -> Option<&'a [u8]>
+    ensures some { IfSome result (λ name. (d : Disk) → d.names ≡ at_name (texts names.now.entries) → IsNextName d dir.now after.now name.now) }
+    ensures none { IfNone result ((d : Disk) → d.names ≡ at_name (texts names.now.entries) → IsLastName d dir.now after.now) }
+{
+    let mut rest = rest_after(alloc, names, dir, after);
+    while let Some((name, _)) = rest.next() {
         let name = name.as_slice();
         if part::compare(name, dir, after).is_gt() {
-            if let Some(part) = part::part_of(name, dir) {
-                return Some(part);
+            let below = part::below(name, dir)?;
+            if part::is_part(below) {
+                return Some(below);
             }
-            if !part::is_below(name, dir) {
-                return None;
-            }
+            rest = beyond(alloc, names, dir, below, rest);
         }
     }
     None

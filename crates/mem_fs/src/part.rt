@@ -1,5 +1,5 @@
 // Names of one directory.
-ghost use Rattle.std.specs.Prelude.{◌≡◌, ◌≤◌, ◌++◌, ◌∷◌, List, ℕ, Contains, IfSome, IfNone, IsTrue, ◌↔◌, length};
+ghost use Rattle.std.specs.Prelude.{◌≡◌, ◌≤◌, ◌++◌, ◌∷◌, List, ℕ, Contains, IfSome, IfNone, IsTrue, ◌↔◌, ◌==◌, length, position};
 ghost use Rattle.std.specs.Ordering.{nat_cmp, ordering_then};
 ghost use Rattle.std.specs.Cmp.Lexicographic.{slice_cmp};
 ghost use Rattle.call_fs.specs.Disk.{dir_of};
@@ -25,31 +25,28 @@ pub fn dir_of(name: &[u8]) -> &[u8]
     &name[..end.saturating_sub(1)]
 }
 
-/// What stands after the directory and a `/`, if it is one part of a name.
-pub fn part_of<'a>(name: &'a [u8], dir: &[u8]) -> Option<&'a [u8]>
-    ensures found { IfSome result (λ part. (name.now ≡ dir.now ++ 47 ∷ part.now) × (¬ (Contains part.now 47)) × (length part.now ≤ 255)) }
-    ensures none { IfNone result ((part : List ℕ) → name.now ≡ dir.now ++ 47 ∷ part → ¬ (Contains part 47) → length part ≤ 255 → ⊥) }
+/// What stands after the directory and a `/`.
+pub fn below<'a>(name: &'a [u8], dir: &[u8]) -> Option<&'a [u8]>
+    ensures found { IfSome result (λ rest. name.now ≡ dir.now ++ 47 ∷ rest.now) }
+    ensures none { IfNone result ((rest : List ℕ) → ¬ (name.now ≡ dir.now ++ 47 ∷ rest)) }
 {
     let rest = name.strip_prefix(dir)?;
-    let (first, part) = rest.split_first()?;
-    if *first == b'/' && part.len() <= 255 && !part.contains(&b'/') {
-        Some(part)
-    } else {
-        None
-    }
+    let (first, below) = rest.split_first()?;
+    if *first == b'/' { Some(below) } else { None }
 }
 
-/// Whether a name begins with the directory and a `/`.
-pub fn is_below(name: &[u8], dir: &[u8]) -> bool
-    ensures { IsTrue result ↔ ((rest : List ℕ) × (name.now ≡ dir.now ++ 47 ∷ rest)) }
+/// Whether it can be one part of a name.
+pub fn is_part(text: &[u8]) -> bool
+    ensures { IsTrue result ↔ ((¬ (Contains text.now 47)) × (length text.now ≤ 255)) }
 {
-    let Some(rest) = name.strip_prefix(dir) else {
-        return false;
-    };
-    match rest.split_first() {
-        Some((first, _)) => *first == b'/',
-        None => false,
-    }
+    text.len() <= 255 && !text.contains(&b'/')
+}
+
+/// The place of the first `/`.
+pub fn place_of_slash(text: &[u8]) -> Option<usize>
+    ensures { result ≡ position (λ b. b == 47) text.now }
+{
+    text.iter().position(|b| *b == b'/')
 }
 
 /// How a name compares with the name of a part in a directory.

@@ -1,7 +1,6 @@
 // Which calls are to fail.
 ghost use Rattle.std.specs.Prelude.{◌≡◌, ◌↔◌, Contains, IsErr, IsOkUnless, OnErr, ◌≤◌, is_err, if◌then◌else◌};
-ghost use Rattle.mail_bytes.specs.Told.{Rose};
-ghost use Rattle.mail_bytes.specs.Told.{raised};
+ghost use Rattle.mail_bytes.specs.Told.{Rose, raised};
 
 use call_fs::FsError;
 

@@ -13,10 +13,11 @@ ghost use Rattle.call_fs.specs.Free.{IsFree, IsLeastFree, IsNextDescriptor};
 ghost use Rattle.mem_fs.specs.MemDisk.{disk_of, held_nothing, IsOpenOn, bytes_at, IsGreatestFree, NoneFree, AllOpen, with_dir, Places, PlacesNew};
 
 use crate::file::{FileData, Inode};
+use crate::files::{self, Files};
 use crate::free::Free;
 use crate::names::Names;
 use crate::open_file::OpenFile;
-use crate::{files, free, halt, names, numbers, part};
+use crate::{free, halt, names, numbers, part};
 use call_fs::{Fd, How, Stat, Survival, is_name};
 use mail_bytes::{ByteText, Memory};
 use std::alloc::{AllocError, Global};
@@ -30,7 +31,7 @@ use std::marker::Model;
 pub struct Store {
     dirs: Vec<ByteText>,
     names: Names,
-    files: Vec<(u64, Inode)>,
+    files: Files,
     opens: Vec<(u64, OpenFile)>,
     free: Free,
     low: u64,
@@ -159,8 +160,7 @@ impl Store {
     pub fn open(&mut self, name: &[u8], how: How, fd: Fd) -> Result<(), Memory>
         requires there { IsSome ((disk_of self.old).names name.now) }
         requires descriptor { IsNextDescriptor (disk_of self.old) fd.0 }
-        ensures ok { OnOk result (disk_of self.new
-            ≡ effect (disk_of self.old) 0 (call.Open name.now how) (answer.Opened fd) 0) }
+        ensures ok { OnOk result (disk_of self.new ≡ effect (disk_of self.old) 0 (call.Open name.now how) (answer.Opened fd) 0) }
         ensures err { OnErr result (self.new ≡ self.old) }
     {
         let number = names::number_of(&self.names, name).unwrap();
@@ -185,8 +185,7 @@ impl Store {
     pub fn write_at(&mut self, now: u64, fd: Fd, at: u64, bytes: &[u8]) -> Result<(), Memory>
         requires moment { IsMoment now }
         requires open { IsSome ((disk_of self.old).opens fd.0) }
-        ensures ok { OnOk result (disk_of self.new
-            ≡ effect (disk_of self.old) now (call.WriteAt fd at bytes.now) answer.Done 0) }
+        ensures ok { OnOk result (disk_of self.new ≡ effect (disk_of self.old) now (call.WriteAt fd at bytes.now) answer.Done 0) }
         ensures err { OnErr result (self.new ≡ self.old) }
     {
         let number = self.opened(fd);
@@ -268,8 +267,7 @@ impl Store {
 
     /// The file of a name.
     fn file_of(&self, name: &[u8]) -> Option<(u64, &FileData)>
-        ensures { ((disk_of self.now).names name.now ≡ option_map (λ f. f.0) result)
-            × IfSome result (λ f. f.1.now ≡ (disk_of self.now).files f.0) }
+        ensures { ((disk_of self.now).names name.now ≡ option_map (λ f. f.0) result) × IfSome result (λ f. f.1.now ≡ (disk_of self.now).files f.0) }
     {
         let number = names::number_of(&self.names, name)?;
         let inode = numbers::value_of(&self.files, number).unwrap();

@@ -6,6 +6,7 @@ use Rattle.outside.specs.declared.sink.Gave.{Gave}
 use Rattle.outside.specs.declared.sink.Gave.TheVariants as gave
 use Rattle.outside.specs.declared.spawner.Status.{Status}
 use Rattle.outside.specs.declared.spawner.Status.TheVariants as status
+use Rattle.proc_runner.specs.declared.line.Line.{Line}
 use Rattle.proc_runner.specs.declared.start.Start.{Start}
 use Rattle.proc_runner.specs.declared.system.Exit.{Exit}
 use Rattle.proc_runner.specs.declared.system.Exit.TheVariants as exit
@@ -22,6 +23,15 @@ IsStatus ended status.Failed = Unit {0}
 abbrev pub JoinsFed : List ℕ → Gave → Feeding → Feeding → Type 0
 JoinsFed bytes gave.Done before after = (after ≡ after_feeding true bytes before) × (before.is_open ≡ true)
 JoinsFed bytes gave.Failed before after = after ≡ after_feeding false bytes before
+
+-- for how long the child of a line may run on after its input ended
+abbrev pub limit_of : Line → ℕ
+limit_of line = line.drain
+
+-- The child that a start gave may run on for so long after its input ended, and the others as before.
+abbrev pub HasLimit : ℕ → Started → List ℕ → List ℕ → Type 0
+HasLimit limit (started.Chan chan pid) old new = new ≡ old ++ limit ∷ []
+HasLimit limit other old new = new ≡ old
 
 module _ {P : Type 0} where
   -- a child: its channel, its process, and what it was fed

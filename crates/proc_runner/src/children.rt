@@ -7,7 +7,7 @@ ghost use Rattle.outside.specs.Forms.{channels};
 ghost use Rattle.outside.specs.Streams.{CountsFailures};
 ghost use Rattle.child_input.specs.Feedings.{feeding_of, nothing_fed};
 ghost use Rattle.proc_runner.specs.Ends.{IsTold};
-ghost use Rattle.proc_runner.specs.Running.{EndsInput, Feeds, RunsMore, TellsStatus, child};
+ghost use Rattle.proc_runner.specs.Running.{EndsInput, Feeds, HasLimit, RunsMore, TellsStatus, child, limit_of};
 
 use crate::desk::{Desk, ToRead, Work, run_desk};
 use crate::line::Line;
@@ -56,10 +56,13 @@ struct Made {
 }
 
 impl Made {
-    fn new(alloc: Global) -> Result<Made, Memory>
-        ensures { IfOk result (λ made. feeding_of made.feeder.pass.me.view.client made.feeder.is_open ≡ nothing_fed) }
+    /// For a child that may run on for so many milliseconds after its input ended.
+    fn new(alloc: Global, drain: u64) -> Result<Made, Memory>
+        ensures fed { IfOk result (λ made. feeding_of made.feeder.pass.me.view.client made.feeder.is_open ≡ nothing_fed) }
+        ensures drain { IfOk result (λ made. (arc_value made.line).drain ≡ drain) }
+        ensures shared { IfOk result (λ made. (arc_value made.theirs ≡ arc_value made.line) × (arc_value made.also ≡ arc_value made.line)) }
     {
-        let line = Arc::new(alloc, Line::new())?;
+        let line = Arc::new(alloc, Line::new(drain))?;
         let theirs = Arc::try_clone(&line)?;
         let also = Arc::try_clone(&line)?;
         let (feeder, writer) = feed_ends(alloc)?;
@@ -74,7 +77,9 @@ impl Made {
 }
 
 /// A process twice more.
-fn twice<P: Process>(process: &Arc<P, Global>) -> Result<(Arc<P, Global>, Arc<P, Global>), Memory> {
+fn twice<P: Process>(process: &Arc<P, Global>) -> Result<(Arc<P, Global>, Arc<P, Global>), Memory>
+    ensures { IfOk result (λ both. (arc_value both.0 ≡ arc_value process.now) × (arc_value both.1 ≡ arc_value process.now)) }
+{
     let one = Arc::try_clone(process)?;
     let two = Arc::try_clone(process)?;
     Ok((one, two))
@@ -90,6 +95,7 @@ pub struct Children<R: Drop, S: System> {
     desk: Arc<Desk<S::Process, S::Input, S::Output>, Global>,
     count: u32,
     running: Vec<Running<S>>,
+    drain: u64,
     faults: u64,
 }
 
@@ -107,10 +113,12 @@ where
         ensures running { IfOk result (λ children. children.running.items ≡ []) }
         ensures faults { IfOk result (λ children. children.faults ≡ 0) }
         ensures system { IfOk result (λ children. children.system ≡ system) }
+        ensures opener { IfOk result (λ children. children.readers.opener ≡ opener) }
+        ensures drain { IfOk result (λ children. children.drain ≡ drain) }
     {
         let desk = Arc::new(alloc, Desk::new(alloc))?;
         let theirs = Arc::try_clone(&desk)?;
-        let begun = thread::spawn(&rt, move || run_desk(rt, &theirs, drain));
+        let begun = thread::spawn(&rt, move || run_desk(rt, &theirs));
         if begun.is_err() {
             return Err(AllocError);
         }
@@ -125,6 +133,7 @@ where
             desk,
             count: 0,
             running: Vec::new(alloc),
+            drain,
             faults: 0,
         })
     }
@@ -148,7 +157,7 @@ impl<R: Wait + Drop, S: System> Children<R, S> {
     fn count_failure(&mut self)
         ensures later { self.old.faults ≤ self.new.faults }
         ensures rose { Rose self.old.faults self.new.faults }
-        ensures same { (self.new.running.items ≡ self.old.running.items) × (self.new.count ≡ self.old.count) }
+        ensures same { (self.new.running.items ≡ self.old.running.items) × (self.new.count ≡ self.old.count) × (self.new.drain ≡ self.old.drain) }
     {
         self.faults = self.faults.saturating_add(1);
     }
@@ -158,15 +167,16 @@ impl<R: Wait + Drop, S: System> Children<R, S> {
         ensures ran { IfOk result (λ started. RunsMore (S.gives self.old.system) (map (λ w. w.now) words.now) started
             (map (λ r. child r.chan (arc_value r.process) (feeding_of r.feeder.pass.me.view.client r.feeder.is_open)) self.old.running.items) (map (λ r. child r.chan (arc_value r.process) (feeding_of r.feeder.pass.me.view.client r.feeder.is_open)) self.new.running.items)) }
         ensures chan { IfOk result (λ started. Starts started (channels self.old.count) (channels self.new.count)) }
+        ensures drain { IfOk result (λ started. HasLimit self.old.drain started (map (λ r. limit_of (arc_value r.line)) self.old.running.items) (map (λ r. limit_of (arc_value r.line)) self.new.running.items)) }
         ensures memory { OnErr result ((self.new.running.items ≡ self.old.running.items) × (self.new.count ≡ self.old.count)) }
-        ensures same { self.new.faults ≡ self.old.faults }
+        ensures same { (self.new.faults ≡ self.old.faults) × (self.new.drain ≡ self.old.drain) }
     {
         let Some(start) = Start::of(words) else {
             return Ok(Started::Failed);
         };
         self.running.reserve(1)?;
         self.desk.reserve(&self.rt)?;
-        let made = Made::new(self.alloc)?;
+        let made = Made::new(self.alloc, self.drain)?;
         let Some(reader) = self.readers.next()? else {
             return Ok(Started::Failed);
         };
@@ -202,6 +212,7 @@ fn adopt<R: Wait, S: System>(
     ensures chan { IfOk result (λ child. child.chan ≡ reader.chan) }
     ensures process { IfOk result (λ child. arc_value child.process ≡ arc_value born.process) }
     ensures feeder { IfOk result (λ child. child.feeder ≡ made.feeder) }
+    ensures line { IfOk result (λ child. child.line ≡ made.line) }
 {
     let Made {
         line,
@@ -278,6 +289,8 @@ impl<R: Wait + Drop, S: System> Spawner for Children<R, S> {
     fn start(&mut self, alloc: Global, words: &[&[u8]]) -> Started
         ensures chan { Starts result (channels self.old.count) (channels self.new.count) }
         ensures cause { CountsFailures self.old.faults self.new.faults (result ≡ Started.Failed) }
+        ensures drain { HasLimit self.old.drain result (map (λ r. limit_of (arc_value r.line)) self.old.running.items) (map (λ r. limit_of (arc_value r.line)) self.new.running.items) }
+        ensures kept { self.new.drain ≡ self.old.drain }
         ensures ran { RunsMore (S.gives self.old.system) (map (λ w. w.now) words.now) result
             (map (λ r. child r.chan (arc_value r.process) (feeding_of r.feeder.pass.me.view.client r.feeder.is_open)) self.old.running.items) (map (λ r. child r.chan (arc_value r.process) (feeding_of r.feeder.pass.me.view.client r.feeder.is_open)) self.new.running.items) }
     {

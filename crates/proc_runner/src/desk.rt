@@ -92,12 +92,12 @@ pub(crate) fn run_desk<
     P: Process + Send + Sync + 'static,
     I: Write + Send + Drop + 'static,
     O: Readable + Send + 'static,
->(rt: R, desk: &Desk<P, I, O>, drain: u64) {
+>(rt: R, desk: &Desk<P, I, O>) {
     for _ in rt.forever() {
         let seen = desk.changes.load(Ordering::SeqCst);
         match desk.take(&rt) {
             Some(Work::Read(work)) => begin_reader(rt, work),
-            Some(Work::Write(work)) => begin_writer(rt, work, drain),
+            Some(Work::Write(work)) => begin_writer(rt, work),
             None => desk.changes.park(&rt, low_half(seen)),
         }
     }
@@ -136,7 +136,7 @@ fn begin_writer<
     R: Threads + Wait + Copy + Send + Drop + 'static,
     P: Process + Send + Sync + 'static,
     I: Write + Send + Drop + 'static,
->(rt: R, work: ToWrite<P, I>, drain: u64) {
+>(rt: R, work: ToWrite<P, I>) {
     let ToWrite {
         line,
         also,
@@ -145,9 +145,7 @@ fn begin_writer<
         writer,
         input,
     } = work;
-    let watching = thread::spawn(&rt, move || {
-        watch_child(&rt, &also, process.as_ref(), drain)
-    });
+    let watching = thread::spawn(&rt, move || { watch_child(&rt, &also, process.as_ref()) });
     if watching.is_err() {
         kept.kill();
     }

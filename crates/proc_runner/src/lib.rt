@@ -39,6 +39,7 @@
 //! - A start, a feeding and a status of `Children` are those of the child of this channel and no other (by `RunsMore`, `Feeds`,
 //!   `EndsInput`, `TellsStatus`). All bytes of a feeding that was done stand behind what the child was fed before; after one
 //!   that failed each fails, and is counted.
+//! - Each child that is started has the limit that `Children::new` was given (`HasLimit`).
 //!
 //! It isn't claimed that what was fed is ever written, that a child whose feeding failed ends, nor that a limit ends it. That a
 //! child is handed the writer of its own feeder is told by no clause, since it goes through a lock: tests show it.

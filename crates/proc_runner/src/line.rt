@@ -12,10 +12,12 @@ use std::time::Duration;
 /// How long a watcher sleeps at most before it looks again, in milliseconds.
 const LOOK: u64 = 1000;
 
-/// A child's reader, until that reads; whether it is through; whether the child's input was ended; and a count of what is done.
+/// A child's reader, until that reads; for how many milliseconds the child may run on after its input ended; whether the reader is
+/// through; whether the child's input was ended; and a count of what is done.
 #[derive(Drop)]
 pub(crate) struct Line {
     pub(crate) reader: Mutex<Option<Reader>>,
+    drain: u64,
     over: AtomicU64,
     ended: AtomicU64,
     moves: AtomicU64,
@@ -23,9 +25,12 @@ pub(crate) struct Line {
 
 impl Line {
     /// No reader yet. Takes no memory.
-    pub(crate) fn new() -> Self {
+    pub(crate) fn new(drain: u64) -> Self
+        ensures { result.drain ≡ drain }
+    {
         Line {
             reader: Mutex::new(None),
+            drain,
             over: AtomicU64::new(0),
             ended: AtomicU64::new(0),
             moves: AtomicU64::new(0),
@@ -60,10 +65,10 @@ impl Line {
         }
     }
 
-    /// Waits until the child has ended, and from the end of its input on at most so many milliseconds after something was
+    /// Waits until the child has ended, and from the end of its input on no longer than it may run on after something was
     /// written there. Answers whether it has ended.
-    fn watch<R: Wait>(&self, rt: &R, most: u64) -> bool {
-        let mut left = most;
+    fn watch<R: Wait>(&self, rt: &R) -> bool {
+        let mut left = self.drain;
         for _ in rt.forever() {
             let seen = self.moves.load(Ordering::SeqCst);
             if self.over.load(Ordering::SeqCst) != 0 {
@@ -74,21 +79,21 @@ impl Line {
             } else if left == 0 {
                 return false;
             } else {
-                left = self.after_nap(rt, seen, left, most);
+                left = self.after_nap(rt, seen, left);
             }
         }
         unreachable!()
     }
 
     /// Sleeps until something is done, or for a while. Answers what is left of the time.
-    fn after_nap<R: Wait>(&self, rt: &R, seen: u64, left: u64, most: u64) -> u64 {
+    fn after_nap<R: Wait>(&self, rt: &R, seen: u64, left: u64) -> u64 {
         let slice = left.min(LOOK);
         self.moves
             .park_timeout(rt, low_half(seen), Duration::from_millis(slice));
         if self.moves.load(Ordering::SeqCst) == seen {
             left - slice
         } else {
-            most
+            self.drain
         }
     }
 }
@@ -122,10 +127,10 @@ pub(crate) fn run_writer<R: Wait, I: Write + Drop>(rt: &R, line: &Line, writer: 
     line.tell();
 }
 
-/// What a child's watcher does: it ends the child if it runs on for longer than this after its input was ended, in
-/// milliseconds, also if it reads no more of it.
-pub(crate) fn watch_child<R: Wait, P: Process>(rt: &R, line: &Line, process: &P, drain: u64) {
-    if !line.watch(rt, drain) {
+/// What a child's watcher does: it ends the child if it runs on for longer than it may after its input was ended, also if it reads
+/// no more of it.
+pub(crate) fn watch_child<R: Wait, P: Process>(rt: &R, line: &Line, process: &P) {
+    if !line.watch(rt) {
         process.kill();
     }
 }

@@ -1,5 +1,5 @@
 // A child that runs.
-ghost use Rattle.std.specs.Prelude.{◌≡◌, true};
+ghost use Rattle.std.specs.Prelude.{◌≡◌, IfOk, true};
 ghost use Rattle.std.specs.Arc.{arc_value};
 ghost use Rattle.child_input.specs.Feedings.{after_end, after_feeding, feeding_of};
 ghost use Rattle.proc_runner.specs.Ends.{IsTold};
@@ -39,7 +39,10 @@ impl<S: System> Running<S> {
         &self,
         rt: &R,
         desk: &Desk<S::Process, S::Input, S::Output>,
-    ) -> Result<ToShare<S::Process>, Memory> {
+    ) -> Result<ToShare<S::Process>, Memory>
+        ensures lines { IfOk result (λ shared. (arc_value shared.0 ≡ arc_value self.now.line) × (arc_value shared.1 ≡ arc_value self.now.line)) }
+        ensures processes { IfOk result (λ shared. (arc_value shared.2 ≡ arc_value self.now.process) × (arc_value shared.3 ≡ arc_value self.now.process)) }
+    {
         desk.reserve(rt)?;
         let line = Arc::try_clone(&self.line)?;
         let also = Arc::try_clone(&self.line)?;

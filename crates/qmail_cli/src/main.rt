@@ -2,14 +2,23 @@
 //! public call; if memory runs out before the call it is 51.
 #![tactic(auto)]
 
+mod working;
+
 use host_streams::status_of;
 use qmail_process::{run, words_of};
 use qmail_top::Qmail;
 use std::process::ExitCode;
+use working::{is_work, work};
 
 fn main(rt: HostRuntime) -> ExitCode {
     let called = match words_of(&rt, rt.alloc()) {
-        Ok(words) => run(&Qmail, &rt, rt, rt.alloc(), &words),
+        Ok(words) => {
+            if is_work(rt.alloc(), &words) {
+                work(&rt, &rt, rt.alloc(), &words)
+            } else {
+                run(&Qmail, &rt, rt, rt.alloc(), &words)
+            }
+        }
         Err(why) => Err(why),
     };
     ExitCode::from(status_of(called))

@@ -1,5 +1,6 @@
 -- What a command does with its input.
-use Rattle.std.proofs.Common.{◌≡◌, ◌≢◌, ◌⊎◌, ℕ, List, [], ◌++◌, length, Option, Some, None, Result, Err, inl, inr, refl, sym, ◌∙◌, ap, subst, ⊎_elim, arith, length-append, ◌<◌}
+use Rattle.std.specs.List.{list_all}
+use Rattle.std.proofs.Common.{◌≡◌, ◌≢◌, ◌⊎◌, ℕ, true, List, [], ◌++◌, length, Option, Some, None, Result, Err, inl, inr, refl, sym, ◌∙◌, ap, subst, ⊎_elim, arith, length-append, ◌<◌}
 use Rattle.std.proofs.lemmas.List.{append-nil}
 use Rattle.mail_bytes.specs.Told.{Rose, Meets, OnTold}
 use Rattle.script_lines.specs.Contents.{Content}
@@ -11,9 +12,10 @@ use Rattle.mail_world.specs.History.{Legal}
 use Rattle.program_law.proofs.Sender.Exist.{controls_exist}
 use Rattle.world_law.proofs.Alone.{stays_safe}
 use Rattle.world_law.proofs.Promise.{headline}
-use Rattle.qmail_top.specs.SafePlays.{IsSafePrefixAtMost, PrintsSafely}
+use Rattle.qmail_top.specs.SafePlays.{IsSafePrefixAtMost, PrintsSafely, WorksSafely}
 use Rattle.qmail_top.specs.Command.{Counted, HasReason, status_of, IsReading, IsChecked}
 use Rattle.scenario.specs.Deeds.{history_of}
+use Rattle.scenario.specs.Working.{PrintsWorked, deeds_of, is_quiet}
 use Rattle.scenario.specs.Text.{BeginsAtMost, IsPrefixAtMost, Prints, script_line, IsTakenText, PrintsBadLine}
 use Rattle.script_lines.proofs.Scripts.{no_refusal}
 use Rattle.scenario.proofs.WholePlays.{prefix_at_most}
@@ -99,6 +101,19 @@ pub all_safely : (done : Type 0) (left old new : Option (List ℕ))
     → OnTold left (λ script. done → Meets old new (λ before after. (text : List ℕ) × PrintsSafely script text × (after ≡ before ++ text)))
 all_safely done None old new prints = tt
 all_safely done (Some script) old new prints = λ is. told_weaker old new (λ before after taken. (taken.0, safely script taken.0 taken.1, taken.2)) prints
+
+-- so is the history of what `work` does
+pub works_safely : (script text : List ℕ) (prints : PrintsWorked script text) → list_all is_quiet (history_of (deeds_of prints.content.opening prints.content.lines text prints.worked)) ≡ true → WorksSafely script text
+works_safely script text prints quiet =
+    let p = prints.worked in
+    let has = controls_exist p.disk in
+    record {
+      prints = prints;
+      quiet = quiet;
+      controls = has.0;
+      has = has.1;
+      safe = λ later before is. headline has.0 p.disk later before has.1 (subst (Legal p.disk) (sym is) p.end.legal);
+    }
 
 prefix_safely : (script text : List ℕ) → IsPrefixAtMost script text → IsSafePrefixAtMost script text
 prefix_safely script text prefix = ⊎_elim (λ none. inl none) (λ some. inr (some.0, safely script some.0 some.1, some.2)) prefix

@@ -10,3 +10,7 @@ pub mod Spawners
 pub mod Senders
 -- what `make` comes to
 pub mod Made
+-- what turns of threads made of a script's world
+pub mod Working
+-- what the command `work` did
+pub mod Works

@@ -6,3 +6,5 @@ pub mod SafePlays
 pub mod Families
 -- the command that makes a script
 pub mod Making
+-- the command `work`
+pub mod Works

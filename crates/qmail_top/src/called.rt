@@ -1,12 +1,12 @@
 // The one public call, for what lends it the real things.
 
-use crate::top::qmail;
+use crate::alone::qmail_alone;
 use call_fs::CallFs;
 use outside::{Clock, Gate, Posts, Sink, Source, Spawner};
 use std::alloc::Global;
 use top_call::TopCall;
 
-/// The call `qmail`.
+/// The call `qmail_alone`.
 #[derive(Clone, Copy)]
 pub struct Qmail;
 
@@ -23,7 +23,7 @@ impl TopCall for Qmail {
         G: Gate,
     >(
         &self,
-        rt: &HostRuntime,
+        _rt: &HostRuntime,
         alloc: Global,
         words: &[String],
         disk: &mut D,
@@ -36,8 +36,8 @@ impl TopCall for Qmail {
         spawn: &mut S,
         gate: &G,
     ) -> u8 {
-        qmail(
-            rt, alloc, words, disk, message, envelope, out, log, clock, posts, spawn, gate,
+        qmail_alone(
+            alloc, words, disk, message, envelope, out, log, clock, posts, spawn, gate,
         )
     }
 }

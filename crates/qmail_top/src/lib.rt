@@ -1,7 +1,9 @@
-//! The one public call, `qmail`: reads its words, and does what they say over what it is handed in.
+//! The one public call, `qmail`: reads its words, and does what they say over what it is handed in. Only `work` starts threads and
+//! waits for them; `qmail_alone` is the same call for all other words, without the two handles for that.
 //!
 //! The command `play` reads a script of mails and steps, and plays it over a disk in memory; the crate `scenario` says
-//! what a script is and what it prints. `make` prints a script of many mails (the crate `script_maker`). `queue` puts a
+//! what a script is and what it prints. `work` runs the mails of a script by threads (`actor_runner`). `make` prints a script
+//! of many mails (the crate `script_maker`). `queue` puts a
 //! message into a queue (`queue_command`), `audit` prints what a queue holds (`audit_command`), and `clean` runs the
 //! cleaner (`clean_command`). `lspawn` and `rspawn` run the spawners (`spawn_command`), and `local` makes a local delivery
 //! (`local_command`). `send` starts the cleaner and the spawners, and is the sender (`send_command`). The exit statuses are
@@ -9,6 +11,8 @@
 //!
 //! # What is claimed
 //!
+//! - Of every command but `work`, `qmail_alone` claims what `qmail` does, and it returns if what it is handed in does. At the words
+//!   of `work` it ends with 84 or 51 and leaves everything untouched: `qmail_alone`: `unworked`.
 //! - 100 only if the words are no command, or of `local`, and for no command 100 or 51. At that 100 the log took the line
 //!   `usage`, or a prefix of it if it failed. What each command leaves untouched: `qmail`: `usage`, `no_command`, `usage_line`,
 //!   and those of "untouched".
@@ -34,8 +38,15 @@
 //! - `play`: 91 only if the script isn't one, and then never 0 or 53; 53 and 54 only if that count rose, or stands
 //!   at its last value, and 51 only if neither did. A script that was read gives 0 or 51 if no count rose: `qmail`:
 //!   `malformed`, `checked`, `output`, `input`, `unfailed`, `complete`, `known`.
+//! - `work`: with status 0 the output took a line for each event of a history, and then what `show` prints of it. The history begins
+//!   with the script's disk, its mails in their order and a generation, goes on with steps of actors in some order, in which each
+//!   mail ends, and ends with `settle K`. It is legal, and as promised at each prefix; nothing in it failed, and no moment, stop or
+//!   machine stop came. The other statuses are those of `play`: `qmail`: `work` (by `WasWorked`), `unused`; the laws
+//!   `turns_are_steps`, `work_is_quiet`. That a run comes to its end isn't claimed, nor that two threads ever run at once.
 #![tactic(auto)]
 
+mod alone;
+mod around_threads;
 mod called;
 mod laws;
 mod making;
@@ -43,8 +54,10 @@ mod play_command;
 mod refusing;
 mod sending;
 mod top;
+mod work_command;
 
+pub use alone::qmail_alone;
 pub use called::Qmail;
 pub use command_words::{Places, places};
-pub use laws::children_are_commands;
+pub use laws::{children_are_commands, turns_are_steps, work_is_quiet};
 pub use top::qmail;

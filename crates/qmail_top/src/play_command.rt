@@ -51,7 +51,7 @@ pub fn play_script<M: Source, O: Sink>(alloc: Global, message: &mut M, out: &mut
 
 /// Why a command didn't do all its work.
 #[derive(Clone, Copy)]
-enum Failure {
+pub(crate) enum Failure {
     /// Out of memory.
     Memory,
     /// The output failed.
@@ -74,7 +74,7 @@ impl From<AllocError> for Failure {
 }
 
 /// The exit status of a failure.
-fn status_of(why: Failure) -> u8
+pub(crate) fn status_of(why: Failure) -> u8
     ensures { result ≡ status_of why }
 {
     match why {
@@ -127,7 +127,7 @@ fn play_message<M: Source, O: Sink>(
 }
 
 /// Reads a source to its end, or one byte past the most that a script may have.
-fn read_whole<M: Source>(alloc: Global, message: &mut M) -> Result<Vec<u8>, Failure>
+pub(crate) fn read_whole<M: Source>(alloc: Global, message: &mut M) -> Result<Vec<u8>, Failure>
     ensures tells { Meets (M.left message.old) (M.left message.new)
         (λ before after. (front : List ℕ) × (before ≡ front ++ after)) }
     ensures read { IfOk result (λ bytes. Meets (M.left message.old) (M.left message.new) (λ before after. IsReading before after bytes.items)) }

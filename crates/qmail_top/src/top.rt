@@ -11,29 +11,22 @@ ghost use Rattle.script_lines.specs.Contents.{Content};
 ghost use Rattle.script_lines.specs.Lines.{IsScript, IsRefused, most_bytes};
 ghost use Rattle.scenario.specs.Text.{IsTakenText, PrintsBadLine};
 ghost use Rattle.audit_command.specs.Audited.{HasAudited};
-ghost use Rattle.local_command.specs.Delivered.{WasDelivered};
-ghost use Rattle.local_parts.specs.Arguments.{local_args};
-ghost use Rattle.program_runner.specs.ChildWords.{dir_word, words_of};
 ghost use Rattle.program_runner.specs.Members.{uncounted};
 ghost use Rattle.qmail_top.specs.Families.{HasNoChannels, HasSent, IsDelivery, IsLocal, IsLspawn, IsParent, IsRspawn, IsSend, IsSender, IsSpawner, WasDelivery, WasLspawned, WasRspawned};
 ghost use Rattle.qmail_top.specs.Making.{HasMade, IsMake, IsMaker};
 ghost use Rattle.qmail_top.specs.SafePlays.{IsSafePrefixAtMost, PrintsSafely};
+ghost use Rattle.qmail_top.specs.Works.{IsWork, WasWorked};
 ghost use Rattle.qmail_top.specs.Command.{IsPlay, IsPrintedAtEnd, IsQueue, IsAudit, IsClean, HasRunQueue, NoneFailed, WasCleaned, usage_line};
 
-use crate::making::make_script;
-use crate::play_command::play_script;
-use crate::sending::be_sender;
-use audit_command::print_audit;
+use crate::alone::qmail_alone;
+use crate::work_command::work_script;
 use call_fs::CallFs;
-use clean_command::clean;
-use command_words::{Command, LocalWords, QueueWords, WordsError, read_words};
-use local_command::deliver;
+use command_words::{WordsError, threads_told};
 use outside::{Clock, Gate, Posts, Sink, Source, Spawner};
-use queue_command::{Form, inject};
 use queue_limits::{DONE, INPUT, MALFORMED, MEMORY, OUTPUT, USAGE};
-use received_line::Invoked;
-use spawn_command::{spawn_local, spawn_remote};
 use std::alloc::Global;
+use std::sync::Wait;
+use std::thread::Threads;
 
 /// Does what the words after the program's name say, and answers the exit status.
 ///
@@ -43,6 +36,11 @@ use std::alloc::Global;
 ///
 /// `make` prints a script of as many mails as it is told, drawn from a seed, to `out`. 0: all was printed. 51: out of memory. 53:
 /// `out` failed.
+///
+/// `work` reads and checks a script in the same way, and uses its lines `file`, `dir`, `mail` and `raw` alone. Over a disk in memory all
+/// mails and then a generation start. So many threads run the mails to their ends, and pass `gate` before each step; four more step
+/// the members, and pass it once. One thread at a time makes a step. When all have ended `settle K` is played. `out` gets a line for
+/// each event, and what `show` prints. Its statuses are those of `play`.
 ///
 /// `queue` injects the message that `message` gives, for the envelope that `envelope` gives, or if its word is `-` as
 /// the second netstring of `message`, into the queue on `disk`; its exit statuses are those of qmail-queue(8).
@@ -74,8 +72,10 @@ use std::alloc::Global;
 ///
 /// A command that waits for children rests at `gate`; the sender also between its turns. Other words write the line `usage` to
 /// `log`, with exit status 100. What a command doesn't use stays untouched.
+///
+/// Only `work` starts threads and waits for them; `qmail_alone` does every other command without, and ensures the same.
 pub fn qmail<
-    R,
+    R: Threads + Wait + Sync,
     D: CallFs,
     M: Source,
     E: Source,
@@ -84,7 +84,7 @@ pub fn qmail<
     K: Clock,
     P: Posts,
     S: Spawner,
-    G: Gate,
+    G: Gate + Sync,
 >(
     rt: &R,
     alloc: Global,
@@ -201,6 +201,12 @@ pub fn qmail<
         (λ script rest. result ≡ DONE → rest ≡ []) }
     ensures told_end { IsPlay words.now → result ≡ DONE → OnTold (M.ended message.new) (λ is. is ≡ true) }
 
+    // `work`: what it prints, and the causes of the statuses
+    ensures work { IsWork words.now → WasWorked
+        (record { left = M.left message.old; ended = M.ended message.old; input_faults = M.faults message.old; taken = O.taken out.old; output_faults = O.faults out.old })
+        (record { left = M.left message.new; ended = M.ended message.new; input_faults = M.faults message.new; taken = O.taken out.new; output_faults = O.faults out.new })
+        (out.new ≡ out.old) result }
+
     // what stays untouched
     ensures unread { IsNoCommand (map string_bytes words.now)
         ⊎ (IsMaker words.now ⊎ (IsAudit words.now ⊎ (IsSpawner words.now ⊎ IsSender words.now)))
@@ -216,96 +222,15 @@ pub fn qmail<
     ensures beside { (q : Wanted) → IsQueue words.now q → q.env ≡ None → envelope.new ≡ envelope.old }
     ensures clock { IsNoCommand (map string_bytes words.now) ⊎ (IsPlay words.now ⊎ (IsMaker words.now ⊎ IsAudit words.now))
         → clock.new ≡ clock.old }
+    ensures unused { IsWork words.now → (disk.new ≡ disk.old) × (envelope.new ≡ envelope.old) × (clock.new ≡ clock.old) }
     ensures posts { HasNoChannels words.now → posts.new ≡ posts.old }
     ensures spawn { HasNoChannels words.now → spawn.new ≡ spawn.old }
 {
-    match read_words(alloc, words) {
-        Ok(Command::Play) => play_script(alloc, message, out),
-        Ok(Command::Make(told)) => make_script(alloc, told, out),
-        Ok(Command::Queue(queue)) => queue_message(alloc, queue, disk, message, envelope, clock),
-        Ok(Command::Send(told)) => be_sender(alloc, told, disk, log, clock, posts, spawn, gate),
-        Ok(Command::Audit(_)) => print_audit(alloc, disk, out),
-        Ok(Command::Clean(_)) => clean(alloc, disk, message, out, clock),
-        Ok(Command::Lspawn(dir)) => {
-            spawn_local(alloc, dir.as_slice(), disk, clock, posts, spawn, out, gate)
-        }
-        Ok(Command::Rspawn(spawner)) => {
-            let program = spawner.program.as_slice();
-            spawn_remote(alloc, program, disk, clock, posts, spawn, out, gate)
-        }
-        Ok(Command::Local(told)) => {
-            deliver_message(alloc, told, disk, message, out, clock, posts, spawn, gate)
-        }
-        Err(WordsError::Usage) => {
-            let _ = log.give(b"usage\n");
-            USAGE
-        }
+    match threads_told(alloc, words) {
+        Ok(threads) => work_script(rt, alloc, threads, message, out, gate),
+        Err(WordsError::Usage) => qmail_alone(
+            alloc, words, disk, message, envelope, out, log, clock, posts, spawn, gate,
+        ),
         Err(WordsError::Memory) => MEMORY,
     }
-}
-
-/// Injects the message of the command `queue`.
-fn queue_message<D: CallFs, M: Source, E: Source, K: Clock>(
-    alloc: Global,
-    queue: QueueWords,
-    disk: &mut D,
-    message: &mut M,
-    envelope: &mut E,
-    clock: &mut K,
-) -> u8
-    ensures queued { HasRunQueue queue (K.pid clock.old)
-        (record { old = M.left message.old; new = M.left message.new; faults_old = M.faults message.old; faults_new = M.faults message.new })
-        (record { old = E.left envelope.old; new = E.left envelope.new; faults_old = E.faults envelope.old; faults_new = E.faults envelope.new })
-        (record { disk = D.disk disk.old; calls = D.calls disk.old; faults = D.faults disk.old; moments = K.calls clock.old })
-        (record { disk = D.disk disk.new; calls = D.calls disk.new; faults = D.faults disk.new; moments = K.calls clock.new })
-        result }
-    ensures beside { queue.env ≡ None → envelope.new ≡ envelope.old }
-{
-    let invoked = if queue.bounce {
-        Invoked::Bounce
-    } else {
-        Invoked::Uid(queue.uid)
-    };
-    let form = match queue.env {
-        Some(_) => Form::Beside,
-        None => Form::Netstrings,
-    };
-    inject(
-        alloc, queue.uid, invoked, form, disk, message, envelope, clock,
-    )
-}
-
-/// Makes the delivery of the command `local`.
-fn deliver_message<D: CallFs, M: Source, O: Sink, K: Clock, P: Posts, S: Spawner, G: Gate>(
-    alloc: Global,
-    told: LocalWords,
-    disk: &mut D,
-    message: &mut M,
-    out: &mut O,
-    clock: &mut K,
-    posts: &mut P,
-    spawn: &mut S,
-    gate: &G,
-) -> u8
-    ensures { WasDelivered (words_of (dir_word told.dir) []) (local_args told.words told.uid (K.pid clock.old))
-        (record { disk = D.disk disk.old; calls = D.calls disk.old; disk_faults = D.faults disk.old; moments = K.calls clock.old; last = K.last clock.old; left = M.left message.old; input_faults = M.faults message.old; taken = O.taken out.old; output_faults = O.faults out.old })
-        (record { disk = D.disk disk.new; calls = D.calls disk.new; disk_faults = D.faults disk.new; moments = K.calls clock.new; last = K.last clock.new; left = M.left message.new; input_faults = M.faults message.new; taken = O.taken out.new; output_faults = O.faults out.new })
-        (record { posts = record { waiting = P.waiting posts.old; asked = P.calls posts.old; faults = P.faults posts.old }; spawner = record { children = S.children spawn.old; calls = S.calls spawn.old; faults = S.faults spawn.old } })
-        (record { posts = record { waiting = P.waiting posts.new; asked = P.calls posts.new; faults = P.faults posts.new }; spawner = record { children = S.children spawn.new; calls = S.calls spawn.new; faults = S.faults spawn.new } })
-        result }
-{
-    let LocalWords { dir, words, uid } = told;
-    deliver(
-        alloc,
-        dir.as_slice(),
-        words,
-        uid,
-        disk,
-        message,
-        out,
-        clock,
-        posts,
-        spawn,
-        gate,
-    )
 }

@@ -5,7 +5,6 @@ use Rattle.std.specs.Prelude.{◌↔◌, All, Contains, slice_index_or}
 use Rattle.call_fs.specs.Disk.{Among}
 use Rattle.call_fs.specs.Past.{IsRunBy}
 use Rattle.call_fs.specs.declared.past.Own.{Own}
-use Rattle.retry_law.proofs.Alive.{alive_at}
 use Rattle.retry_law.proofs.Retried.{holds}
 use Rattle.retry_law.proofs.Told.{moments_are_told}
 use Rattle.retry_law.specs.Moments.{TellsMoments}
@@ -22,7 +21,7 @@ use Rattle.send_jobs.specs.declared.channels.Channel.TheVariants.{Local, Remote}
 use Rattle.send_jobs.specs.declared.channels.Channel.{Channel}
 use Rattle.send_known.specs.declared.known.Known.{Known}
 use Rattle.send_known.specs.declared.messages.Messages.{Messages}
-use Rattle.send_runs.proofs.Dues.{due_exactly}
+use Rattle.send_runs.proofs.Dues.{alive_at, due_exactly}
 use Rattle.send_runs.proofs.Files.{files_are_of_past}
 use Rattle.send_runs.proofs.Known.{known_are_of_past}
 use Rattle.send_runs.specs.DueMoments.{has_unlinked}

@@ -159,7 +159,7 @@ module _ (n : ℕ) where
     by true is = put_other of m it.moment n (λ same. absurd (cc (sym e ∙ eq-eqb m n (sym same))))
     by false is = refl
 
-  stated_same : (x : Option Name) (told : Answer) (b : Births) → found x told n ≡ Same → (stated x told b).of n ≡ b.of n
+  pub stated_same : (x : Option Name) (told : Answer) (b : Births) → found x told n ≡ Same → (stated x told b).of n ≡ b.of n
   stated_same (Some (Of RemoteFile m)) (answer.Stat stat) b e = found_same b.last m b.of (learnt_no (m == n) 0 e)
   stated_same (Some (Of RemoteFile m)) (answer.Refused why.NotThere) b e = found_same b.last m b.of (learnt_no (m == n) 0 e)
   stated_same (Some (Of InfoFile m)) (answer.Stat stat) b e = refl
@@ -176,7 +176,7 @@ module _ (n : ℕ) where
   and_true true e = absurd (cc)
   and_true false e = refl
 
-  cleaned_same : (good : Bool) (b : Births) → (bytes_eq b.command (command_text n) && good) ≡ false → (cleaned good b).of n ≡ b.of n
+  pub cleaned_same : (good : Bool) (b : Births) → (bytes_eq b.command (command_text n) && good) ≡ false → (cleaned good b).of n ≡ b.of n
   cleaned_same true b e = passed_same b.last b.command b.of (and_true (bytes_eq b.command (command_text n)) e)
   cleaned_same false b e = refl
 

@@ -1,6 +1,8 @@
 -- A known message that doesn't have its channel file has none.
-use Rattle.std.proofs.Common.{◌≡◌, ◌⊎◌, ℕ, List, [], ◌∷◌, bytes_eq, Bool, true, false, not, if◌then◌else◌, Option, Some, refl, sym, ap, ◌∙◌, inl, inr, ⊎_elim}
-use Rattle.std.specs.Prelude.{◌||◌, ◌&&◌, ◌==◌}
+use Rattle.std.proofs.Common.{◌≡◌, ℕ, List, [], ◌∷◌, Bool, true, false, not, if◌then◌else◌, Option, refl, sym, ap, ◌∙◌}
+use Rattle.std.proofs.lemmas.List.Elements.{All-contains}
+use Rattle.std.specs.Prelude.{Contains, ◌&&◌}
+use Rattle.call_fs.specs.Past.{IsRunBy}
 use Rattle.call_fs.specs.declared.calls.Answer.TheVariants as answer
 use Rattle.call_fs.specs.declared.calls.Answer.{Answer}
 use Rattle.call_fs.specs.declared.calls.CallData.TheVariants as call
@@ -10,41 +12,19 @@ use Rattle.call_fs.specs.declared.past.GotData.{GotData}
 use Rattle.call_fs.specs.declared.past.NeedData.TheVariants as needs
 use Rattle.call_fs.specs.declared.past.NeedData.{NeedData}
 use Rattle.call_fs.specs.declared.past.Own.{Own}
-use Rattle.call_fs.specs.declared.program.Port.TheVariants as port
-use Rattle.queue_paths.specs.Names.Name.{Of}
-use Rattle.queue_paths.specs.Names.Part.{Remote as RemoteFile}
-use Rattle.queue_paths.specs.Names.{Name, parse}
-use Rattle.retry_law.specs.Gone.{MissingAreGone, is_made, is_there, shows}
+use Rattle.queue_paths.specs.Names.{parse}
+use Rattle.retry_law.proofs.KnownNow.{known_now, was_known}
+use Rattle.retry_law.specs.Gone.{KnownAreGone, MissingAreGone, is_made, is_there, shows}
+use Rattle.retry_law.specs.Retries.{has_file}
 use Rattle.send_core.specs.Births.{births}
+use Rattle.send_core.specs.Table.{Next, place_after}
+use Rattle.send_jobs.specs.declared.channels.Channel.TheVariants.{Local, Remote}
 use Rattle.send_jobs.specs.declared.channels.Channel.{Channel}
-use Rattle.send_parts.specs.Steps.{remove_text}
+use Rattle.send_known.specs.declared.known.Known.{Known}
+use Rattle.send_runs.proofs.Files.{files_are_of_past}
 use Rattle.send_runs.specs.DueMoments.{has_unlinked, is_file}
 use Rattle.send_runs.specs.Files.{drops, gone, has_by, has_in, is_done, looked, made, there_by, there_in}
-use Rattle.send_runs.specs.Knowing.{known_by, known_in, looked_for}
-use Rattle.todo_pass.specs.Table.{command_text}
-
--- What is known was known, or is known by the event
-
-or_either : (b was : Bool) → (b || was) ≡ true → ((b || false) ≡ true) ⊎ (was ≡ true)
-or_either true was e = inl refl
-or_either false was e = inr e
-
-module _ (n : ℕ) where
-  looked_either : (x : Option Name) (told : Answer) (was : Bool) → looked_for x told n was ≡ true → (looked_for x told n false ≡ true) ⊎ (was ≡ true)
-  looked_either (Some (Of RemoteFile m)) (answer.Stat stat) was e = or_either (m == n) was e
-  looked_either (Some (Of RemoteFile m)) (answer.Refused why.NotThere) was e = or_either (m == n) was e
-  looked_either x told was e = inr e
-
-  answered_either : (r k was : Bool) → (if r then false else (if k then true else was)) ≡ true → ((if r then false else (if k then true else false)) ≡ true) ⊎ (was ≡ true)
-  answered_either true k was e = absurd (cc)
-  answered_either false true was e = inl refl
-  answered_either false false was e = inr e
-
-  known_either : (due : NeedData) (got : GotData) (command : List ℕ) (was : Bool) → known_by due got command n was ≡ true → (known_by due got command n false ≡ true) ⊎ (was ≡ true)
-  known_either (needs.File (call.Stat name)) (came.Answered told) command was e = looked_either (parse name) told.answer was e
-  known_either (needs.Take port.Clean) (came.Took bytes) command was e =
-      answered_either (bytes_eq command (remove_text n)) (bytes_eq command (command_text n) && bytes_eq bytes (43 ∷ [])) was e
-  known_either due got command was e = inr e
+use Rattle.send_runs.specs.Knowing.{known_by, known_in}
 
 -- The file
 
@@ -93,17 +73,11 @@ module _ (c : Channel) (n : ℕ) where
       by true e = absurd (cc (sym was ∙ first e))
       by false e = ap (there_by c n event.due event.came) (held was none) ∙ still_gone event.due event.came e
 
-    was_known : known_by event.due event.came (births before).command n false ≡ false → known_in before n ≡ true
-    was_known unknown = ⊎_elim
-        (λ (now : known_by event.due event.came (births before).command n false ≡ true). absurd (cc (sym unknown ∙ now)))
-        (λ (was : known_in before n ≡ true). was)
-        (known_either n event.due event.came (births before).command (known_in before n) known)
-
     by_event : (k d : Bool) → known_by event.due event.came (births before).command n false ≡ k → drops c n (has_unlinked before) event.due event.came ≡ d
         → has_by k d (there_in c n (event ∷ before)) (has_in c n before) ≡ false → there_in c n (event ∷ before) ≡ false
     by_event true d k_is d_is none = none
     by_event false true k_is d_is none = drop_gone (has_unlinked before) event.due event.came (there_in c n before) d_is
-    by_event false false k_is d_is none = goes_on (was_known k_is) none
+    by_event false false k_is d_is none = goes_on (was_known event before n known k_is) none
 
     step : has_in c n (event ∷ before) ≡ false → there_in c n (event ∷ before) ≡ false
     step none = by_event (known_by event.due event.came (births before).command n false) (drops c n (has_unlinked before) event.due event.came) refl refl none
@@ -111,3 +85,15 @@ module _ (c : Channel) (n : ℕ) where
 pub missing_are_gone : MissingAreGone
 missing_are_gone c n [] first known none = absurd (cc)
 missing_are_gone c n (event ∷ before) first known none = step c n event before known first.1 (missing_are_gone c n before first.0) none
+
+-- so it is by what the sender keeps
+module _ (turns : Option ℕ) (past : List Own) (run : IsRunBy (Next turns) past) (k : Known) (there : Contains (place_after turns past).book.messages.known k) where
+  files : (k.local ≡ has_in Local k.n past) × (k.remote ≡ has_in Remote k.n past)
+  files = All-contains (λ (x : Known). (x.local ≡ has_in Local x.n past) × (x.remote ≡ has_in Remote x.n past)) (place_after turns past).book.messages.known k (files_are_of_past.files turns past run) there
+
+  has_none : (c : Channel) → has_file c k ≡ false → has_in c k.n past ≡ false
+  has_none Local e = sym files.0 ∙ e
+  has_none Remote e = sym files.1 ∙ e
+
+pub known_are_gone : KnownAreGone
+known_are_gone turns past run c k there none first = missing_are_gone c k.n past first (known_now turns past run k there) (has_none turns past run k there c none)

@@ -2,15 +2,23 @@
 pub mod Events
 -- births and begins are moments
 pub mod Told
--- a sender that makes an event
-pub mod Alive
--- what each row leaves of passes and jobs
-pub mod Leaving
+-- what a pass has that begins
+pub mod Beginning
 -- passes are jobs
 pub mod Jobs
 -- when messages are due that were tried, by the past
 pub mod Retried
 -- and by what the sender keeps
 pub mod Due
+-- which messages are known
+pub mod KnownNow
 -- which channel files are gone
 pub mod Gone
+-- when known messages may be finished
+pub mod Finishes
+-- which number was left last, and where a search goes on
+pub mod Left
+-- which message becomes known next
+pub mod Comings
+-- births are the moments of info files
+pub mod Infos

@@ -1,5 +1,6 @@
 -- Which channel files are gone, by the sender's past (qmail-send(8)).
-use Rattle.std.specs.Prelude.{◌≡◌, ℕ, List, [], ◌∷◌, Bool, true, false, ◌&&◌}
+use Rattle.std.specs.Prelude.{◌≡◌, ℕ, List, [], ◌∷◌, Bool, true, false, ◌&&◌, Option, Contains}
+use Rattle.call_fs.specs.Past.{IsRunBy}
 use Rattle.call_fs.specs.declared.calls.Answer.TheVariants as answer
 use Rattle.call_fs.specs.declared.calls.Answer.{Answer}
 use Rattle.call_fs.specs.declared.calls.CallData.TheVariants as call
@@ -9,7 +10,10 @@ use Rattle.call_fs.specs.declared.past.NeedData.TheVariants as needs
 use Rattle.call_fs.specs.declared.past.NeedData.{NeedData}
 use Rattle.call_fs.specs.declared.past.Own.{Own}
 use Rattle.queue_paths.specs.Names.{parse}
+use Rattle.retry_law.specs.Retries.{has_file}
+use Rattle.send_core.specs.Table.{Next, place_after}
 use Rattle.send_jobs.specs.declared.channels.Channel.{Channel}
+use Rattle.send_known.specs.declared.known.Known.{Known}
 use Rattle.send_runs.specs.DueMoments.{is_file}
 use Rattle.send_runs.specs.Files.{has_in, there_in}
 use Rattle.send_runs.specs.Knowing.{known_in}
@@ -36,3 +40,8 @@ AreShownFirst c n (event ∷ past) = AreShownFirst c n past × (shows c n event.
 -- Then a known message that doesn't have its file has none: as the past told last, that is gone.
 abbrev pub MissingAreGone : Type 0
 MissingAreGone = (c : Channel) (n : ℕ) (past : List Own) → AreShownFirst c n past → known_in past n ≡ true → has_in c n past ≡ false → there_in c n past ≡ false
+
+-- so it is of each message that a sender knows
+abbrev pub KnownAreGone : Type 0
+KnownAreGone = (turns : Option ℕ) (past : List Own) → IsRunBy (Next turns) past → (c : Channel) (k : Known) → Contains (place_after turns past).book.messages.known k
+    → has_file c k ≡ false → AreShownFirst c k.n past → there_in c k.n past ≡ false

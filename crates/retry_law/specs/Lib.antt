@@ -8,3 +8,9 @@ pub mod Retries
 pub mod Moments
 -- which channel files are gone
 pub mod Gone
+-- when known messages may be finished
+pub mod Finishes
+-- which number of `todo` was left last, and from which name a search goes on
+pub mod Left
+-- when births are the moments of info files
+pub mod Infos

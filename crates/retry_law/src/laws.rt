@@ -5,7 +5,10 @@ ghost use Rattle.call_fs.specs.declared.past.NeedData.TheVariants as needs;
 ghost use Rattle.send_jobs.specs.declared.channels.Channel.TheVariants.{Local, Remote};
 ghost use Rattle.send_runs.specs.Worked.{absent, stated};
 ghost use Rattle.send_runs.specs.WorkedPasts.{deferred_for};
-ghost use Rattle.retry_law.specs.Gone.{MissingAreGone, shows};
+ghost use Rattle.retry_law.specs.Finishes.{FinishesAtOnce};
+ghost use Rattle.retry_law.specs.Gone.{KnownAreGone, MissingAreGone, shows};
+ghost use Rattle.retry_law.specs.Infos.{BirthsAreInfos};
+ghost use Rattle.retry_law.specs.Left.{NoNumberLeft, StraysWereGiven};
 ghost use Rattle.retry_law.specs.Moments.{MomentsAreTold};
 ghost use Rattle.retry_law.specs.Passes.{ClearChannelsRest, EmptyPassesUnlink, PassesAreJobs};
 ghost use Rattle.retry_law.specs.Retries.{KnownAreDueAgain, TriedAreRetried};
@@ -33,9 +36,31 @@ pub fn known_are_due_again()
     ensures { KnownAreDueAgain }
 {}
 
-/// A known message that doesn't have its channel file has none, if no event found or made that while the message was known.
+/// A known message that doesn't have its channel file has none, if no event found or made that while the message was known; by the past alone,
+/// and by what the sender keeps.
 pub fn missing_are_gone()
-    ensures { MissingAreGone }
+    ensures past { MissingAreGone }
+    ensures known { KnownAreGone }
+{}
+
+/// A known message may be finished at once, if no finish of it failed while it was known.
+pub fn finishes_at_once()
+    ensures { FinishesAtOnce }
+{}
+
+/// The birth of a known message is the moment at which its info file was last written, if no event wrote it but one that told so.
+pub fn births_are_infos()
+    ensures { BirthsAreInfos }
+{}
+
+/// No number of `todo` was left last, if no todo pass was left.
+pub fn no_number_left()
+    ensures { NoNumberLeft }
+{}
+
+/// A search of `todo` goes on after a name only directly after a search that gave one which is no number.
+pub fn strays_were_given()
+    ensures { StraysWereGiven }
 {}
 
 /// A search ends no pass, and tells of none.

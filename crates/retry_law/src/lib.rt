@@ -15,6 +15,11 @@
 //!   counts as itself: `moments_are_told` (`specs/Moments.antt`).
 //! - A known message that doesn't have its channel file has none, as the past told last, if that wasn't found or made while the message was
 //!   known: `missing_are_gone` (`specs/Gone.antt`). Rows of both: `worked_tries`.
+//! - A known message may be finished at once if no finish of it failed while it was known: `finishes_at_once` (`specs/Finishes.antt`).
+//! - The birth of a known message is the moment at which its info file was last written, whatever a disk has of info files, if what events tell of
+//!   them is so, and no other event writes that of a message which is known or becomes known next: `births_are_infos` (`specs/Infos.antt`).
+//! - No number of `todo` was left last if no todo pass was left: `no_number_left`. A search of `todo` goes on after a name only directly after a
+//!   search that gave one which is no number: `strays_were_given` (both in `specs/Left.antt`).
 //!
 //! That a past is as these laws ask is not proved here: it takes the disk and the other programs.
 #![tactic(auto)]
@@ -22,6 +27,7 @@
 mod laws;
 
 pub use laws::{
-    known_are_due_again, missing_are_gone, moments_are_told, passes_are_jobs, searches_keep_tries,
-    tried_are_retried, worked_tries,
+    births_are_infos, finishes_at_once, known_are_due_again, missing_are_gone, moments_are_told,
+    no_number_left, passes_are_jobs, searches_keep_tries, strays_were_given, tried_are_retried,
+    worked_tries,
 };

@@ -104,3 +104,9 @@ pub mod TurnParts
 pub mod WholePlays
 -- what a sink took of a line
 pub mod TakenLines
+-- turns of a world are steps of a play
+pub mod WorkedSteps
+-- what `work` plays before its threads, and after them
+pub mod WorkedLines
+-- in what `work` does nothing fails
+pub mod QuietWork

@@ -31,7 +31,7 @@ use Rattle.scenario.specs.FirstDisk.{IsFirstDisk}
 use Rattle.scenario.specs.Played.{plan_after, Refusal, IsRefusalOf, Plays, PlaysAll, cat_line, refusal_line, next_pid}
 use Rattle.scenario.specs.Summed.{sum_text}
 use Rattle.scenario.specs.Steps.Outcome.{Happens, Is}
-use Rattle.scenario.specs.declared.stepping.Stepped.{Stepped}
+use Rattle.scenario.specs.declared.stepping.AfterStep.{AfterStep}
 use Rattle.scenario.proofs.Carried.{not_member}
 use Rattle.scenario.specs.Playing.{IsPlaying, HasStepped, HasPlayed, IsRefusedAs}
 use Rattle.scenario.specs.inside.Playing.{HasPrinted}
@@ -47,7 +47,7 @@ use Rattle.scenario.proofs.ScriptRuns.{refused_with}
 
 -- `step`
 
-abbrev pub step_played : (d : Disk) (new : Seen Crash) (plan : Plan) (a : List ℕ) (left : Stepped) (text : List ℕ) (h : List Deed) → HasStepped d new a left plan h
+abbrev pub step_played : (d : Disk) (new : Seen Crash) (plan : Plan) (a : List ℕ) (left : AfterStep) (text : List ℕ) (h : List Deed) → HasStepped d new a left plan h
     → HasPlayed d new (line.Actor of_actor.Step a) text text plan h
 step_played d new plan a left text h step = record {
   events = step.deed ∷ [];

@@ -11,7 +11,7 @@ use Rattle.mail_world.specs.History.{IsLiving}
 use Rattle.mail_world.specs.World.{Seen}
 use Rattle.script_lines.specs.declared.line.Line.TheVariants as line
 use Rattle.script_lines.specs.declared.keyword.OfActor.TheVariants as of_actor
-use Rattle.scenario.specs.declared.stepping.Stepped.TheVariants as how
+use Rattle.scenario.specs.declared.stepping.AfterStep.TheVariants as how
 use Rattle.scenario.specs.Deeds.{Deed, after}
 use Rattle.scenario.specs.Steps.{Refusal, IsRefusalOf, StepsTo, AreSteps, plan_through, has_idled, most_steps, stop_text, refusal_line}
 use Rattle.scenario.specs.Steps.Stops.{Idles, Refused, Full}

@@ -23,5 +23,7 @@ pub mod Played
 pub mod Text
 -- a world in which a script is played
 pub mod Playing
+-- what `work` does with a script, and prints
+pub mod Working
 -- definitions that only proofs and private code need
 pub mod inside

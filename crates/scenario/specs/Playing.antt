@@ -10,8 +10,8 @@ use Rattle.mail_world.specs.History.{IsLiving}
 use Rattle.mail_world.specs.Wired.{AreWholeGivings}
 use Rattle.mail_world.specs.World.{Seen, IsHistory}
 use Rattle.script_lines.specs.declared.line.Line.{Line}
-use Rattle.scenario.specs.declared.stepping.Stepped.{Stepped}
-use Rattle.scenario.specs.declared.stepping.Stepped.TheVariants as how
+use Rattle.scenario.specs.declared.stepping.AfterStep.{AfterStep}
+use Rattle.scenario.specs.declared.stepping.AfterStep.TheVariants as how
 use Rattle.scenario.specs.Deeds.{Deed, TellsDeed, event_in, history_of, after}
 use Rattle.scenario.specs.Fates.{AreNamedStarts, IsFedSo}
 use Rattle.scenario.specs.Played.{Plays, plan_after}
@@ -30,13 +30,13 @@ pub record IsPlaying (d : Disk) (w : Seen Crash) (plan : Plan) (h : List Deed) :
   pub fed : AllByRecursion IsFedSo (reverse w.events)
 
 -- whether an actor is over after a step, and whether an idle turn has just ended
-abbrev pub IsLeftBy : Stepped → Disk → Plan → List ℕ → Deed → List Deed → Type 0
+abbrev pub IsLeftBy : AfterStep → Disk → Plan → List ℕ → Deed → List Deed → Type 0
 IsLeftBy how.On d plan a deed h = IsLiving (after d (deed ∷ h)) a × (idles (after d h) (event_in deed) ≡ false)
 IsLeftBy how.Idle d plan a deed h = idles (after d h) (event_in deed) ≡ true
 IsLeftBy how.Over d plan a deed h = StepsTo d (deed ∷ h) plan a (Is Gone) × (idles (after d h) (event_in deed) ≡ false)
 
 -- whatever happened before, a step of that actor happened then
-pub record HasStepped (d : Disk) (new : Seen Crash) (a : List ℕ) (left : Stepped) (plan : Plan) (h : List Deed) : Type 0 where
+pub record HasStepped (d : Disk) (new : Seen Crash) (a : List ℕ) (left : AfterStep) (plan : Plan) (h : List Deed) : Type 0 where
   pub deed : Deed
   pub steps : StepsTo d h plan a (Happens deed)
   pub playing : IsPlaying d new (plan_by (event_in deed) plan) (deed ∷ h)

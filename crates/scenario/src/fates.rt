@@ -219,9 +219,10 @@ impl Following {
             → TellsRead event.now happening → Follows self.old s → Follows self.new (happens s happening)) }
     {
         match event {
-            Event::Act { actor, own }
-            | Event::Child { actor, own, .. }
-            | Event::Feed { actor, own, .. } => self.act(alloc, actor, own),
+            Event::Act { actor, own } => self.act(alloc, actor, own),
+            Event::Child { actor, own, .. } | Event::Feed { actor, own, .. } => {
+                self.act(alloc, actor, own.get())
+            }
             Event::Generation { .. } => {
                 let sender = Sender::new(alloc, None)?;
                 drop(replace(&mut self.sender, Some(sender)));

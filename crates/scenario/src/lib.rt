@@ -42,5 +42,10 @@ mod tracing;
 mod turning;
 
 pub use error::PlayError;
-pub use playing::play;
+pub use opening_disk::first_disk;
+pub use playing::{give, play};
 pub use script_lines::{MAX_SCRIPT, Script, ScriptError, read_script};
+pub use showing::show;
+pub use stepping::lacked_memory;
+pub use tracing::put_events_after;
+pub use turning::settle;

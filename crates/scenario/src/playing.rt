@@ -11,8 +11,7 @@ ghost use Rattle.script_lines.specs.declared.keyword.OfCount.TheVariants as OfCo
 ghost use Rattle.script_lines.specs.declared.keyword.OfMoment.TheVariants as OfMomentOf;
 ghost use Rattle.script_lines.specs.declared.keyword.OfSurvival.TheVariants as OfSurvivalOf;
 ghost use Rattle.scenario.specs.Played.{Refusal, refusal_line};
-ghost use Rattle.scenario.specs.Playing.{IsPlaying, HasPlayed};
-ghost use Rattle.scenario.specs.inside.Playing.{HasPrinted};
+ghost use Rattle.scenario.specs.inside.Playing.{IsPlaying, HasPlayed, HasPrinted};
 ghost use Rattle.scenario.specs.Text.{IsPlayed, IsBegun};
 
 use crate::generating::{begin, report};
@@ -57,7 +56,7 @@ pub fn play<O: Sink>(alloc: Global, script: Script, out: &mut O) -> Result<(), P
 }
 
 /// Gives the sink what a line prints, if that is anything. No memory is taken, so that only the sink can fail.
-fn give<O: Sink>(out: &mut O, text: &[u8]) -> Result<(), PlayError>
+pub fn give<O: Sink>(out: &mut O, text: &[u8]) -> Result<(), PlayError>
     ensures ok { OnOk result (Meets (O.taken out.old) (O.taken out.new) (λ before after. after ≡ before ++ text.now)) }
     ensures err { OnErr result (Meets (O.taken out.old) (O.taken out.new)
         (λ before after. (k : ℕ) × (after ≡ before ++ take k text.now))) }

@@ -120,8 +120,8 @@ pub(crate) fn given_by<'a>(alloc: Global, events: &'a [Event]) -> Result<Vec<Giv
     let mut given = Vec::new(alloc);
     for event in events {
         match event {
-            Event::Start { actor, program } => begin(&mut given, actor, false, program)?,
-            Event::Child { child, program, .. } => begin(&mut given, child, true, program)?,
+            Event::Start { actor, program } => begin(&mut given, actor, false, program.get())?,
+            Event::Child { child, program, .. } => begin(&mut given, child, true, program.get())?,
             Event::Feed {
                 child,
                 envelope,

@@ -5,8 +5,7 @@ ghost use Rattle.call_fs.specs.Plan.{Plan};
 ghost use Rattle.world_events.specs.declared.event.Event.{Event as Kept};
 ghost use Rattle.scenario.specs.Deeds.{Deed};
 ghost use Rattle.mail_world.specs.Kept.{events_of};
-ghost use Rattle.scenario.specs.Playing.{IsPlaying, HasStepped, HasRun, IsRefusedAs};
-ghost use Rattle.scenario.specs.inside.Playing.{is_memory_of, is_waiting, lacked_memory, stepped_by};
+ghost use Rattle.scenario.specs.inside.Playing.{IsPlaying, HasStepped, HasRun, IsRefusedAs, is_memory_of, is_waiting, lacked_memory, stepped_by};
 
 use crate::refusing::{put_refusal, refuse};
 use call_fs::{Answer, FsError, GotData};
@@ -20,7 +19,7 @@ const MOST_STEPS: u32 = 1_000_000;
 
 /// What a step left of its actor.
 #[derive(Clone, Copy)]
-pub enum Stepped {
+pub enum AfterStep {
     /// It goes on.
     On,
     /// An idle turn of it has just ended.
@@ -29,16 +28,14 @@ pub enum Stepped {
     Over,
 }
 
-impl Stepped {
-    /// By what a step of the world did.
-    fn of(did: Did) -> Stepped
-        ensures { result ≡ stepped_by did.ended did.idle }
-    {
-        match (did.ended, did.idle) {
-            (Some(_), _) => Stepped::Over,
-            (None, true) => Stepped::Idle,
-            (None, false) => Stepped::On,
-        }
+/// What a step that did this left.
+fn left_by(did: Did) -> AfterStep
+    ensures { result ≡ stepped_by did.ended did.idle }
+{
+    match (did.ended, did.idle) {
+        (Some(_), _) => AfterStep::Over,
+        (None, true) => AfterStep::Idle,
+        (None, false) => AfterStep::On,
     }
 }
 
@@ -48,7 +45,7 @@ pub fn step(
     alloc: Global,
     world: &mut World<CrashDisk>,
     actor: &ActorName,
-) -> Result<Stepped, WorldError>
+) -> Result<AfterStep, WorldError>
     ensures ok { IfOk result (λ how. (d : Disk) (plan : Plan) (h : List Deed) → IsPlaying d world.old plan h
         → HasStepped d world.new actor.now how plan h) }
     ensures err { IfErr result (λ why. (d : Disk) (plan : Plan) (h : List Deed) → IsPlaying d world.old plan h
@@ -59,7 +56,7 @@ pub fn step(
     if newest_lacked_memory(world.history()) {
         return Err(WorldError::Memory);
     }
-    Ok(Stepped::of(did))
+    Ok(left_by(did))
 }
 
 /// Whether the newest event is a call that found no memory.
@@ -74,13 +71,12 @@ fn newest_lacked_memory(history: &History) -> bool
 }
 
 /// Whether an event is a call that found no memory.
-fn lacked_memory(event: &Event) -> bool
+pub fn lacked_memory(event: &Event) -> bool
     ensures { result ≡ lacked_memory event.now }
 {
     match event {
-        Event::Act { own, .. } | Event::Child { own, .. } | Event::Feed { own, .. } => {
-            is_memory(&own.came)
-        }
+        Event::Act { own, .. } => is_memory(&own.came),
+        Event::Child { own, .. } | Event::Feed { own, .. } => is_memory(&own.get().came),
         _ => false,
     }
 }
@@ -90,7 +86,7 @@ fn is_memory(came: &GotData) -> bool
     ensures { result ≡ is_memory_of came.now }
 {
     match came {
-        GotData::Answered(told) => matches!(told.answer, Answer::Refused(FsError::Memory)),
+        GotData::Answered(told) => matches!(told.answer.copy(), Answer::Refused(FsError::Memory)),
         _ => false,
     }
 }
@@ -115,9 +111,9 @@ pub fn run(
 {
     for _ in 0..MOST_STEPS {
         match step(alloc, world, actor) {
-            Ok(Stepped::On) => {}
-            Ok(Stepped::Idle) => return Ok(true),
-            Ok(Stepped::Over) => return Ok(false),
+            Ok(AfterStep::On) => {}
+            Ok(AfterStep::Idle) => return Ok(true),
+            Ok(AfterStep::Over) => return Ok(false),
             Err(why) => {
                 if is_waiting(&why) {
                     return Ok(false);

@@ -8,8 +8,7 @@ ghost use Rattle.scenario.specs.Deeds.{Deed};
 ghost use Rattle.script_lines.specs.declared.line.Line.TheVariants as LineOf;
 ghost use Rattle.script_lines.specs.declared.keyword.Alone.TheVariants as AloneOf;
 ghost use Rattle.script_lines.specs.declared.keyword.OfLetter.TheVariants as OfLetterOf;
-ghost use Rattle.scenario.specs.Playing.{IsPlaying, HasPlayed};
-ghost use Rattle.scenario.specs.inside.Playing.{HasTurned, HasParted, HasRounded, HasReported, are_searches_kept, is_first_kept, is_search_kept};
+ghost use Rattle.scenario.specs.inside.Playing.{IsPlaying, HasPlayed, HasTurned, HasParted, HasRounded, HasReported, are_searches_kept, is_first_kept, is_search_kept};
 ghost use Rattle.scenario.specs.Turns.{counted, is_first_call, is_search_call, NoneBefore};
 
 use crate::refusing::put_refusal;

@@ -25,7 +25,7 @@ pub fn put_act(
         NeedData::File(call) => put_came(alloc, text, actor, call, &own.came),
         NeedData::Take(port) => put_taken(text, actor, *port, &own.came),
         NeedData::Give(port, bytes) => put_given(text, actor, *port, bytes, &own.came),
-        NeedData::Start(child) => put_started(text, actor, child, &own.came),
+        NeedData::Start(child) => put_started(text, actor, child.get(), &own.came),
         NeedData::Command(_) => put_command(text, actor, &own.came),
         NeedData::Wait | NeedData::Ended(_) => Ok(()),
     }
@@ -42,7 +42,7 @@ fn put_came(
     ensures { OnOk result (text.new.items ≡ text.old.items ++ act_line actor.now (File call.now) came.now) }
 {
     match came {
-        GotData::Answered(told) => put_call(alloc, text, actor, call, &told.answer),
+        GotData::Answered(told) => put_call(alloc, text, actor, call, &told.answer.copy()),
         GotData::Took(_) | GotData::End | GotData::Gave => Ok(()),
         GotData::Ended(_) | GotData::Crashed | GotData::Started { .. } => Ok(()),
         GotData::Failed | GotData::Memory => Ok(()),

@@ -19,9 +19,8 @@ pub fn put_event(alloc: Global, text: &mut Vec<u8>, event: &Event) -> Result<(),
 {
     match event {
         Event::Start { actor, .. } => put_start(text, actor),
-        Event::Act { actor, own } | Event::Feed { actor, own, .. } => {
-            put_act(alloc, text, actor, own)
-        }
+        Event::Act { actor, own } => put_act(alloc, text, actor, own),
+        Event::Feed { actor, own, .. } => put_act(alloc, text, actor, own.get()),
         Event::Child { child, .. } => put_start(text, child),
         Event::Generation { .. } => put_generation(text),
         Event::Report { slot, letter, .. } => put_report(text, *slot, *letter),

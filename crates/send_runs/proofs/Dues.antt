@@ -649,13 +649,14 @@ module _ (S : ℕ → List ℕ → Type 0) (t : Facts) (d : Desk) (now : ℕ) (c
 
 -- At each event
 
-abbrev Stands : List Own → Own → Desk → Row → Type 0
+-- what stands at a row: the passes that go on by the past, what is due by it, and what is to be given by it
+abbrev pub Stands : List Own → Own → Desk → Row → Type 0
 Stands past event d row = States row d.slots (λ c n. pass_in c n past) × Dues (λ c n due. due ≡ due_in c n event.due past) d.book.messages × Gone (λ c. account c past) d.slots
 
 fresh_links : (c : Channel) (n : ℕ) (row : Row) → IsFresh row → is_unlinking c n row ≡ false
 fresh_links c n row is = free_unlinking c n row (fresh_free row is)
 
-arrives_links : (c : Channel) (n : ℕ) (row : Row) (d : Desk) (now : ℕ) (ready : Ready) → is_unlinking c n (arrive row d now ready) ≡ is_unlinking c n row
+pub arrives_links : (c : Channel) (n : ℕ) (row : Row) (d : Desk) (now : ℕ) (ready : Ready) → is_unlinking c n (arrive row d now ready) ≡ is_unlinking c n row
 arrives_links c n (at.Turn p) d now ready = fresh_links c n (from_point p d now ready) (point_fresh d now ready p)
 arrives_links c n row d now ready = refl
 
@@ -688,17 +689,17 @@ moves past event d row p q same hs c n = ⊎_elim
     (hs c n)
 
 module _ (turns : Option ℕ) where
-  alive_at : (past : List Own) (event : Own) → IsRunBy (Next turns) (event ∷ past) → has_ended (place_after turns past).row ≡ false
+  pub alive_at : (past : List Own) (event : Own) → IsRunBy (Next turns) (event ∷ past) → has_ended (place_after turns past).row ≡ false
   alive_at past event run =
       let d : Desk = place_after turns past in
       let row : Row = row_now d event.read event.ready in
       let may : MayCome (due_at row d) event.came = subst (λ (x : NeedData). MayCome x event.came) (sym run.1.0) run.1.1 in
       arrives_alive d.row d event.read event.ready (went_on row event.due event.read d event.came may)
 
-  abbrev Agreeing : (Channel → Account) → Row → Slots → Type 0
+  abbrev pub Agreeing : (Channel → Account) → Row → Slots → Type 0
   Agreeing a row s = (c : Channel) → Agrees (a c) (is_opened row c) (lane c s) × (length (lane c s).slots ≤ 120)
 
-  agreeing : (past : List Own) → IsRunBy (Next turns) past → has_ended (place_after turns past).row ≡ false → Agreeing (λ c. account c past) (place_after turns past).row (place_after turns past).slots
+  pub agreeing : (past : List Own) → IsRunBy (Next turns) past → has_ended (place_after turns past).row ≡ false → Agreeing (λ c. account c past) (place_after turns past).row (place_after turns past).slots
   agreeing past run alive c =
       let d : Desk = place_after turns past in
       (lanes_agree turns past run c alive, few_row (Was past) (work past) (account Local past) (account Remote past) d.row d alive (keeps turns past run).0 c)
@@ -711,7 +712,7 @@ module _ (turns : Option ℕ) where
   fresh_shut : (row : Row) (c : Channel) → IsFresh row → is_opened row c ≡ false
   fresh_shut row c is = free_opened row c (fresh_free row is)
 
-  arrives_opened : (row : Row) (d : Desk) (now : ℕ) (ready : Ready) (c : Channel) → is_opened (arrive row d now ready) c ≡ is_opened row c
+  pub arrives_opened : (row : Row) (d : Desk) (now : ℕ) (ready : Ready) (c : Channel) → is_opened (arrive row d now ready) c ≡ is_opened row c
   arrives_opened (at.Turn p) d now ready c = fresh_shut (from_point p d now ready) c (point_fresh d now ready p)
   arrives_opened row d now ready c = refl
 
@@ -772,7 +773,7 @@ module _ (turns : Option ℕ) where
     dues c n due among = out.1 c n due among
         ∙ ap (λ (x : Bool). due_by (shift c n before last) last.read (flies n (account c before)) (over_at c n before last && not x) (pass_in c n before) (retry_at past c n) (due_in c n last.due before)) (unlinks_so c n)
 
-  stands : (past : List Own) (event : Own) → IsRunBy (Next turns) (event ∷ past) → let d : Desk = place_after turns past in Stands past event d (row_now d event.read event.ready)
+  pub stands : (past : List Own) (event : Own) → IsRunBy (Next turns) (event ∷ past) → let d : Desk = place_after turns past in Stands past event d (row_now d event.read event.ready)
   stands [] event run = (states, none, gone) where
     d : Desk
     d = place_after turns []

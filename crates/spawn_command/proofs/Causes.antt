@@ -1,5 +1,5 @@
 -- Why a run of a spawner ended so, by its past.
-use Rattle.std.proofs.Common.{◌≡◌, ◌⊎◌, ◌↔◌, ℕ, ◌+◌, ◌<◌, List, [], ◌∷◌, Bool, true, false, cond, refl, sym, ap, ◌∙◌, subst, inl, inr, ⊎_elim, arith}
+use Rattle.std.proofs.Common.{◌≡◌, ◌⊎◌, ◌↔◌, ℕ, ◌+◌, List, [], ◌∷◌, true, false, cond, refl, sym, ap, ◌∙◌, subst, inl, inr, ⊎_elim, arith}
 use Rattle.std.proofs.lemmas.Bool.{false≢true, true≢false, not-true}
 use Rattle.call_fs.specs.declared.past.GotData.{GotData}
 use Rattle.call_fs.specs.declared.past.GotData.TheVariants as came
@@ -15,7 +15,7 @@ use Rattle.program_runner.specs.Programs.{FailsToHear, HasFailedToHear}
 use Rattle.program_runner.specs.Runs.{HasEvent}
 use Rattle.spawn_protocol.proofs.Requests.{some_reading}
 use Rattle.spawner_parts.specs.Asked.{runs_in}
-use Rattle.spawner_parts.specs.Causes.{EndsWith, IsEnded, IsFailed, IsOver, end_by, has_end, programs, programs_by}
+use Rattle.spawner_parts.specs.Causes.{EndsWith, IsFailed, IsOver, end_by, has_end, programs, programs_by}
 use Rattle.spawner_parts.specs.Causes.EndsWith.{GiveFailed, RequestsFailed, ProgramFailed}
 use Rattle.spawner_parts.specs.Causes.IsOver.{RequestsEnded, FieldTooLong}
 use Rattle.spawner_parts.specs.Counts.{asked, dealt_with, reported, runs, times}

@@ -1,5 +1,5 @@
 -- What a spawner's place tells of what it is about to take.
-use Rattle.std.proofs.Common.{◌≡◌, ℕ, List, [], ◌∷◌, ◌++◌, Bool, true, false, refl, sym, ap, ◌∙◌, subst}
+use Rattle.std.proofs.Common.{◌≡◌, ℕ, List, [], Bool, true, false, sym, ap, ◌∙◌, subst}
 use Rattle.std.proofs.lemmas.List.{append-nil}
 use Rattle.call_fs.specs.declared.past.ChildData.{ChildData}
 use Rattle.call_fs.specs.declared.past.NeedData.TheVariants as needs
@@ -11,9 +11,8 @@ use Rattle.spawn_protocol.proofs.Cuts.{cut_is}
 use Rattle.spawn_protocol.proofs.Requests.{one_reading}
 use Rattle.spawn_protocol.specs.Cut.{cut}
 use Rattle.spawn_protocol.specs.Cut.Cut.{More}
-use Rattle.spawn_protocol.specs.Request.{HasRead, Reader}
+use Rattle.spawn_protocol.specs.Request.{HasRead}
 use Rattle.spawn_protocol.specs.Request.Reader.{Reading, Refused}
-use Rattle.spawn_protocol.specs.declared.inbox.Intake.{Intake}
 use Rattle.spawn_protocol.specs.declared.inbox.Intake.TheVariants as intake
 use Rattle.spawn_protocol.specs.declared.request.Request.{Request}
 use Rattle.spawner_parts.specs.declared.place.Place.{Place}

@@ -1,12 +1,13 @@
 -- A run of a spawner: what it did, and why it ended so.
-use Rattle.std.proofs.Common.{◌≡◌, ◌⊎◌, ℕ, ◌≤◌, List, [], ◌∷◌, Bool, false, replicate, Option, Some, None, Result, Ok, Err, refl, ap, ◌∙◌, subst, inl, inr, ⊎_elim, arith}
+use Rattle.std.proofs.Common.{◌≡◌, ◌⊎◌, ℕ, List, [], ◌∷◌, false, replicate, Option, Some, None, Result, Ok, Err, refl, sym, ap, ◌∙◌, subst, inl, inr, ⊎_elim, arith}
 use Rattle.std.specs.declared.alloc.AllocError.{AllocError}
 use Rattle.call_fs.specs.declared.past.ChildData.{ChildData}
 use Rattle.call_fs.specs.declared.past.NeedData.TheVariants.{Ended}
 use Rattle.call_fs.specs.declared.past.Own.{Own}
 use Rattle.call_fs.specs.Past.{IsRunBy, Table, taken}
 use Rattle.mail_bytes.specs.Told.{Rose}
-use Rattle.outside.specs.Children.{Posted}
+use Rattle.program_runner.specs.Serving.{PostsTold, SpawnerTold}
+use Rattle.program_runner.specs.ChildWords.{words_of}
 use Rattle.program_runner.specs.Lines.{HasOne, IsFailedAnswer, LineState}
 use Rattle.program_runner.specs.Outside.{Outside}
 use Rattle.program_runner.specs.Programs.{AreFresh, HasFailedToHear}
@@ -14,7 +15,7 @@ use Rattle.program_runner.specs.Runs.{most_turns}
 use Rattle.program_runner.specs.Members.{Beside, GoesOnStill, HasEndedSo, IsRunOf, Leads, RanTo, Step, WasCut, all_asked, events_of}
 use Rattle.program_runner.specs.Members.Step.{Looked}
 use Rattle.program_runner.proofs.Members.{asks_so, begins}
-use Rattle.spawn_command.specs.Spawned.{HasLongField, HasRunOver, StillRuns, WasCutShort, WasSpawned, begun_lines}
+use Rattle.spawn_command.specs.Spawned.{HasLongField, HasRunOver, StillRuns, WasCutShort, WasSpawned, begun_lines, status_of}
 use Rattle.spawn_command.proofs.Causes.{at_53, at_54, done, has_reports, malformed, parted}
 use Rattle.spawn_command.proofs.Laws.{Laws}
 
@@ -80,15 +81,11 @@ module _ (next : Unit {0} → Table) (words : ChildData → List (List ℕ)) (ro
   still : (stands : Unit {0} → List Own → Type 0) → GoesOnStill next words roomy stands possible old.last most_turns old new beside now → StillRuns next words old new beside now
   still stands r = record { turns = r.turns; long = r.long; on = r.on; ran = as_any r.turns new now r.ran }
 
-  module _ (cause : List Own → ℕ → Type 0) (stands : Unit {0} → List Own → Type 0) (result : Result (Option ℕ) AllocError) (r : RanTo result next words roomy stands possible old.last old new beside now) where
-    pub ended_so : Laws (next tt) cause → AreTold words → AreFresh beside.lines → (status : ℕ) → result ≡ Ok (Some status) → WasSpawned next words cause status old new beside now
-    ended_so laws told fresh status is = inl (ended cause laws told fresh status (subst (λ o. RanTo o next words roomy stands possible old.last old new beside now) is r))
-
-    pub went_on : result ≡ Ok None → WasSpawned next words cause 51 old new beside now
-    went_on is = inr (refl, inr (still stands (subst (λ o. RanTo o next words roomy stands possible old.last old new beside now) is r)))
-
-    pub was_cut : (why : AllocError) → result ≡ Err why → WasSpawned next words cause 51 old new beside now
-    was_cut why is = inr (refl, inl (cut (subst (λ o. RanTo o next words roomy stands possible old.last old new beside now) is r)))
+  module _ (cause : List Own → ℕ → Type 0) (laws : Laws (next tt) cause) (told : AreTold words) (fresh : AreFresh beside.lines) (stands : Unit {0} → List Own → Type 0) where
+    pub ended_so : (result : Result (Option ℕ) AllocError) → RanTo result next words roomy stands possible old.last old new beside now → WasSpawned next words cause (status_of result) old new beside now
+    ended_so (Ok (Some status)) r = inl (ended cause laws told fresh status r)
+    ended_so (Ok None) r = inr (refl, inr (still stands r))
+    ended_so (Err why) r = inr (refl, inl (cut r))
 
 -- nothing was done at all
 pub cut_at_once : (next : Unit {0} → Table) (words : ChildData → List (List ℕ)) (cause : List Own → ℕ → Type 0) (old : Outside) (beside : Beside) → WasSpawned next words cause 51 old old beside beside
@@ -97,9 +94,31 @@ cut_at_once next words cause old beside =
     inr (refl, inl (record { turns = b.turns; mid = old; mid_beside = beside; on = b.on; ran = b.ran; rest = inl (refl, refl) }))
 
 -- the lines that it begins with
-pub are_begun : (l : LineState) → l.links ≡ Some 0 ∷ None ∷ None ∷ None ∷ [] → l.programs ≡ replicate 256 None → l.over ≡ replicate 256 false → l.kept ≡ [] → l ≡ begun_lines
+are_begun : (l : LineState) → l.links ≡ Some 0 ∷ None ∷ None ∷ None ∷ [] → l.programs ≡ replicate 256 None → l.over ≡ replicate 256 false → l.kept ≡ [] → l ≡ begun_lines
 are_begun l links programs over kept =
     ap (λ x. record { links = x; programs = l.programs; over = l.over; kept = l.kept }) links
     ∙ ap (λ x. record begun_lines { programs = x; over = l.over; kept = l.kept }) programs
     ∙ ap (λ x. record begun_lines { over = x; kept = l.kept }) over
     ∙ ap (λ x. record begun_lines { kept = x }) kept
+
+-- a run that began with those lines, of a spawner with these laws
+pub spawned : (next : Unit {0} → Table) (words : ChildData → List (List ℕ)) (cause : List Own → ℕ → Type 0) (roomy : Type 0) (stands : Unit {0} → List Own → Type 0) (possible : Unit {0} → Type 0)
+    → roomy → ((args : Unit {0}) → possible args) → Laws (next tt) cause → AreTold words
+    → (l : LineState) → l.links ≡ Some 0 ∷ None ∷ None ∷ None ∷ [] → l.programs ≡ replicate 256 None → l.over ≡ replicate 256 false → l.kept ≡ []
+    → (old new : Outside) (moments : Option (List ℕ)) (posts : PostsTold) (spawner : SpawnerTold) (now : Beside)
+    → (result : Result (Option ℕ) AllocError) → RanTo result next words roomy stands possible old.last old new (record { moments = moments; posts = posts; spawner = spawner; lines = l }) now
+    → (status : ℕ) → status ≡ status_of result
+    → WasSpawned next words cause status old new (record { moments = moments; posts = posts; spawner = spawner; lines = begun_lines }) now
+spawned next words cause roomy stands possible room all laws told l links programs over kept old new moments posts spawner now result r status is =
+    let began : Beside = record { moments = moments; posts = posts; spawner = spawner; lines = begun_lines } in
+    subst (λ s. WasSpawned next words cause s old new began now) (sym is)
+    (ended_so next words roomy possible old new began now room all cause laws told begun_fresh stands result
+    (subst (λ (x : LineState). RanTo result next words roomy stands possible old.last old new (record { moments = moments; posts = posts; spawner = spawner; lines = x }) now)
+    (are_begun l links programs over kept) r))
+
+-- the directory of the queue is this
+pub as_dir : (next : Unit {0} → Table) (cause : List Own → ℕ → Type 0) (d e : List ℕ) → d ≡ e → (status : ℕ) (old new : Outside) (beside : Beside) (moments : Option (List ℕ)) (posts : PostsTold) (spawner : SpawnerTold)
+    → ((lines : LineState) × WasSpawned next (words_of d []) cause status old new beside (record { moments = moments; posts = posts; spawner = spawner; lines = lines }))
+    → (lines : LineState) × WasSpawned next (words_of e []) cause status old new beside (record { moments = moments; posts = posts; spawner = spawner; lines = lines })
+as_dir next cause d e is status old new beside moments posts spawner h =
+    subst (λ (x : List ℕ). (lines : LineState) × WasSpawned next (words_of x []) cause status old new beside (record { moments = moments; posts = posts; spawner = spawner; lines = lines })) is h

@@ -1,5 +1,6 @@
 -- What a spawner that was run over posts and a spawner of processes did, and why it ended so.
-use Rattle.std.specs.Prelude.{◌≡◌, ◌⊎◌, ◌↔◌, ℕ, List, [], ◌∷◌, Some, None, true, false, length, replicate}
+use Rattle.std.specs.Prelude.{◌≡◌, ◌⊎◌, ◌↔◌, ℕ, List, [], ◌∷◌, Option, Some, None, Result, Ok, Err, true, false, length, replicate}
+use Rattle.std.specs.declared.alloc.AllocError.{AllocError}
 use Rattle.call_fs.specs.declared.past.ChildData.{ChildData}
 use Rattle.call_fs.specs.declared.past.Own.{Own}
 use Rattle.call_fs.specs.Past.{Table, taken}
@@ -60,3 +61,9 @@ abbrev pub WasSpawned : (Unit {0} → Table) → (ChildData → List (List ℕ))
 WasSpawned next words cause status old new beside now =
     HasRunOver next words cause status old new beside now
     ⊎ ((status ≡ MEMORY) × (WasCutShort next words old new beside now ⊎ StillRuns next words old new beside now))
+
+-- The exit status after a run: out of memory if it was cut short, or still runs.
+abbrev pub status_of : Result (Option ℕ) AllocError → ℕ
+status_of (Ok (Some status)) = status
+status_of (Ok None) = MEMORY
+status_of (Err why) = MEMORY

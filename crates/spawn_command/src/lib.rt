@@ -12,6 +12,7 @@
 //!   field was too long, 0 or 51: `spawn_remote`, `spawn_local` (by `WasSpawned`).
 #![tactic(auto)]
 
+mod ending;
 mod local;
 mod remote;
 

@@ -7,6 +7,7 @@ ghost use Rattle.local_spawn.specs.Causes.{HasEnded};
 ghost use Rattle.local_spawn.specs.Table.{Next};
 ghost use Rattle.spawn_command.specs.Spawned.{WasSpawned, begun_lines};
 
+use crate::ending::status_of;
 use call_fs::CallFs;
 use local_spawn::LocalSpawn;
 use outside::{Clock, Gate, Posts, Sink, Spawner};
@@ -39,7 +40,12 @@ pub fn spawn_local<D: CallFs, K: Clock, P: Posts, S: Spawner, O: Sink, G: Gate>(
         (record { moments = K.calls clock.new; posts = record { waiting = P.waiting posts.new; asked = P.calls posts.new; faults = P.faults posts.new }; spawner = record { children = S.children spawn.new; calls = S.calls spawn.new; faults = S.faults spawn.new }; lines = lines }) }
 {
     match dir_word(alloc, dir) {
-        Ok(word) => spawn_told(alloc, word.as_slice(), disk, clock, posts, spawn, out, gate),
+        Ok(word) => {
+            let told = word.as_slice();
+            let status = spawn_told(alloc, told, disk, clock, posts, spawn, out, gate);
+            drop(word);
+            status
+        }
         Err(_) => MEMORY,
     }
 }
@@ -62,26 +68,26 @@ fn spawn_told<D: CallFs, K: Clock, P: Posts, S: Spawner, O: Sink, G: Gate>(
         (record { moments = K.calls clock.new; posts = record { waiting = P.waiting posts.new; asked = P.calls posts.new; faults = P.faults posts.new }; spawner = record { children = S.children spawn.new; calls = S.calls spawn.new; faults = S.faults spawn.new }; lines = lines }) }
 {
     lines_tell_the_past();
-    let words = QueueChildren { dir, program: b"" };
-    let mut lines = Lines::new(alloc, [Some(0), None, None, None]);
-    let Ok(mut machine) = LocalSpawn::new(alloc) else {
-        return MEMORY;
-    };
-    match run_member(
-        alloc,
-        &mut machine,
-        &words,
-        &mut lines,
-        disk,
-        clock,
-        posts,
-        spawn,
-        out,
-        gate,
-    ) {
-        Ok(Some(status)) => status,
-        // after all the turns that a run may take, which nobody lives to see
-        Ok(None) => MEMORY,
+    match LocalSpawn::new(alloc) {
+        Ok(mut machine) => {
+            let words = QueueChildren { dir, program: b"" };
+            let mut lines = Lines::new(alloc, [Some(0), None, None, None]);
+            let ran = run_member(
+                alloc,
+                &mut machine,
+                &words,
+                &mut lines,
+                disk,
+                clock,
+                posts,
+                spawn,
+                out,
+                gate,
+            );
+            drop(lines);
+            drop(machine);
+            status_of(ran)
+        }
         Err(_) => MEMORY,
     }
 }

@@ -7,6 +7,7 @@ ghost use Rattle.spawner_parts.specs.Causes.{IsEnded};
 ghost use Rattle.remote_spawn.specs.Table.{Next};
 ghost use Rattle.spawn_command.specs.Spawned.{WasSpawned, begun_lines};
 
+use crate::ending::status_of;
 use call_fs::CallFs;
 use outside::{Clock, Gate, Posts, Sink, Spawner};
 use program_runner::{Lines, QueueChildren, lines_tell_the_past, run_member};
@@ -38,26 +39,26 @@ pub fn spawn_remote<D: CallFs, K: Clock, P: Posts, S: Spawner, O: Sink, G: Gate>
         (record { moments = K.calls clock.new; posts = record { waiting = P.waiting posts.new; asked = P.calls posts.new; faults = P.faults posts.new }; spawner = record { children = S.children spawn.new; calls = S.calls spawn.new; faults = S.faults spawn.new }; lines = lines }) }
 {
     lines_tell_the_past();
-    let words = QueueChildren { dir: b"", program };
-    let mut lines = Lines::new(alloc, [Some(0), None, None, None]);
-    let Ok(mut machine) = RemoteSpawn::new(alloc) else {
-        return MEMORY;
-    };
-    match run_member(
-        alloc,
-        &mut machine,
-        &words,
-        &mut lines,
-        disk,
-        clock,
-        posts,
-        spawn,
-        out,
-        gate,
-    ) {
-        Ok(Some(status)) => status,
-        // after all the turns that a run may take, which nobody lives to see
-        Ok(None) => MEMORY,
+    match RemoteSpawn::new(alloc) {
+        Ok(mut machine) => {
+            let words = QueueChildren { dir: b"", program };
+            let mut lines = Lines::new(alloc, [Some(0), None, None, None]);
+            let ran = run_member(
+                alloc,
+                &mut machine,
+                &words,
+                &mut lines,
+                disk,
+                clock,
+                posts,
+                spawn,
+                out,
+                gate,
+            );
+            drop(lines);
+            drop(machine);
+            status_of(ran)
+        }
         Err(_) => MEMORY,
     }
 }

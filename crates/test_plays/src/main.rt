@@ -40,7 +40,7 @@
 //!   `out_fails`: which givings to the output do.
 //! - `steady`: byte by byte the same sources must lead to the same file calls and answers.
 //! - `status`, `out`, `log`, `left`: the exit status that must come, what the output and the log must have taken, and which names
-//!   must be left.
+//!   must be left. `ends`, in place of `out`: with what the output must end.
 //!
 //! or of a script with
 //!
@@ -52,29 +52,36 @@
 //! are one byte, and `%*` is the byte of the line `times`, as often as it says. The line printed of the file says how many rows
 //! came as they should, after those that didn't.
 //!
-//! At last a message is sent by real processes from a real directory, and `send ok` is printed if it came to where it belongs. These
-//! processes are this same program: if it is told words, it does what `qmail` does with them.
+//! Then threads of `work` meet at the gate, and `meeting ok` is printed if all of them were held there at once.
+//!
+//! `NAME.sh` is a script of sh(1), played at last. The line printed of it is `NAME ok` if it ends with 0 and prints the text of
+//! `NAME.out`, and else `NAME differs`. Its parent is this same program, which does what `qmail` does if it is told words: so there
+//! `/proc/$PPID/exe` is `qmail` itself, over real processes and real directories.
 #![tactic(auto)]
 
 mod calling;
 mod crowded_disk;
 mod disks;
 mod fields;
+mod meeting;
 mod plays;
-mod real_sender;
 mod rows;
+mod shells;
 mod stages;
 mod stops;
 mod survivors;
 mod told;
 
 use host_streams::status_of;
+use meeting::is_met;
 use plays::prints;
 use qmail_process::{run, words_of};
 use qmail_top::Qmail;
-use real_sender::is_sent;
 use rows::make_rows;
+use shells::shell_prints;
 use std::process::ExitCode;
+use std::sync::Wait;
+use std::thread::Threads;
 use std::{fs, io};
 use stops::stop_everywhere;
 
@@ -82,7 +89,7 @@ fn main(rt: HostRuntime) -> ExitCode {
     let called = match words_of(&rt, rt.alloc()) {
         Ok(words) => {
             if words.is_empty() {
-                Ok(play_folder(&rt))
+                Ok(play_folder(&rt, &rt))
             } else {
                 run(&Qmail, &rt, rt, rt.alloc(), &words)
             }
@@ -93,26 +100,27 @@ fn main(rt: HostRuntime) -> ExitCode {
 }
 
 /// Plays what the folder has, and answers the exit status: 1 if something of it can't be read or printed.
-fn play_folder(rt: &HostRuntime) -> u8 {
-    match play_each(rt) {
+fn play_folder<H: Threads + Wait + Sync>(rt: &HostRuntime, handle: &H) -> u8 {
+    match play_each(rt, handle) {
         Ok(()) => 0,
         Err(_) => 1,
     }
 }
 
-/// Plays what the folder has, and sends a message.
-fn play_each(rt: &HostRuntime) -> io::Result<()> {
-    play_all(rt)?;
+/// Plays what the folder has, and lets threads meet.
+fn play_each<H: Threads + Wait + Sync>(rt: &HostRuntime, handle: &H) -> io::Result<()> {
+    play_all(rt, ".play")?;
     stop_all(rt)?;
-    make_all(rt)?;
-    let verdict = if is_sent(rt)? { "ok" } else { "differs" };
-    println!(rt; "send {verdict}")
+    make_all(rt, handle)?;
+    let met = if is_met(rt, handle)? { "ok" } else { "differs" };
+    println!(rt; "meeting {met}")?;
+    play_all(rt, ".sh")
 }
 
-/// Plays each script that is a pair of files.
-fn play_all(rt: &HostRuntime) -> io::Result<()> {
-    for name in &names_of(rt, ".play")? {
-        let verdict = if plays_as_expected(rt, name)? {
+/// Plays each script with this ending, whose other file has what it prints.
+fn play_all(rt: &HostRuntime, ending: &str) -> io::Result<()> {
+    for name in &names_of(rt, ending)? {
+        let verdict = if plays_as_expected(rt, name, ending)? {
             "ok"
         } else {
             "differs"
@@ -125,15 +133,15 @@ fn play_all(rt: &HostRuntime) -> io::Result<()> {
 /// Plays each script that is cut.
 fn stop_all(rt: &HostRuntime) -> io::Result<()> {
     for name in &names_of(rt, ".stops")? {
-        stop_everywhere(rt, name, &text_of(rt, name, "stops")?)?;
+        stop_everywhere(rt, name, &text_of(rt, name, ".stops")?)?;
     }
     Ok(())
 }
 
 /// Makes the calls of each file of rows.
-fn make_all(rt: &HostRuntime) -> io::Result<()> {
+fn make_all<H: Threads + Wait + Sync>(rt: &HostRuntime, handle: &H) -> io::Result<()> {
     for name in &names_of(rt, ".rows")? {
-        make_rows(rt, name, &text_of(rt, name, "rows")?)?;
+        make_rows(rt, handle, name, &text_of(rt, name, ".rows")?)?;
     }
     Ok(())
 }
@@ -151,20 +159,26 @@ fn names_of(rt: &HostRuntime, ending: &str) -> io::Result<Vec<String>> {
 }
 
 /// Whether the script of this name prints what it should.
-fn plays_as_expected(rt: &HostRuntime, name: &str) -> io::Result<bool> {
-    let script = read(rt, name, "play")?;
-    let expected = read(rt, name, "out")?;
+fn plays_as_expected(rt: &HostRuntime, name: &str, ending: &str) -> io::Result<bool> {
+    let expected = read(rt, name, ".out")?;
+    if ending == ".sh" {
+        return shell_prints(rt, name, &expected);
+    }
+    let script = read(rt, name, ending)?;
     prints(rt, script, &expected)
 }
 
-/// The bytes of the file `NAME.KIND`.
-fn read(rt: &HostRuntime, name: &str, kind: &str) -> io::Result<Vec<u8>> {
-    let path = format!(in rt.alloc(); "{name}.{kind}")?;
-    fs::read(rt, path.as_str())
+/// The bytes of the file with this name and ending.
+fn read(rt: &HostRuntime, name: &str, ending: &str) -> io::Result<Vec<u8>> {
+    fs::read(rt, path_of(rt, name, ending)?.as_str())
 }
 
-/// The text of the file `NAME.KIND`.
-fn text_of(rt: &HostRuntime, name: &str, kind: &str) -> io::Result<String> {
-    let path = format!(in rt.alloc(); "{name}.{kind}")?;
-    fs::read_to_string(rt, path.as_str())
+/// The text of the file with this name and ending.
+fn text_of(rt: &HostRuntime, name: &str, ending: &str) -> io::Result<String> {
+    fs::read_to_string(rt, path_of(rt, name, ending)?.as_str())
+}
+
+/// The path of the file with this name and ending.
+fn path_of(rt: &HostRuntime, name: &str, ending: &str) -> io::Result<String> {
+    Ok(format!(in rt.alloc(); "{name}{ending}")?)
 }

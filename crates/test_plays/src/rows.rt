@@ -1,6 +1,6 @@
 // Calls of `qmail`, as rows of a file.
 
-use crate::calling::call;
+use crate::calling::call_with_threads;
 use crate::crowded_disk::CrowdedDisk;
 use crate::disks::{dirs_of, disk_of, names_in};
 use crate::fields::{are_well_formed, bytes, field, has_field, number, numbers, parts};
@@ -8,12 +8,14 @@ use crate::told::is_told;
 use call_fs::Recorder;
 use mail_bytes::ByteText;
 use mem_fs::MemFs;
-use outside::{MemClock, MemSink, MemSource};
+use outside::{MemClock, MemSink, MemSource, OpenGate};
 use std::alloc::Global;
 use std::io;
+use std::sync::Wait;
+use std::thread::Threads;
 
 /// The names that lines of a row begin with.
-const NAMES: [&str; 22] = [
+const NAMES: [&str; 23] = [
     "words",
     "pid",
     "moments",
@@ -31,6 +33,7 @@ const NAMES: [&str; 22] = [
     "out_fails",
     "status",
     "out",
+    "ends",
     "log",
     "left",
     "opening",
@@ -39,11 +42,16 @@ const NAMES: [&str; 22] = [
 ];
 
 /// Makes the call of each row, and prints which rows go otherwise and how many go as they say.
-pub(crate) fn make_rows(rt: &HostRuntime, file: &str, text: &str) -> io::Result<()> {
+pub(crate) fn make_rows<H: Threads + Wait + Sync>(
+    rt: &HostRuntime,
+    handle: &H,
+    file: &str,
+    text: &str,
+) -> io::Result<()> {
     let (head, _) = text.split_once("\nrow").unwrap_or((text, ""));
     let mut right = 0u64;
     for row in text.split("\nrow").skip(1) {
-        if is_right(rt, head, row)? {
+        if is_right(rt, handle, head, row)? {
             right = right.saturating_add(1);
         } else {
             println!(rt; "{file}: otherwise: {row}")?;
@@ -53,7 +61,12 @@ pub(crate) fn make_rows(rt: &HostRuntime, file: &str, text: &str) -> io::Result<
 }
 
 /// Whether the call of a row goes as it says. The lines before all rows count if the row has no line of that name.
-fn is_right(rt: &HostRuntime, head: &str, row: &str) -> io::Result<bool> {
+fn is_right<H: Threads + Wait + Sync>(
+    rt: &HostRuntime,
+    handle: &H,
+    head: &str,
+    row: &str,
+) -> io::Result<bool> {
     let lines = format!(in rt.alloc(); "{row}\n{head}")?;
     if !are_well_formed(&lines, &NAMES) {
         return Ok(false);
@@ -61,21 +74,29 @@ fn is_right(rt: &HostRuntime, head: &str, row: &str) -> io::Result<bool> {
     if has_field(&lines, "told") {
         return is_told(rt, &lines);
     }
-    Ok(is_made(rt, &lines)? && is_steady(rt, &lines)?)
+    Ok(is_made(rt, handle, &lines)? && is_steady(rt, handle, &lines)?)
 }
 
 /// Whether what comes of a call is what the row says.
-fn is_made(rt: &HostRuntime, lines: &str) -> io::Result<bool> {
-    Ok(made(rt, lines, false)?.is_right)
+fn is_made<H: Threads + Wait + Sync>(
+    rt: &HostRuntime,
+    handle: &H,
+    lines: &str,
+) -> io::Result<bool> {
+    Ok(made(rt, handle, lines, false)?.is_right)
 }
 
 /// Whether a call makes the same file calls, with the same answers, if its input comes byte by byte, where the row asks that.
-fn is_steady(rt: &HostRuntime, lines: &str) -> io::Result<bool> {
+fn is_steady<H: Threads + Wait + Sync>(
+    rt: &HostRuntime,
+    handle: &H,
+    lines: &str,
+) -> io::Result<bool> {
     if !has_field(lines, "steady") {
         return Ok(true);
     }
-    let whole = made(rt, lines, false)?;
-    let cut = made(rt, lines, true)?;
+    let whole = made(rt, handle, lines, false)?;
+    let cut = made(rt, handle, lines, true)?;
     Ok(cut.calls.as_str() == whole.calls.as_str() && whole.calls.contains("CreateExcl"))
 }
 
@@ -88,17 +109,23 @@ struct Came {
 }
 
 /// Makes the call of a row, with its input as it stands or byte by byte.
-fn made(rt: &HostRuntime, lines: &str, is_cut: bool) -> io::Result<Came> {
+fn made<H: Threads + Wait + Sync>(
+    rt: &HostRuntime,
+    handle: &H,
+    lines: &str,
+    is_cut: bool,
+) -> io::Result<Came> {
     let room = number(lines, "room") as usize;
     let out = MemSink::new(rt.alloc(), room, numbers(rt.alloc(), lines, "out_fails"))?;
     let log = MemSink::new(rt.alloc(), room, Vec::new(rt.alloc()))?;
-    Ok(call_row(rt, lines, is_cut, out, log))
+    Ok(call_row(rt, handle, lines, is_cut, out, log))
 }
 
 /// Makes the call of a row with this output and this log. It holds forms of every kind, so nothing branches here, and each is
 /// dropped by name.
-fn call_row(
+fn call_row<H: Threads + Wait + Sync>(
     rt: &HostRuntime,
+    handle: &H,
     lines: &str,
     is_cut: bool,
     mut out: MemSink,
@@ -114,8 +141,9 @@ fn call_row(
     let envelope = pieces_of(alloc, lines, "envelope", is_cut);
     let mut envelope = MemSource::new(envelope, Vec::new(alloc));
     let mut clock = MemClock::new(numbers(alloc, lines, "moments"), pid_of(lines));
-    let status = call(
+    let status = call_with_threads(
         rt,
+        handle,
         &words,
         &mut disk,
         &mut message,
@@ -123,6 +151,7 @@ fn call_row(
         &mut out,
         &mut log,
         &mut clock,
+        &OpenGate,
     );
     drop(words);
     drop(message);
@@ -147,7 +176,7 @@ fn seen(
     log: &MemSink,
 ) -> Came {
     let is_right = has_left(alloc, lines, status, disk.disk().below(), dirs)
-        & has_taken(alloc, lines, "out", out)
+        & has_printed(alloc, lines, out)
         & has_taken(alloc, lines, "log", log);
     Came {
         is_right,
@@ -160,6 +189,15 @@ fn has_left(alloc: Global, lines: &str, status: u8, disk: &MemFs, dirs: &[ByteTe
     u64::from(status) == number(lines, "status")
         && names_in(alloc, disk, dirs).as_slice()
             == bytes(alloc, lines, field(lines, "left")).as_slice()
+}
+
+/// Whether the output took the bytes that a row says; or at the end those after `ends`, if it has them.
+fn has_printed(alloc: Global, lines: &str, out: &MemSink) -> bool {
+    if !has_field(lines, "ends") {
+        return has_taken(alloc, lines, "out", out);
+    }
+    out.taken()
+        .ends_with(bytes(alloc, lines, field(lines, "ends")).as_slice())
 }
 
 /// Whether a sink took the bytes that stand after this name.

@@ -3,7 +3,7 @@ ghost use Rattle.std.specs.Prelude.{◌≡◌, IfOk};
 ghost use Rattle.call_fs.specs.Program.{due_of, child_data, words_data};
 
 use call_fs::{CallData, Child, ChildData, DeliveryWords, DeliveryWordsData, Need, NeedData};
-use mail_bytes::{ByteText, Memory};
+use mail_bytes::{ByteText, Memory, OnHeap};
 use std::alloc::Global;
 
 /// What is asked for. The error: out of memory.
@@ -14,7 +14,10 @@ pub fn need_data(alloc: Global, need: Need<'_>) -> Result<NeedData, Memory>
         Need::File(call) => Ok(NeedData::File(CallData::of(alloc, call)?)),
         Need::Take(port) => Ok(NeedData::Take(port)),
         Need::Give(port, bytes) => Ok(NeedData::Give(port, ByteText::from_slice(alloc, bytes)?)),
-        Need::Start(child) => Ok(NeedData::Start(child_data(alloc, child)?)),
+        Need::Start(child) => {
+            let asked = child_data(alloc, child)?;
+            Ok(NeedData::Start(OnHeap::new(alloc, asked)?))
+        }
         Need::Command(bytes) => Ok(NeedData::Command(ByteText::from_slice(alloc, bytes)?)),
         Need::Wait => Ok(NeedData::Wait),
         Need::Ended(status) => Ok(NeedData::Ended(status)),

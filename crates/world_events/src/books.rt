@@ -11,7 +11,7 @@ ghost use Rattle.queue_paths.specs.Names.{name_of};
 
 use crate::{Event, Program};
 use actor_names::ActorName;
-use call_fs::{Answer, CallData, GotData, NeedData, Own, Told};
+use call_fs::{Answer, CallData, GotData, NeedData, Own};
 use envelope_records::{EnvStep, EnvelopeReader};
 use mail_bytes::Memory;
 use queue_inject::Arguments;
@@ -249,7 +249,7 @@ fn number_so(call: &CallData, came: &GotData) -> Option<u64>
     ensures { result ≡ number_by (File call.now) came.now }
 {
     match came {
-        GotData::Answered(told) => linked_number(call, told),
+        GotData::Answered(told) => linked_number(call, &told.answer.copy()),
         GotData::Took(_) | GotData::End | GotData::Gave => None,
         GotData::Ended(_) | GotData::Crashed | GotData::Started { .. } => None,
         GotData::Failed | GotData::Memory => None,
@@ -257,10 +257,10 @@ fn number_so(call: &CallData, came: &GotData) -> Option<u64>
 }
 
 /// The number of the message whose name a call linked, answered Ok.
-fn linked_number(call: &CallData, told: &Told) -> Option<u64>
-    ensures { result ≡ linked_number call.now told.now.answer }
+fn linked_number(call: &CallData, answer: &Answer) -> Option<u64>
+    ensures { result ≡ linked_number call.now answer.now }
 {
-    match (call, &told.answer) {
+    match (call, answer) {
         (CallData::Link(_, new), Answer::Done) => mess_number(parse(new.as_slice())),
         _ => None,
     }
@@ -293,7 +293,7 @@ fn queues_so(call: &CallData, came: &GotData) -> bool
     ensures { result ≡ queues_by (File call.now) came.now }
 {
     match came {
-        GotData::Answered(told) => queues(call, told),
+        GotData::Answered(told) => queues(call, &told.answer.copy()),
         GotData::Took(_) | GotData::End | GotData::Gave => false,
         GotData::Ended(_) | GotData::Crashed | GotData::Started { .. } => false,
         GotData::Failed | GotData::Memory => false,
@@ -301,10 +301,10 @@ fn queues_so(call: &CallData, came: &GotData) -> bool
 }
 
 /// Whether a call put its mail into the queue: a link to a name in todo, answered Ok. An injector links only intd there.
-fn queues(call: &CallData, told: &Told) -> bool
-    ensures { result ≡ queues call.now told.now.answer }
+fn queues(call: &CallData, answer: &Answer) -> bool
+    ensures { result ≡ queues call.now answer.now }
 {
-    match (call, &told.answer) {
+    match (call, answer) {
         (CallData::Link(_, new), Answer::Done) => new.as_slice().starts_with(b"todo/"),
         _ => false,
     }

@@ -7,7 +7,7 @@ use crate::mail::unfed;
 use actor_names::{ActorName, bounce_name, delivery_name, forward_of};
 use call_fs::ChildData;
 use local_parts::LocalArgs;
-use mail_bytes::Memory;
+use mail_bytes::{Memory, OnHeap};
 use received_line::Invoked;
 use std::alloc::Global;
 
@@ -17,7 +17,7 @@ pub struct Born {
     /// Its name.
     pub name: ActorName,
     /// Its program.
-    pub program: Program,
+    pub program: OnHeap<Program>,
 }
 
 /// The counts of bounces and deliveries after this start, from those before it. The condition: a u64 counts them.
@@ -48,21 +48,28 @@ pub fn child_of(
         → child_of before parent.now asked.now pid start ≡ Some (born.name, born.program)) }
 {
     match asked {
-        ChildData::Bounce { .. } => Ok(Born {
-            name: bounce_name(counts.0),
-            program: Program::Injector(unfed(alloc, 0, Invoked::Bounce, pid, start)),
-        }),
-        ChildData::Forward { uid, .. } => Ok(Born {
-            name: forward_of(parent),
-            program: Program::Injector(unfed(alloc, *uid, Invoked::Uid(*uid), pid, start)),
-        }),
-        ChildData::Local { words, uid, .. } => Ok(Born {
-            name: delivery_name(counts.1),
-            program: Program::Delivery {
-                start,
-                args: LocalArgs::of(alloc, words, *uid, pid)?,
-            },
-        }),
+        ChildData::Bounce { .. } => {
+            let program = Program::Injector(unfed(alloc, 0, Invoked::Bounce, pid, start));
+            Ok(Born {
+                name: bounce_name(counts.0),
+                program: OnHeap::new(alloc, program)?,
+            })
+        }
+        ChildData::Forward { uid, .. } => {
+            let program = Program::Injector(unfed(alloc, *uid, Invoked::Uid(*uid), pid, start));
+            Ok(Born {
+                name: forward_of(parent),
+                program: OnHeap::new(alloc, program)?,
+            })
+        }
+        ChildData::Local { words, uid, .. } => {
+            let args = LocalArgs::of(alloc, words, *uid, pid)?;
+            let program = Program::Delivery { start, args };
+            Ok(Born {
+                name: delivery_name(counts.1),
+                program: OnHeap::new(alloc, program)?,
+            })
+        }
         ChildData::Remote { .. } => unreachable!(),
     }
 }

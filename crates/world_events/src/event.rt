@@ -5,7 +5,7 @@ ghost use Rattle.world_events.specs.Starting.{starts_in, starts_program};
 use actor_names::{ActorName, Member};
 use call_fs::{GotData, NeedData, Own, Ready, Survival};
 use local_parts::LocalArgs;
-use mail_bytes::{ByteText, Memory};
+use mail_bytes::{ByteText, Memory, OnHeap};
 use queue_inject::Arguments;
 use std::alloc::Global;
 
@@ -66,7 +66,7 @@ pub enum Event {
         /// Its name.
         actor: ActorName,
         /// What it runs.
-        program: Program,
+        program: OnHeap<Program>,
     },
     /// An actor did what was due.
     Act {
@@ -80,18 +80,18 @@ pub enum Event {
         /// Who started it.
         actor: ActorName,
         /// What that actor did, and what came of it.
-        own: Own,
+        own: OnHeap<Own>,
         /// Whom it started.
         child: ActorName,
         /// What the child runs, as one that was given nothing: its input has ended before its first byte.
-        program: Program,
+        program: OnHeap<Program>,
     },
     /// An actor gave a child its whole input, which is an event of its own past too.
     Feed {
         /// Who gave it.
         actor: ActorName,
         /// What that actor did, and what came of it.
-        own: Own,
+        own: OnHeap<Own>,
         /// To whom it was given.
         child: ActorName,
         /// The message that was given.
@@ -150,9 +150,8 @@ impl Event {
         ensures { option_map (λ own. own.now) result ≡ own_in self.now }
     {
         match self {
-            Event::Act { own, .. } | Event::Child { own, .. } | Event::Feed { own, .. } => Some(
-                own,
-            ),
+            Event::Act { own, .. } => Some(own),
+            Event::Child { own, .. } | Event::Feed { own, .. } => Some(own.get()),
             _ => None,
         }
     }
@@ -224,7 +223,8 @@ pub fn started_by(event: &Event) -> u32
     match event {
         Event::Start { .. } | Event::Child { .. } => 1,
         Event::Generation { .. } => Member::COUNT as u32,
-        Event::Act { own, .. } | Event::Feed { own, .. } => starts(own),
+        Event::Act { own, .. } => starts(own),
+        Event::Feed { own, .. } => starts(own.get()),
         _ => 0,
     }
 }

@@ -24,7 +24,7 @@ fn keep_came(descriptors: &mut Vec<Fd>, call: &CallData, came: &GotData)
     ensures { descriptors.new.items ≡ opened_by descriptors.old.items (File call.now) came.now }
 {
     match came {
-        GotData::Answered(told) => keep_answer(descriptors, call, &told.answer),
+        GotData::Answered(told) => keep_answer(descriptors, call, &told.answer.copy()),
         GotData::Took(_) | GotData::End | GotData::Gave => {}
         GotData::Ended(_) | GotData::Crashed | GotData::Started { .. } => {}
         GotData::Failed | GotData::Memory => {}

@@ -12,11 +12,11 @@
 //!   for each injector's mail, also for that of a bounce or of a forward, whose recipients are known once it is
 //!   given its envelope. Contracts: `History`: `events_of`; `Books::{add, enter, feed, note, cut_off}`, by
 //!   `new_entry`, `fed_entry`, `noted`, `cut_off`.
-//! - What an event keeps of its own: what a machine asked for, the bytes that a read brought, what a mail's
+//! - What an event keeps of its own: what a machine asked for, the bytes or the name that a call brought, what a mail's
 //!   injector is started with. How many programs an event starts; where each actor stands that is no member, by its
 //!   name. Who started, in order, and whether it has started again; which child comes of a start, with which name
-//!   and program. Contracts: `need_data`; `room_to_read`, `kept_read` (by `most_read`, `HasFew`, `bytes_read`);
-//!   `mail_of` (by `mail`); `started_by` (by `starts_in`); `Places` (by `place_of`); `Starts` (by `place_at`);
+//!   and program. Contracts: `need_data`; `room_for`, `told_in` (by `most_brought`, `HasFew`, `told_with`);
+//!   `mail_program` (by `mail`); `started_by` (by `starts_in`); `Places` (by `place_of`); `Starts` (by `place_at`);
 //!   `child_of`, `counts_with`.
 //! - What an actor has open after an event: also what its call opened, and not what it closed. When it is over,
 //!   each of these is closed, and of a disk that tells nothing else has changed. What came of an event, as a
@@ -41,7 +41,7 @@ pub use child::{Born, child_of, counts_with};
 pub use event::{Event, History, Program, started_by};
 pub use handed::got_of;
 pub use keeping::{close_all, keep_open};
-pub use mail::{MAIL_USER, mail_of, unfed};
+pub use mail::{MAIL_USER, mail_program, unfed};
 pub use places::Places;
-pub use reads::{kept_read, room_to_read};
+pub use reads::{room_for, told_in};
 pub use starts::Starts;

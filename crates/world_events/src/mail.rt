@@ -2,8 +2,10 @@
 ghost use Rattle.std.specs.Prelude.{◌≡◌, IfOk};
 ghost use Rattle.world_events.specs.Inputs.{unfed};
 ghost use Rattle.world_events.specs.Mails.{mail};
+ghost use Rattle.world_events.specs.declared.event.Program.TheVariants.{Injector};
 
-use mail_bytes::{ByteText, Memory};
+use crate::Program;
+use mail_bytes::{ByteText, Memory, OnHeap};
 use queue_inject::{Arguments, InputEnd};
 use received_line::Invoked;
 use std::alloc::Global;
@@ -11,8 +13,22 @@ use std::alloc::Global;
 /// The user whose mails a script starts.
 pub const MAIL_USER: u32 = 1000;
 
+/// What a mail runs: an injector. The error: out of memory.
+pub fn mail_program(
+    alloc: Global,
+    pid: u32,
+    start: u64,
+    message: &[u8],
+    envelope: &[u8],
+) -> Result<OnHeap<Program>, Memory>
+    ensures { IfOk result (λ program. program ≡ Injector (mail pid start message.now envelope.now)) }
+{
+    let arguments = mail_of(alloc, pid, start, message, envelope)?;
+    OnHeap::new(alloc, Program::Injector(arguments))
+}
+
 /// What the injector of a mail is started with. The error: out of memory.
-pub fn mail_of(
+fn mail_of(
     alloc: Global,
     pid: u32,
     start: u64,

@@ -42,7 +42,7 @@ pub fn exchange(
             give(mouths, at, slot, actor, *port, bytes.as_slice())?;
             Ok(Some(GotData::Gave))
         }
-        NeedData::Start(asked) => Ok(Some(start(&mut mouths[at], asked, pid))),
+        NeedData::Start(asked) => Ok(Some(start(&mut mouths[at], asked.get(), pid))),
         NeedData::Command(command) => Ok(Some(GotData::Ended(command_exits(command.as_slice())))),
         NeedData::File(_) | NeedData::Wait | NeedData::Ended(_) => Ok(None),
     }

@@ -2,6 +2,7 @@
 ghost use Rattle.std.specs.Prelude.{◌≡◌, ◌⊎◌, ◌≤◌, ◌<◌, ℕ, [], Some, IfOk, IsSome, length, vec_len, vec_capacity};
 ghost use Rattle.actor_names.specs.MailNames.{members};
 ghost use Rattle.call_fs.specs.Program.{due_of};
+ghost use Rattle.world_pipes.specs.Pipework.{slot_of};
 ghost use Rattle.world_pipes.specs.Wired.{HaveSlots, seat};
 ghost use Rattle.world_pipes.specs.Seating.{AreFresh, AreRenewed, HasPipesFor, HasPlaceAfter, due_slot, IsFoundAt, input_of, only_child, has_actor, is_due_of_child};
 ghost use Rattle.world_pipes.specs.Mouths.{ended_of};
@@ -175,8 +176,18 @@ pub fn due_slot(due: &NeedData) -> u8
     ensures { result ≡ due_slot due.now }
 {
     match due {
-        NeedData::Start(ChildData::Local { slot, .. } | ChildData::Remote { slot, .. }) => *slot,
+        NeedData::Start(asked) => slot_of(asked.get()),
         NeedData::Give(Port::Program(slot), _) | NeedData::Take(Port::Status(slot)) => *slot,
         _ => 0,
+    }
+}
+
+/// The slot of a child that is to start; 0 if it takes none.
+fn slot_of(asked: &ChildData) -> u8
+    ensures { result ≡ slot_of asked.now }
+{
+    match asked {
+        ChildData::Local { slot, .. } | ChildData::Remote { slot, .. } => *slot,
+        ChildData::Bounce { .. } | ChildData::Forward { .. } => 0,
     }
 }

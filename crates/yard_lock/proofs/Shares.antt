@@ -1,4 +1,4 @@
--- Passes that are split, joined and looked at, and the table at its start and its end.
+-- Passes that are split, joined and looked at, and the table at its start.
 use Rattle.std.proofs.Common.{◌≡◌, ◌≢◌, ℕ, zero, suc, ◌+◌, ◌-◌, ◌<◌, List, [], ◌∷◌, ◌++◌, length, set, Option, Some, Result, sym, refl, ap, ◌∙◌, subst, inl, inr, ⊎_elim, arith, length-set, length-append}
 use mathlib.Core.Logic.{dite}
 use mathlib.Core.Option.{none, some, some-injective, some-ne-none}
@@ -13,10 +13,10 @@ use Rattle.yard_lock.specs.declared.view.Stage.{Stage}
 use Rattle.yard_lock.specs.declared.view.Stage.TheVariants.{Idle, New, Joined, Waits, Has}
 use Rattle.yard_lock.specs.declared.view.View.{View}
 use Rattle.yard_lock.specs.declared.view.Opening.{Opening}
-use Rattle.yard_lock.specs.Turns.{turns_of, Replay}
-use Rattle.yard_lock.specs.Rule.{view, ticket_count, tickets_of, parts_of, Knows, Fits, Apart, IsOut, IsHome, Ruled, first_view}
+use Rattle.yard_lock.specs.Turns.{turns_of}
+use Rattle.yard_lock.specs.Rule.{view, ticket_count, tickets_of, parts_of, Knows, Fits, Apart, IsOut, Ruled, first_view}
 use Rattle.yard_lock.specs.inside.Steps.{Learns, learned, rest_of, part_of, both_of, spent_view}
-use Rattle.yard_lock.proofs.Turns.{total-set, total-snoc, at_in, set_there, at_end, prefix-length, turns-none, total-two, prefix-whole, Longer, longer_is}
+use Rattle.yard_lock.proofs.Turns.{total-set, total-snoc, at_in, set_there, at_end, prefix-length, turns-none, prefix-whole, Longer, longer_is}
 use Rattle.yard_lock.proofs.Steps.{each_set, apart_set, free, out_set, seen_whole_set}
 
 module _ {I O : Type 0} where
@@ -30,7 +30,7 @@ module _ {I O : Type 0} where
       (λ (s : (j ≡ length vs) × (w ≡ v)). absurd (free w w z (ap tickets_of s.1 ∙ a) (ap tickets_of s.1 ∙ a) refl))
       (at_end vs w v j ej)
 
-  no_state : (v : View I O) → tickets_of v ≡ 0 → (t : ℕ) → v.stage ≢ Has t
+  pub no_state : (v : View I O) → tickets_of v ≡ 0 → (t : ℕ) → v.stage ≢ Has t
   no_state v z t e = let h : tickets_of v ≡ 1 = ap ticket_count e in absurd (omega arith)
 
   learns : (turns : List (Turn I O)) (drawn k : ℕ) (seen : List (Turn I O)) → turns_of k turns ≡ turns_of k seen → (st : Stage I O) → Knows turns drawn k seen st → Learns k seen st
@@ -189,21 +189,3 @@ module _ {I O Y : Type 0} (moves : Y → I → Result O Memory → Y → Type 0)
             (λ m. (far.0, far.1, set_else vs other far.0 gone m ∙ (set_else s.views id far.0 both n ∙ far.2), far.3, far.4)));
         home = ⊎_elim inl (λ (o : IsOut s.views). inr (out_set vs other u gone there (no_state u out') (out_set s.views id v both at (no_state v out) o))) r.home;
       }
-
-  -- a pass with all parts has seen all turns, and the state is at home
-  pub closes : (s : State (Option Y) (View I O)) (id : ℕ) (v : View I O) → R s → get_elem? s.views id ≡ some v → v.stage ≡ Idle → v.parts ≡ key.parts → (y : Y) × (get_elem? s.homes 0 ≡ some (some (Some y))) × Replay moves key.state.value v.seen y
-  closes s id v r at idle all =
-      let whole = r.whole in
-      let single : (k : ℕ) (u : View I O) → get_elem? s.views k ≡ some u → 0 < u.parts → k ≡ id = λ k u e live.
-      dite (ℕ_discrete k id) (λ (a : k ≡ id). a) (λ n. let t = total-two parts_of s.views k id u v e at n in absurd (omega arith)) in
-      let far = r.seen_whole in
-      let one = single far.0 far.1 far.2 far.3 in
-      let is : v ≡ far.1 = some-injective v far.1 (sym at ∙ (ap (get_elem? s.views) (sym one) ∙ far.2)) in
-      let seen : r.turns ≡ v.seen = sym (ap (λ (x : View I O). x.seen) is ∙ far.4) in
-      let h : IsHome moves key.state.value r.turns r.slot = ⊎_elim (λ (a : IsHome moves key.state.value r.turns r.slot). a)
-      (λ (o : IsOut s.views). let w : tickets_of o.1 ≡ 1 = ap ticket_count o.4 in let light = (r.each o.0 o.1 o.3).light in
-      let mine = single o.0 o.1 o.3 (omega arith) in
-      let same : v ≡ o.1 = some-injective v o.1 (sym at ∙ (ap (get_elem? s.views) (sym mine) ∙ o.3)) in
-      absurd (no_state v (ap ticket_count idle) o.2 (ap (λ (x : View I O). x.stage) same ∙ o.4)))
-      r.home in
-      (h.0, ap (λ hs. get_elem? hs 0) r.homes ∙ ap some h.1, subst (λ (l : List (Turn I O)). Replay moves key.state.value l h.0) seen h.2)

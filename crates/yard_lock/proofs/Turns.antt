@@ -22,6 +22,10 @@ module _ {A : Type 0} where
   total-below f g [] h = omega arith
   total-below f g (x ∷ xs) h = let a : f x ≤ g x = h 0 x refl in let r = total-below f g xs (λ k v e. h (suc k) v e) in omega arith
 
+  pub total-none : (f : A → ℕ) (l : List A) → ((k : ℕ) (v : A) → get_elem? l k ≡ some v → f v ≡ 0) → total f l ≡ 0
+  total-none f [] h = refl
+  total-none f (x ∷ xs) h = let a : f x ≡ 0 = h 0 x refl in let r = total-none f xs (λ k v e. h (suc k) v e) in omega arith
+
   pub at_in : (l : List A) (i : ℕ) (v : A) → get_elem? l i ≡ some v → i < length l
   at_in [] i v e = absurd (some-ne-none v (sym e))
   at_in (x ∷ xs) zero v e = omega arith

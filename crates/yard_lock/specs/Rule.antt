@@ -87,6 +87,17 @@ module _ {I O : Type 0} where
     pub whole : IsSeenWhole turns views
     pub single : (j k t u : ℕ) (v w : View I O) → get_elem? views j ≡ some v → get_elem? views k ≡ some w → v.stage ≡ Has t → w.stage ≡ Has u → j ≡ k
 
+  -- The pass with the number k, which has seen these turns, has seen all turns, and is the only one left: each other is spent. What each
+  -- of all passes had seen is a prefix of what this one has seen, in which just the turns that it took stand with its number.
+  pub record HasSeenAll (turns : List (Turn I O)) (views : List (View I O)) (k : ℕ) (seen : List (Turn I O)) : Type 0 where
+    pub all : seen ≡ turns
+    pub spent : (j : ℕ) (w : View I O) → get_elem? views j ≡ some w → j ≢ k → w.parts ≡ 0
+    pub list : AreOneList seen views
+
+  -- each pass is there later too, and what it had seen is a prefix of what it has seen then
+  abbrev pub SeeOn : List (View I O) → List (View I O) → Type 0
+  SeeOn before after = (k : ℕ) (v : View I O) → get_elem? before k ≡ some v → (w : View I O) × (get_elem? after k ≡ some w) × IsPrefix v.seen w.seen
+
 module _ {I O Y : Type 0} (moves : Y → I → Result O Memory → Y → Type 0) where
   -- the state is in its place, and all turns lead to it from the start
   abbrev pub IsHome : Y → List (Turn I O) → maybe.Option (Option Y) → Type 0
@@ -109,3 +120,15 @@ module _ {I O Y : Type 0} (moves : Y → I → Result O Memory → Y → Type 0)
     pub unmade : (k : ℕ) → length s.views ≤ k → turns_of k turns ≡ []
     pub seen_whole : IsSeenWhole turns s.views
     pub home : IsHome key.state.value turns slot ⊎ IsOut s.views
+
+  -- The table when the yard is closed by the pass with the number k, which has all parts and has seen these turns. It meets the rule, and
+  -- these are all turns of the rule's list; each ticket that was drawn has had its turn; and the state in its place is y.
+  pub record Ended (start : Y) (parts k : ℕ) (seen : List (Turn I O)) (y : Y) : Type 0 where
+    pub key : Opening Y
+    pub opened : (key.state.value ≡ start) × (key.parts ≡ parts)
+    pub table : State (Option Y) (View I O)
+    pub rule : Ruled key table
+    pub pass : get_elem? table.views k ≡ some (view parts seen Idle)
+    pub all : HasSeenAll rule.turns table.views k seen
+    pub drawn : rule.drawn ≡ length seen
+    pub home : rule.slot ≡ some (Some y)

@@ -16,11 +16,12 @@
 //! - A pass that is split off has seen what the other one had, and none of those turns is its own; its number is above the other's.
 //!   A pass that takes in another has seen the longer of the two, and what each had seen is a prefix of that; the turns with the
 //!   number of either are those that it had: `Pass::split`, `Pass::join`.
-//! - Who closes the yard gets a state to which the turns that its pass has seen lead from the one at the start: `Yard::close`. A pass
-//!   with all parts is the only one left, so these are all turns; that follows from the rule below and stands in no contract of its own.
+//! - Who closes the yard gets the state after all turns. These are what its pass has seen, and lead to it from the one at the start; no
+//!   other pass is left, and each ticket has had its turn: `Yard::close` (by `Ended`), and the law `laws::whole_passes_have_seen_all`.
 //! - What all passes have seen, spent ones too, are prefixes of one list, whatever thread holds them; each finds there just its own
 //!   turns with its number, and a number that no pass has stands nowhere. At most one pass has the state, and no two have one
-//!   ticket: the rule of the lock's table (`Ruled`), and the law `laws::turns_are_one_list`.
+//!   ticket: the rule of the lock's table (`Ruled`), and the law `laws::turns_are_one_list`. The list only grows: by
+//!   `laws::turns_only_grow`.
 //! - It isn't claimed who comes next, that a turn ever comes, that a thread that sleeps is woken, nor in which order passes were
 //!   split that never met.
 #![tactic(auto)]

@@ -2,7 +2,7 @@
 ghost use Rattle.std.specs.Prelude.{◌≡◌, ◌≢◌, ℕ, ◌+◌, ◌%◌, ◌^◌, ◌-◌, ◌<◌, [], ◌∷◌, ◌++◌, true, false, Some, IfOk};
 ghost use Rattle.yard_lock.specs.declared.view.Stage.TheVariants.{Idle, Waits, Has};
 ghost use Rattle.yard_lock.specs.Turns.{turn, turns_of, IsPrefix, Replay, Took, longer};
-ghost use Rattle.yard_lock.specs.Rule.{view, ticket_count};
+ghost use Rattle.yard_lock.specs.Rule.{view, ticket_count, Ended};
 ghost use Rattle.yard_lock.specs.inside.Steps.{Inside, Rests, rest_of, part_of, both_of, Learns};
 
 use crate::plays::{Divide, Draw, Enter, Facts, Learn, Leave, Partner, Portion, Unite};
@@ -248,7 +248,8 @@ impl<Y: Stepped> TicketLock<Y> {
     pub(crate) fn close(self, pass: Place<Y>) -> Y
         requires own { pass.table_id ≡ self.table.shared.table_id }
         requires rests { Rests Y.moves self.table.shared.key.parts pass.me }
-        ensures { Replay Y.moves self.table.shared.key.state.value pass.me.0.seen result }
+        ensures replay { Replay Y.moves self.table.shared.key.state.value pass.me.0.seen result }
+        ensures all { Ended Y.moves self.table.shared.key.state.value self.table.shared.key.parts pass.id pass.me.0.seen result }
     {
         let TicketLock { table } = self;
         let mut closed = table.close_with(pass);

@@ -2,6 +2,7 @@
 ghost use Rattle.std.specs.Prelude.{◌≡◌, ◌≢◌, ◌+◌, ◌-◌, ◌<◌, [], IsOk, IfOk};
 ghost use Rattle.yard_lock.specs.Turns.{turn, turns_of, IsPrefix, Replay, Took, longer};
 ghost use Rattle.yard_lock.specs.Model.{Held, held};
+ghost use Rattle.yard_lock.specs.Rule.{Ended};
 
 use crate::pass::{Pass, PassOf};
 use crate::ticket_lock::TicketLock;
@@ -57,11 +58,12 @@ impl<Y: Stepped> Yard<Y> {
         self.lock.step(rt, alloc, &mut pass.seat, input)
     }
 
-    /// The state, to which the turns that the pass has seen lead from the start. The condition: the pass is of this yard and has all
-    /// parts.
+    /// The state after all turns of all passes. They are those that this pass has seen, which lead to it from the start, and each other
+    /// pass is spent. The condition: the pass is of this yard and has all parts.
     pub fn close(self, pass: Pass<Y>) -> Y
         requires { (pass.yard ≡ self.id) × (pass.parts ≡ self.parts) }
-        ensures { Replay Y.moves self.start pass.seen result }
+        ensures replay { Replay Y.moves self.start pass.seen result }
+        ensures all { Ended Y.moves self.start self.parts pass.number pass.seen result }
     {
         let Yard { lock } = self;
         let PassOf { seat } = pass;

@@ -16,13 +16,14 @@ use Rattle.world_events.specs.declared.event.Event.TheVariants as kept
 use Rattle.mail_world.specs.World.{Seen}
 use Rattle.script_lines.specs.declared.line.Line.{Line}
 use Rattle.script_words.specs.declared.letter.Letter.{Letter}
-use Rattle.scenario.specs.declared.stepping.Stepped.{Stepped}
-use Rattle.scenario.specs.declared.stepping.Stepped.TheVariants as how
+use Rattle.scenario.specs.declared.stepping.AfterStep.{AfterStep}
+use Rattle.scenario.specs.declared.stepping.AfterStep.TheVariants as how
 use Rattle.scenario.specs.Deeds.{Deed}
 use Rattle.scenario.specs.Steps.{plan_through, has_idled, IsRunOf}
 use Rattle.scenario.specs.Traced.{traced_text}
 use Rattle.scenario.specs.Turns.{Part, IsTurnOf, events_of, text_of, AreReported, reports_of, Round, IsRound, round_events, has_bytes, is_idle, is_search_call, is_first_call}
-use Rattle.scenario.specs.Playing.{IsPlaying, HasPlayed}
+-- a world in which a script is played, and what a line or a step leaves
+pub use Rattle.scenario.specs.Playing.{IsPlaying, HasPlayed, HasStepped, HasRun, IsRefusedAs}
 
 -- an answer that there was no memory for the call
 abbrev pub is_memory : Answer → Bool
@@ -48,7 +49,7 @@ lacked_memory (kept.Moment m) = false
 lacked_memory (kept.Halt how) = false
 
 -- what a step of the world did, as what it left of its actor
-abbrev pub stepped_by : Option ℕ → Bool → Stepped
+abbrev pub stepped_by : Option ℕ → Bool → AfterStep
 stepped_by (Some status) idle = how.Over
 stepped_by None true = how.Idle
 stepped_by None false = how.On

@@ -89,8 +89,8 @@ fn told_by_a_walk(alloc: Global) -> Vec<Told> {
 
 /// The descriptor and the number of what the call at this place made.
 fn made(told: &[Told], at: usize) -> Option<(u64, u64)> {
-    match &told.get(at)?.answer {
-        Answer::Created(fd, number) => Some((fd.0, *number)),
+    match told.get(at)?.answer.copy() {
+        Answer::Created(fd, number) => Some((fd.0, number)),
         _ => None,
     }
 }
@@ -112,7 +112,7 @@ fn is_same(one: &Answer, other: &Answer) -> bool {
 /// Whether both told the same.
 fn are_same(one: &[Told], other: &[Told]) -> bool {
     one.len() == other.len()
-        && one.iter().zip(other.iter()).all(|(a, b)| is_same(&a.answer, &b.answer)
+        && one.iter().zip(other.iter()).all(|(a, b)| is_same(&a.answer.copy(), &b.answer.copy())
             && a.bytes.as_slice() == b.bytes.as_slice())
 }
 
@@ -131,7 +131,7 @@ fn a_list_of_calls_stops_before_a_strange_descriptor(rt: HostRuntime) {
     );
     assert!(rt;
         told.get(19).is_some_and(|told| is_same(
-            &told.answer,
+            &told.answer.copy(),
             &Answer::Refused(call_fs::FsError::Exists)
         ))
     );

@@ -69,6 +69,47 @@ const BYTE_ORDER: &[Row] = &[
     (NameAfter(b"mess/1", b""), Bytes(b"24")),
 ];
 
+/// Names of subdirectories are none of the directory's own, which are all found around them: the bytes `.`, `/` and `0` follow
+/// each other.
+const AROUND_SUBDIRECTORIES: &[Row] = &[
+    (Dir(b"pid/a"), Done),
+    (Dir(b"pid/a/b"), Done),
+    (Dir(b"pid/a00"), Done),
+    (Dir(b"pid/c"), Done),
+    (Dir(b"pid0"), Done),
+    (Place(b"pid/a/x", b""), Done),
+    (Place(b"pid/a/y", b""), Done),
+    (Place(b"pid/a/b/x", b""), Done),
+    (Place(b"pid/a/b/y", b""), Done),
+    (Place(b"pid/a00/0", b""), Done),
+    (Place(b"pid/c/.", b""), Done),
+    (Place(b"pid/c/0", b""), Done),
+    (Call(Next(b"pid", b"")), Nothing),
+    (Place(b"pid0/a", b""), Done),
+    (Call(Next(b"pid", b"")), Nothing),
+    (Place(b"pid/b", b""), Done),
+    (Call(Next(b"pid", b"")), Bytes(b"b")),
+    (Place(b"pid/a.", b""), Done),
+    (Place(b"pid/a0", b""), Done),
+    (Place(b"pid/a.z", b""), Done),
+    (Call(Next(b"pid", b"")), Bytes(b"a.")),
+    (Call(Next(b"pid", b"a")), Bytes(b"a.")),
+    (Call(Next(b"pid", b"a.")), Bytes(b"a.z")),
+    (Call(Next(b"pid", b"a.z")), Bytes(b"a0")),
+    (Call(Next(b"pid", b"a/")), Bytes(b"a0")),
+    (Call(Next(b"pid", b"a/b/x")), Bytes(b"a0")),
+    (Call(Next(b"pid", b"a0")), Bytes(b"b")),
+    (Call(Next(b"pid", b"b")), Nothing),
+    (Call(Next(b"pid", b"c")), Nothing),
+    (Call(Next(b"pid/a", b"")), Bytes(b"x")),
+    (Call(Next(b"pid/a", b"x")), Bytes(b"y")),
+    (Call(Next(b"pid/a", b"y")), Nothing),
+    (Call(Next(b"pid/a/b", b"x")), Bytes(b"y")),
+    (Call(Next(b"pid/c", b"")), Bytes(b".")),
+    (Call(Next(b"pid/c", b".")), Bytes(b"0")),
+    (NameAfter(b"pid", b"a.z"), Bytes(b"a0")),
+];
+
 /// The picks 0, 40, 40 and 7; the second and the fourth call fail.
 const PICKS_AND_FAULTS: &[Row] = &[
     (Place(b"control/me", b"host"), Done),
@@ -275,6 +316,7 @@ fn new_files_take_the_least_numbers(rt: HostRuntime) {
 #[test]
 fn names_come_in_byte_order(rt: HostRuntime) {
     assert!(rt; play(&rt, rt.alloc(), &[], &[], BYTE_ORDER));
+    assert!(rt; play(&rt, rt.alloc(), &[], &[], AROUND_SUBDIRECTORIES));
 }
 
 #[test]

@@ -34,6 +34,9 @@ rspawn DIR /usr/bin/deliver -> rspawn DIR /usr/bin/deliver; - DIR; InputAndChild
 send DIR p --turns 5 -> send DIR p 5; - DIR; Links
 send --turns=1000000 DIR ./deliver -> send DIR ./deliver 1000000; - DIR; Links
 send --turns 1 -- -DIR p -> send -DIR p 1; - -DIR; Links
+work -> work 2; - -; Nothing
+work --threads 1 -> work 1; - -; Nothing
+work --threads=16 -> work 16; - -; Nothing
 local DIR =j =h =j = = =x =a =l -> local DIR =j =h =j = = =x =a =l 0; - DIR; Children
 local DIR =j =home/j =j = = =localhost =a@x =./Maildir/ -> local DIR =j =home/j =j = = =localhost =a@x =./Maildir/ 0; - DIR; Children
 local --uid 1000 DIR =j =/home/j =J-%3d =- =%3D =x =%20%0A =l -> local DIR =j =/home/j =J-= =- == =x = \n =l 1000; - DIR; Children
@@ -109,6 +112,12 @@ send DIR p --turns 1000001
 send DIR p --turns 18446744073709551616
 send DIR p --turns 1 --turns 1
 send DIR p --turns 1 --help
+work --threads 0
+work --threads 17
+work --threads 02
+work --threads
+work more
+work --threads 2 --threads 2
 local DIR
 local DIR =j =h =j = = =x =a
 local DIR =j =h =j = = =x =a =l more
@@ -195,6 +204,7 @@ fn text_of(alloc: Global, found: &Result<Command, WordsError>) -> Result<String,
         Ok(Command::Rspawn(told)) => named(alloc, "rspawn", &told.dir, told.program.as_slice()),
         Ok(Command::Local(told)) => local_text(alloc, told),
         Ok(Command::Send(told)) => send_text(alloc, told),
+        Ok(Command::Work(threads)) => format!(in alloc; "work {threads}"),
         Err(why) => format!(in alloc; "{why}"),
     }
 }

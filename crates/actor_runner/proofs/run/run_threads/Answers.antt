@@ -7,7 +7,7 @@ use Rattle.actor_runner.proofs.run.run_threads.Goals as goal
 pub returns-in-Ok : goal.returns-in-Ok
 returns-in-Ok g c =
     let start : c.in_ok-yard.yard.start ≡ c.args.world = search rules in
-    let replay : Replay (moves g.D.CallFs.plan g.D.CallFs.disk) c.args.world c.run_all.new.first.seen c.close.result = rw (← start) c.close.ensures in
+    let replay : Replay (moves g.D.CallFs.plan g.D.CallFs.disk) c.args.world c.run_all.new.first.seen c.close.result = rw (← start) c.close.ensures.replay in
     let all = adds_all g.D.CallFs.plan g.D.CallFs.disk c.args.world c.run_all.new.first.seen c.close.result replay in record {
       turns = c.run_all.new.first.seen;
       replay = replay;

@@ -12,12 +12,19 @@ bytes_read-requires g c = λ n is.
 -- `performs` makes it of them. `lend` says that the call is the same, so each clause is rewritten by that.
 pub returns-clause-made : goal.returns-clause-made
 returns-clause-made g c = let e = c.perform-answer.ensures in
-    performs g.D.CallFs.disk g.D.CallFs.calls g.D.CallFs.plan g.D.CallFs.faults _ _ _ _ c.args.call.now _ _ _ c.lend.ensures (c.in_ok-bytes.ensures ∙ c.bytes_read.ensures)
+    performs g.D.CallFs.disk g.D.CallFs.calls g.D.CallFs.plan g.D.CallFs.faults _ _ _ _ c.args.call.now _ _ _ _ c.lend.ensures c.in_ok-answer.ensures (c.in_ok-bytes.ensures ∙ c.bytes_read.ensures)
     (record { told = e.told; recorded = e.recorded; read = e.read; kind = e.kind; moment = e.moment; number = e.number; plan = e.plan; cause = e.cause })
 
 pub returns-in_err-bytes-clause-err : goal.returns-in_err-bytes-clause-err
 returns-in_err-bytes-clause-err g c = let e = c.perform-answer.ensures in on_err c.from_residual.result (
   _,
-  performs g.D.CallFs.disk g.D.CallFs.calls g.D.CallFs.plan g.D.CallFs.faults _ _ _ _ c.args.call.now _ _ _ c.lend.ensures refl
+  performs g.D.CallFs.disk g.D.CallFs.calls g.D.CallFs.plan g.D.CallFs.faults _ _ _ _ c.args.call.now _ _ _ _ c.lend.ensures refl refl
+      (record { told = e.told; recorded = e.recorded; read = e.read; kind = e.kind; moment = e.moment; number = e.number; plan = e.plan; cause = e.cause }),
+)
+
+pub returns-in_err-answer-clause-err : goal.returns-in_err-answer-clause-err
+returns-in_err-answer-clause-err g c = let e = c.perform-answer.ensures in on_err c.from_residual-in_err-answer.result (
+  _,
+  performs g.D.CallFs.disk g.D.CallFs.calls g.D.CallFs.plan g.D.CallFs.faults _ _ _ _ c.args.call.now _ _ _ _ c.lend.ensures refl refl
       (record { told = e.told; recorded = e.recorded; read = e.read; kind = e.kind; moment = e.moment; number = e.number; plan = e.plan; cause = e.cause }),
 )

@@ -37,7 +37,7 @@ loop-call-preserved g c =
     let here = slice_get_read c.args.calls.now (length c.args.calls.now) l.call-index c.call-item.result refl c.loop-call-test.true c.call-item.is in
     rw c.in_ok-push.ensures.items
     (running_more g.D.CallFs.disk (Performs g.D.CallFs.disk g.D.CallFs.calls g.D.CallFs.plan g.D.CallFs.faults) c.args.disk.now l.disk c.args.calls.now l.call-index l.all.items l.held c.call-item.result l.invariant here
-    c.make.new.disk c.keep.new.held c.in_ok-told.told (c.may.ensures.0 c.if-not-may.false) c.in_ok-told.ensures.made c.in_ok-told.ensures.made.told c.in_ok-keep.ensures)
+    c.make.new.disk c.keep.new.held c.in_ok-told.told (c.may.ensures.0 c.if-not-may.false) c.in_ok-told.ensures.made c.in_ok-told.ensures.made.told (rw c.copy.ensures at c.in_ok-keep.ensures))
 
 pub returns-clause-ran : goal.returns-clause-ran
 returns-clause-ran g c = c.loop-call.invariant.ran

@@ -5,10 +5,10 @@ use Rattle.mail_bytes.proofs.Digits.{number_of_text}
 use Rattle.call_fs.specs.declared.past.DeliveryWordsData.{DeliveryWordsData}
 use Rattle.clap.proofs.OnLiterals.{clap_on_literals}
 use Rattle.command_words.specs.declared.command.Command.{Command}
-use Rattle.command_words.specs.declared.command.Command.TheVariants.{Make, Queue, Send, Local}
+use Rattle.command_words.specs.declared.command.Command.TheVariants.{Make, Queue, Send, Local, Work}
 use Rattle.command_words.specs.Delivery.{local_told, local_words}
-use Rattle.command_words.specs.Numbers.{as_below, as_turns, as_u32}
-use Rattle.command_words.specs.Reads.{dir_words, command_of, make_words, maker_told, play_words, queue_words, rspawn_words, send_words, sender_told, told}
+use Rattle.command_words.specs.Numbers.{as_below, as_turns, as_u32, as_threads}
+use Rattle.command_words.specs.Reads.{dir_words, command_of, make_words, maker_told, play_words, queue_words, rspawn_words, send_words, sender_told, told, work_words}
 use Rattle.command_words.proofs.laws.words_by_row.Goals as goal
 
 -- Numbers that are written out. The digits of a large one aren't computed.
@@ -32,6 +32,18 @@ thousand_is = refl
 none_is : number_of (codes "01") ≡ None
 unfolding number_of value digits
 none_is = refl
+
+no_thread_is : number_of (codes "02") ≡ None
+unfolding number_of value digits
+no_thread_is = refl
+
+sixteen_is : number_of (codes "16") ≡ Some 16
+unfolding number_of value digits
+sixteen_is = refl
+
+seventeen_is : number_of (codes "17") ≡ Some 17
+unfolding number_of value digits
+seventeen_is = refl
 
 most_is : number_of (codes "1000000") ≡ Some 1000000
 unfolding value
@@ -70,12 +82,13 @@ past_counts_is = number_of_text (codes "100001") (record {
 })
 
 pub returns : goal.returns
-unfolding command_of play_words queue_words dir_words rspawn_words send_words make_words local_words clap_on_literals
+unfolding command_of play_words queue_words dir_words rspawn_words send_words make_words local_words work_words clap_on_literals
 returns c =
     let maker : Option ℕ → Option ℕ → Option Command = λ seed count. option_map Make (maker_told (option_and_then (as_below 65537) seed) (option_and_then (as_below 100001) count)) in
     let sender : List ℕ → Option ℕ → Option Command = λ program number. option_map Send (sender_told (Some (record { dir = codes "DIR"; program = program })) (option_and_then as_turns number)) in
     let queue : Option ℕ → Option Command = λ number. option_map Queue (told (Some (codes "-")) (Some (codes "DIR")) (option_and_then as_u32 number) false) in
     let bounce : Option ℕ → Option Command = λ number. option_map Queue (told (Some (codes "-")) (Some (codes "DIR")) (option_and_then as_u32 number) true) in
+    let work : Option ℕ → Option Command = λ number. option_map Work (option_and_then as_threads number) in
     let delivery : DeliveryWordsData = record {
       user = codes "j";
       home = codes "home/j";
@@ -116,6 +129,12 @@ returns c =
       local = ap local thousand_is;
       unmarked = refl;
       bad_escape = refl;
+      work = refl;
+      threads = ap work sixteen_is;
+      no_threads = ap work zero_is;
+      too_many_threads = ap work seventeen_is;
+      thread_zero = ap work no_thread_is;
+      work_extra = refl;
       help = refl;
       version = refl;
       no_directory = refl;

@@ -5,7 +5,7 @@ use Rattle.local_command.proofs.delivering.deliver.Goals as goal
 
 pub returns-in-Ok : goal.returns-in-Ok
 returns-in-Ok g c =
-    c.run_machine.ensures (local_args c.args.words c.args.uid (g.K.Clock.pid c.args.clock.now))
+    c.run_machine-status.ensures (local_args c.args.words c.args.uid (g.K.Clock.pid c.args.clock.now))
     (stands_for c.in-Ok.machine c.arguments-args.result _ (c.arguments-args.ensures ∙ ap (λ (n : ℕ). local_args c.args.words c.args.uid n) c.pid.ensures) c.in-Ok.ensures)
 
 pub returns-in-Err : goal.returns-in-Err

@@ -7,7 +7,7 @@ use Rattle.world_events.specs.declared.event.Program.TheVariants.{Cleaner, Sende
 use Rattle.mail_world.specs.declared.actor.Actor.{Actor as Held}
 use Rattle.mail_world.specs.declared.any_machine.AnyMachine.{AnyMachine}
 use Rattle.mail_world.specs.declared.any_machine.AnyMachine.TheVariants.{Clean, Send, Local, Remote}
-use Rattle.mail_world.specs.ByKind.{Follows}
+use Rattle.mail_world.specs.ByKind.{Follows, Sends, Cleans, SpawnsLocals, Spawns}
 use Rattle.mail_world.specs.Crew.{IsNew, IsSeatedNew}
 use Rattle.mail_world.specs.Wired.{seat}
 use Rattle.mail_world.proofs.generation.members.Goals as goal
@@ -36,8 +36,8 @@ returns c = record {
   lspawn = c.seated-3.result;
   rspawn = c.seated-4.result;
   are = four _ _ _ _ _ c.seated.result c.seated-2.result c.seated-3.result c.seated-4.result c.in_ok-crew.ensures.items c.in_ok-push.ensures.items c.in_ok-push-2.ensures.items c.in_ok-push-3.ensures.items c.in_ok-push-4.ensures.items;
-  sender_is = new_is c.seated.result member.Sender Sender (Send c.in_ok-new.field-0) c.seated.ensures refl (λ start. c.in_ok-new.ensures.stands);
-  clean_is = new_is c.seated-2.result member.Cleaner Cleaner (Clean c.new-2.result) c.seated-2.ensures refl (λ start. c.new-2.ensures tt);
-  lspawn_is = new_is c.seated-3.result member.LocalSpawner LocalSpawner (Local c.in_ok-new-2.field-0) c.seated-3.ensures refl (λ start. c.in_ok-new-2.ensures tt);
-  rspawn_is = new_is c.seated-4.result member.RemoteSpawner RemoteSpawner (Remote c.in_ok-new-3.field-0) c.seated-4.ensures refl (λ start. c.in_ok-new-3.ensures tt);
+  sender_is = new_is c.seated.result member.Sender Sender (Send c.in_ok-sender.sender) c.seated.ensures refl (λ start. subst (λ m. Sends m (Sender start) []) (sym c.in_ok-sender.ensures) c.in_ok-new.ensures.stands);
+  clean_is = new_is c.seated-2.result member.Cleaner Cleaner (Clean c.in_ok-clean.clean) c.seated-2.ensures refl (λ start. subst (λ m. Cleans m (Cleaner start) []) (sym c.in_ok-clean.ensures) (c.new-3.ensures tt));
+  lspawn_is = new_is c.seated-3.result member.LocalSpawner LocalSpawner (Local c.in_ok-lspawn.lspawn) c.seated-3.ensures refl (λ start. subst (λ m. SpawnsLocals m (LocalSpawner start) []) (sym c.in_ok-lspawn.ensures) (c.in_ok-new-2.ensures tt));
+  rspawn_is = new_is c.seated-4.result member.RemoteSpawner RemoteSpawner (Remote c.in_ok-rspawn.rspawn) c.seated-4.ensures refl (λ start. subst (λ m. Spawns m (RemoteSpawner start) []) (sym c.in_ok-rspawn.ensures) (c.in_ok-new-3.ensures tt));
 }

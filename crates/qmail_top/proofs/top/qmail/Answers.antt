@@ -1,17 +1,33 @@
-use Rattle.std.proofs.Common.{inl, inr, refl}
-use Rattle.scenario.proofs.TakenLines.{line_taken}
+use Rattle.std.proofs.Common.{Err, ap, inl, inr, refl}
 use Rattle.audit_command.proofs.Audits.{nothing_done}
-use Rattle.command_words.proofs.Makes.{make_range}
-use Rattle.qmail_top.specs.Command.{usage_line}
-use Rattle.qmail_top.proofs.Families.{delivery_from, lspawned_from, one_local, one_lspawn, one_rspawn, one_send, rspawned_from, sent_from}
-use Rattle.qmail_top.proofs.Injections.{ends_otherwise}
-use Rattle.qmail_top.proofs.Made.{made_from, made_otherwise, nothing_made, one_make}
-use Rattle.qmail_top.proofs.Senders.{sent_otherwise}
-use Rattle.qmail_top.proofs.Spawners.{ended_otherwise, locally_otherwise, spawned_otherwise}
+use Rattle.command_words.proofs.Ranges.{work_range}
+use Rattle.qmail_top.proofs.Made.{nothing_made}
+use Rattle.qmail_top.proofs.Works.{no_usage, worked_nothing}
 use Rattle.qmail_top.proofs.top.qmail.Goals as goal
 
-pub returns-clause-queue : goal.returns-clause-queue
-returns-clause-queue g c = λ q is. inr (record {
+-- `work`
+
+pub work_script-requires-clause-threads : goal.work_script-requires-clause-threads
+work_script-requires-clause-threads g c = λ κs lives. work_range _ c.in-Ok.threads c.in-Ok.ensures.ok
+
+pub returns-in-Ok-clause-usage : goal.returns-in-Ok-clause-usage
+returns-in-Ok-clause-usage g c = λ is. absurd (no_usage _ c.work_script.ensures.known is)
+
+pub returns-in-Ok-clause-unused : goal.returns-in-Ok-clause-unused
+returns-in-Ok-clause-unused g c = λ is. (refl, refl, refl)
+
+-- another command
+
+pub returns-in-Err-Usage-clause-work : goal.returns-in-Err-Usage-clause-work
+returns-in-Err-Usage-clause-work g c = λ is. absurd (c.in-Err-Usage.ensures.usage (ap Err c.in-Err-Usage.field-0-is) is.0 is.1)
+
+pub returns-in-Err-Usage-clause-unused : goal.returns-in-Err-Usage-clause-unused
+returns-in-Err-Usage-clause-unused g c = λ is. absurd (c.in-Err-Usage.ensures.usage (ap Err c.in-Err-Usage.field-0-is) is.0 is.1)
+
+-- no memory for the words
+
+pub returns-in-Err-Memory-clause-queue : goal.returns-in-Err-Memory-clause-queue
+returns-in-Err-Memory-clause-queue g c = λ q is. inr (record {
   status_is = refl;
   read = inl refl;
   message_left = refl;
@@ -21,71 +37,29 @@ returns-clause-queue g c = λ q is. inr (record {
   faults = refl;
 })
 
-pub returns-clause-audit : goal.returns-clause-audit
-returns-clause-audit g c = λ is. nothing_done _ _
+pub returns-in-Err-Memory-clause-make : goal.returns-in-Err-Memory-clause-make
+returns-in-Err-Memory-clause-make g c = λ told is. nothing_made told _ _
 
-pub returns-in-Err-Usage-clause-usage_line : goal.returns-in-Err-Usage-clause-usage_line
-returns-in-Err-Usage-clause-usage_line g c = λ none is.
-    line_taken (g.L.Sink.taken c.args.log.now) (g.L.Sink.taken c.give.new.self) usage_line c.give.result _ (λ failed. c.give.ensures.cause.rose failed) c.give.ensures.told
+pub returns-in-Err-Memory-clause-audit : goal.returns-in-Err-Memory-clause-audit
+returns-in-Err-Memory-clause-audit g c = λ is. nothing_done _ _
 
-pub returns-clause-clean : goal.returns-clause-clean
-returns-clause-clean g c = λ is. inr (refl, refl)
+pub returns-in-Err-Memory-clause-clean : goal.returns-in-Err-Memory-clause-clean
+returns-in-Err-Memory-clause-clean g c = λ is. inr (refl, refl)
 
-pub returns-in-Ok-Queue-clause-usage : goal.returns-in-Ok-Queue-clause-usage
-returns-in-Ok-Queue-clause-usage g c = λ is. absurd (ends_otherwise _ _ _ _ _ _ _ c.queue_message.ensures.queued is)
+pub returns-in-Err-Memory-clause-lspawn : goal.returns-in-Err-Memory-clause-lspawn
+returns-in-Err-Memory-clause-lspawn g c = λ dir is. inr (refl, refl, refl)
 
-pub returns-in-Ok-Queue-clause-usage_line : goal.returns-in-Ok-Queue-clause-usage_line
-returns-in-Ok-Queue-clause-usage_line g c = λ none is. absurd (ends_otherwise _ _ _ _ _ _ _ c.queue_message.ensures.queued is)
+pub returns-in-Err-Memory-clause-rspawn : goal.returns-in-Err-Memory-clause-rspawn
+returns-in-Err-Memory-clause-rspawn g c = λ told is. inr (refl, refl, refl)
 
-pub returns-clause-lspawn : goal.returns-clause-lspawn
-returns-clause-lspawn g c = λ dir is. inr (refl, refl, refl)
+pub returns-in-Err-Memory-clause-send : goal.returns-in-Err-Memory-clause-send
+returns-in-Err-Memory-clause-send g c = λ told is. inr ((refl, refl, refl), refl)
 
-pub returns-clause-rspawn : goal.returns-clause-rspawn
-returns-clause-rspawn g c = λ told is. inr (refl, refl, refl)
+pub returns-in-Err-Memory-clause-local : goal.returns-in-Err-Memory-clause-local
+returns-in-Err-Memory-clause-local g c = λ told is. inr (refl, refl, refl)
 
-pub returns-clause-local : goal.returns-clause-local
-returns-clause-local g c = λ told is. inr (refl, refl, refl)
+pub returns-in-Err-Memory-clause-work : goal.returns-in-Err-Memory-clause-work
+returns-in-Err-Memory-clause-work g c = λ is. worked_nothing _ _ refl
 
-pub returns-in-Ok-Lspawn-clause-usage : goal.returns-in-Ok-Lspawn-clause-usage
-returns-in-Ok-Lspawn-clause-usage g c = λ is. absurd (spawned_otherwise _ _ _ _ _ _ _ _ locally_otherwise c.spawn_local.ensures.1 is)
-
-pub returns-in-Ok-Rspawn-clause-usage : goal.returns-in-Ok-Rspawn-clause-usage
-returns-in-Ok-Rspawn-clause-usage g c = λ is. absurd (spawned_otherwise _ _ _ _ _ _ _ _ ended_otherwise c.spawn_remote.ensures.1 is)
-
-pub returns-in-Ok-Lspawn-clause-lspawn : goal.returns-in-Ok-Lspawn-clause-lspawn
-returns-in-Ok-Lspawn-clause-lspawn g c = λ dir is.
-    lspawned_from dir c.in-Ok-Lspawn.dir _ _ _ _ _ _ c.as_slice.ensures (one_lspawn _ _ _ (rw c.in-Ok-Lspawn.field-0-is at c.in-Ok-Lspawn.ensures.ok) is) c.spawn_local.ensures
-
-pub returns-in-Ok-Rspawn-clause-rspawn : goal.returns-in-Ok-Rspawn-clause-rspawn
-returns-in-Ok-Rspawn-clause-rspawn g c = λ told is.
-    rspawned_from told c.in-Ok-Rspawn.spawner _ _ _ _ _ _ c.as_slice-program.ensures (one_rspawn _ _ _ (rw c.in-Ok-Rspawn.field-0-is at c.in-Ok-Rspawn.ensures.ok) is) c.spawn_remote.ensures
-
-pub returns-in-Ok-Local-clause-local : goal.returns-in-Ok-Local-clause-local
-returns-in-Ok-Local-clause-local g c = λ told is.
-    delivery_from told c.in-Ok-Local.told _ _ _ _ _ _ (one_local _ _ _ (rw c.in-Ok-Local.field-0-is at c.in-Ok-Local.ensures.ok) is) c.deliver_message.ensures
-
-pub returns-clause-send : goal.returns-clause-send
-returns-clause-send g c = λ told is. inr ((refl, refl, refl), refl)
-
-pub returns-in-Ok-Send-clause-usage : goal.returns-in-Ok-Send-clause-usage
-returns-in-Ok-Send-clause-usage g c = λ is. absurd (sent_otherwise _ _ _ _ _ _ _ _ _ _ c.be_sender.ensures.1 is)
-
-pub returns-in-Ok-Send-clause-send : goal.returns-in-Ok-Send-clause-send
-returns-in-Ok-Send-clause-send g c = λ told is.
-    sent_from told c.in-Ok-Send.told _ _ _ _ _ _ _ (one_send _ _ _ (rw c.in-Ok-Send.field-0-is at c.in-Ok-Send.ensures.ok) is) c.be_sender.ensures
-
-pub returns-in-Ok-Send-clause-unlogged : goal.returns-in-Ok-Send-clause-unlogged
-returns-in-Ok-Send-clause-unlogged g c = λ other is. absurd (other (c.in-Ok-Send.told, rw c.in-Ok-Send.field-0-is at c.in-Ok-Send.ensures.ok))
-
-pub returns-clause-make : goal.returns-clause-make
-returns-clause-make g c = λ told is. nothing_made told _ _
-
-pub make_script-requires : goal.make_script-requires
-make_script-requires g c = (make_range _ c.in-Ok-Make.told (rw c.in-Ok-Make.field-0-is at c.in-Ok-Make.ensures.ok)).0
-
-pub returns-in-Ok-Make-clause-usage : goal.returns-in-Ok-Make-clause-usage
-returns-in-Ok-Make-clause-usage g c = λ is. absurd (made_otherwise _ _ _ c.make_script.ensures is)
-
-pub returns-in-Ok-Make-clause-make : goal.returns-in-Ok-Make-clause-make
-returns-in-Ok-Make-clause-make g c = λ told is.
-    made_from told c.in-Ok-Make.told _ _ (one_make _ _ _ (rw c.in-Ok-Make.field-0-is at c.in-Ok-Make.ensures.ok) is) c.make_script.ensures
+pub returns-in-Err-Memory-clause-unused : goal.returns-in-Err-Memory-clause-unused
+returns-in-Err-Memory-clause-unused g c = λ is. (refl, refl, refl)

@@ -2,6 +2,7 @@ use Rattle.std.proofs.Common.{◌∙◌, ◌++◌, List, ℕ, reverse, take, Vec
 use Rattle.std.proofs.lemmas.List.{take_all}
 use Rattle.world_events.specs.Programs.{injection_of}
 use Rattle.world_events.specs.declared.event.Event.{Event as Kept}
+use Rattle.world_events.specs.declared.event.Program.{Program}
 use Rattle.scenario.specs.declared.showing.Given.{Given}
 use Rattle.scenario.specs.inside.Fates.{Receiver, given_to, received_by, receivers_in}
 use Rattle.scenario.proofs.Receivers.{next_received, other_received, turned, written_over}
@@ -19,11 +20,13 @@ loop-event-preserved c =
       | in-Start+in_ok-begin-in-Start w ↦
           ap items w.given-is
           ∙ next_received events i k _ _ c.loop-event-test.true c.event-item.is w.in-Start.is
-          (w.in_ok-begin-in-Start.ensures ∙ ap (λ (rs : List Receiver). received_by w.in-Start.actor false (injection_of w.in-Start.program) ++ rs) before)
+          (w.in_ok-begin-in-Start.ensures ∙ ap (λ (rs : List Receiver). received_by w.in-Start.actor false (injection_of w.get.result.now) ++ rs) before
+          ∙ ap (λ (p : Program). received_by w.in-Start.actor false (injection_of p) ++ receivers_in (reverse (take i events))) w.get.ensures)
       | in-Child+in_ok-begin-in-Child w ↦
           ap items w.given-is
           ∙ next_received events i k _ _ c.loop-event-test.true c.event-item.is w.in-Child.is
-          (w.in_ok-begin-in-Child.ensures ∙ ap (λ (rs : List Receiver). received_by w.in-Child.child true (injection_of w.in-Child.program) ++ rs) before)
+          (w.in_ok-begin-in-Child.ensures ∙ ap (λ (rs : List Receiver). received_by w.in-Child.child true (injection_of w.get-in-Child.result.now) ++ rs) before
+          ∙ ap (λ (p : Program). received_by w.in-Child.child true (injection_of p) ++ receivers_in (reverse (take i events))) w.get-in-Child.ensures)
       | in-Feed w ↦
           ap items w.given-is
           ∙ next_received events i k _ _ c.loop-event-test.true c.event-item.is w.in-Feed.is

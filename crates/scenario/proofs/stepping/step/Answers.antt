@@ -1,6 +1,6 @@
 use Rattle.std.proofs.Common.{sym, ◌∙◌, subst}
 use Rattle.std.proofs.lemmas.Result.{err_from_is_err_and}
-use Rattle.scenario.specs.declared.stepping.Stepped.{Stepped}
+use Rattle.scenario.specs.declared.stepping.AfterStep.{AfterStep}
 use Rattle.scenario.specs.Playing.{HasStepped}
 use Rattle.scenario.proofs.ScriptSteps.{refused_as, stepped}
 use Rattle.scenario.proofs.stepping.step.Goals as goal
@@ -15,6 +15,6 @@ returns-in_err-did-clause-err c =
 pub returns-clause-ok : goal.returns-clause-ok
 returns-clause-ok c = λ d plan h playing.
     let done = c.in_ok-did.ensures in
-    subst (λ (how : Stepped). HasStepped d c.step.new.self c.args.actor.now how plan h) (sym c.of.ensures)
+    subst (λ (how : AfterStep). HasStepped d c.step.new.self c.args.actor.now how plan h) (sym c.left_by.ensures)
     (stepped d c.args.world.now c.step.new.self plan c.args.actor.now c.in_ok-did.did.ended c.in_ok-did.did.idle h playing done.event c.step.ensures.present done.idle done.goes_on done.plan
     (λ before newest is. sym c.if-newest_lacked_memory.false ∙ c.newest_lacked_memory.ensures before newest (c.history.ensures.events ∙ is)))

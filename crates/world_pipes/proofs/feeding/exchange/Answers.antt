@@ -1,10 +1,11 @@
 use Rattle.std.proofs.Common.{◌≡◌, ℕ, List, Some, Result, Ok, Err, sym, ap, ◌∙◌, subst, set}
 use Rattle.std.specs.Prelude.{OnErr, IfOk}
+use Rattle.call_fs.specs.declared.past.ChildData.{ChildData}
 use Rattle.call_fs.specs.declared.past.GotData.TheVariants as got
 use Rattle.call_fs.specs.declared.past.NeedData.{NeedData}
 use Rattle.call_fs.specs.declared.past.NeedData.TheVariants as needs
 use Rattle.world_pipes.specs.Commands.{command_exits}
-use Rattle.world_pipes.specs.Exchanges.{Exchanges, HasExchanged, HasTakenBy, HasGivenTo, GivesNoActor, SuitsPlace, leads}
+use Rattle.world_pipes.specs.Exchanges.{Exchanges, HasSlotFor, HasStarted, HasExchanged, HasTakenBy, HasGivenTo, GivesNoActor, SuitsPlace, leads}
 use Rattle.world_pipes.proofs.Feeds.{stands_at, same_at, as_before, taken_by, started_by, give_exchanges, command_exchanges, slot_for}
 use Rattle.world_pipes.proofs.feeding.exchange.Goals as goal
 
@@ -20,8 +21,8 @@ pub start-requires : goal.start-requires
 start-requires c =
     let mouths = c.args.mouths.now.items in
     let m = c.index_mut-in-Start.result.now in
-    slot_for c.args.at m c.in-Start.asked (subst (SuitsPlace c.args.at) c.in-Start.is c.requires.suits)
-    (c.requires.slots c.args.at m (stands_at mouths c.args.at m c.requires.at c.index_mut-in-Start.ensures.value))
+    subst (HasSlotFor m) (sym c.get.ensures) (slot_for c.args.at m c.in-Start.asked (subst (SuitsPlace c.args.at) c.in-Start.is c.requires.suits)
+    (c.requires.slots c.args.at m (stands_at mouths c.args.at m c.requires.at c.index_mut-in-Start.ensures.value)))
 
 if_ok : {T E : Type 0} (P Q : T → Type 0) (r : Result T E) → ((x : T) → P x → Q x) → IfOk r P → IfOk r Q
 if_ok P Q (Ok x) f h = f x h
@@ -64,7 +65,8 @@ returns-in-Start-clause-done c =
     let n = c.start.new.mouths in
     let is = stands_at mouths c.args.at m c.requires.at c.index_mut-in-Start.ensures.value in
     subst (λ (due : NeedData). Exchanges (Some c.args.at) c.args.slot mouths (set mouths c.args.at n) c.args.pid c.args.most a due c.start.result) (sym c.in-Start.is)
-    (started_by mouths a c.args.slot c.args.at m n is c.in-Start.asked c.args.pid c.args.most c.start.result (subst (SuitsPlace c.args.at) c.in-Start.is c.requires.suits) c.start.ensures)
+    (started_by mouths a c.args.slot c.args.at m n is c.in-Start.asked c.args.pid c.args.most c.start.result (subst (SuitsPlace c.args.at) c.in-Start.is c.requires.suits)
+    (subst (λ (asked : ChildData). HasStarted m n c.args.pid asked c.start.result) c.get.ensures c.start.ensures))
 
 pub returns-in-Command-clause-done : goal.returns-in-Command-clause-done
 returns-in-Command-clause-done c =

@@ -9,7 +9,7 @@ use Rattle.mail_world.specs.History.{next_of}
 use Rattle.mail_world.specs.ByKind.{found_of}
 use Rattle.mail_world.specs.Acting.{MayMake}
 use Rattle.mail_world.proofs.Programs.{program_uses}
-use Rattle.mail_world.proofs.Machines.{no_act, keeps_few, read_made}
+use Rattle.mail_world.proofs.Machines.{no_act, keeps_few, keeps_name, told_made}
 use Rattle.mail_world.proofs.actor.Actor.ask.Goals as goal
 use Rattle.mail_world.proofs.actor.Actor.ask.Goals.{After-need}
 
@@ -38,16 +38,19 @@ perform-answer-requires-clause-piece g c =
     let at = (goal.at.perform-answer-requires-clause-piece g c).After-need in
     has_room (held c.requires.may.past) _ (subst (UsesHeld (held c.requires.may.past)) (ap due_of c.in-File.is) (asks_held g at))
 
-pub kept_read-bytes-requires-clause-few : goal.kept_read-bytes-requires-clause-few
-kept_read-bytes-requires-clause-few g c =
-    let at = (goal.at.kept_read-bytes-requires-clause-few g c).After-need in
+pub told_in-told-requires-clause-few : goal.told_in-told-requires-clause-few
+told_in-told-requires-clause-few g c =
+    let at = (goal.at.told_in-told-requires-clause-few g c).After-need in
     let room = has_room (held c.requires.may.past) (data_of c.in-File.call) (subst (UsesHeld (held c.requires.may.past)) (ap due_of c.in-File.is) (asks_held g at)) in
     rw (c.in_ok-room-in-File.ensures.room) (keeps_few (data_of c.in-File.call) c.perform-answer.result room c.perform-answer.ensures.kind)
+
+pub told_in-told-requires-clause-name : goal.told_in-told-requires-clause-name
+told_in-told-requires-clause-name g c = rw (c.in_ok-room-in-File.ensures.room) (keeps_name (data_of c.in-File.call) c.perform-answer.result c.perform-answer.ensures.kind)
 
 pub returns-in_ok-need_data-in_default-clause-stated : goal.returns-in_ok-need_data-in_default-clause-stated
 returns-in_ok-need_data-in_default-clause-stated g c = rw (c.in_ok-need_data-in_default.ensures) (no_act c.need.result c.in_default.not-File c.in_default.not-Ended)
 
 pub returns-in_ok-owned-in-File-clause-made : goal.returns-in_ok-owned-in-File-clause-made
 returns-in_ok-owned-in-File-clause-made g c =
-    rw (c.in_ok-owned-in-File.ensures) (read_made (g.D.CallFs.disk c.args.disk.now) (g.D.CallFs.disk c.perform-answer.new.disk) c.args.at.now (data_of c.in-File.call) c.perform-answer.result
-    c.perform-answer.new.into c.kept_read-bytes.result c.kept_read-bytes.ensures c.perform-answer.ensures.told c.perform-answer.ensures.read)
+    rw (c.in_ok-owned-in-File.ensures) (told_made (g.D.CallFs.disk c.args.disk.now) (g.D.CallFs.disk c.perform-answer.new.disk) c.args.at.now (data_of c.in-File.call) c.perform-answer.result
+    c.perform-answer.new.into c.told_in-told.result c.told_in-told.ensures c.perform-answer.ensures.told c.perform-answer.ensures.read)

@@ -11,11 +11,15 @@ use Rattle.world_events.specs.declared.event.Program.TheVariants.{Injector}
 use Rattle.mail_world.specs.Books.{new_entry}
 use Rattle.mail_world.specs.Places.{place_of}
 use Rattle.world_events.specs.declared.books.Entry.{Entry}
+use Rattle.fed_injector.specs.declared.machine.FedInjector.{FedInjector}
+use Rattle.fed_injector.specs.Inputs.{FedStands, awaits as is_awaited}
 use Rattle.queue_inject.specs.declared.injection.Arguments.{Arguments}
-use Rattle.mail_world.specs.ByKind.{Follows, awaits_of}
-use Rattle.fed_injector.specs.Inputs.{FedStands, with_input}
 use Rattle.queue_inject.specs.declared.injection.InputEnd.TheVariants.{Unread}
 use Rattle.received_line.specs.declared.line.Invoked.TheVariants.{Uid}
+use Rattle.world_events.specs.Books.{entry_by}
+use Rattle.world_events.specs.Children.{entry_after}
+use Rattle.world_events.specs.declared.event.Program.{Program}
+use Rattle.mail_world.specs.ByKind.{Follows, awaits_of, injection_of}
 use Rattle.mail_world.specs.Readiness.{is_awaiting}
 use Rattle.mail_world.specs.World.{mail, Seen, was_started, counted}
 use Rattle.mail_world.specs.Inside.{IsWorld, among_all, known, living}
@@ -48,17 +52,14 @@ started : (g : _) (c : After-saturating_add-self-inside g) →
     c.put.new.self.events.items ≡ c.self.inside.history.events.items ++ kept.Start c.args.name.now (Injector (mail c.self.inside.next_pid c.self.inside.present c.args.message.now c.args.envelope.now)) ∷ []
 started g c =
     let copied = c.copy-2.ensures in
-    let args = c.in_ok-arguments.ensures in
-    let told : Kept = kept.Start c.copy-2.result (Injector c.in_ok-arguments.arguments) in
+    let program = c.in_ok-program.ensures in
+    let told : Kept = kept.Start c.copy-2.result c.in_ok-program.program in
     let same : told ≡ kept.Start c.args.name.now (Injector (mail c.self.inside.next_pid c.self.inside.present c.args.message.now c.args.envelope.now)) = cc in
     c.put.ensures.event ∙ ap (λ (l : List Kept). l ++ told ∷ []) c.in_ok-reserve.ensures.same ∙ ap (λ (k : Kept). c.self.inside.history.events.items ++ k ∷ []) same
 
 -- an injector before it is fed
 abbrev unfed : ℕ → ℕ → Arguments
 unfed pid start = record { uid = 1000; pid = pid; invoked = Uid 1000; start = start; message = []; message_end = Unread; envelope = []; envelope_end = Unread }
-
-with_texts_is : (pid start : ℕ) (m e message envelope : List ℕ) → m ≡ message → e ≡ envelope → with_input m e (unfed pid start) ≡ mail pid start message envelope
-with_texts_is pid start m e message envelope one two = ap (λ (m : List ℕ). mail pid start m e) one ∙ ap (mail pid start message) two
 
 pub invariant_of-self : goal.invariant_of-self
 invariant_of-self g c = record {
@@ -100,30 +101,8 @@ invariant_of-self-in_err-make_room-2 g c =
       started = rw (c.in_ok-reserve.ensures.same) (same_starts i.starts c.make_room-2.new.self i.crew (place_of i.places) (starts_of (reverse i.history.events.items)) c.in_err-make_room-2.ensures.same c.self.invariant.started);
     }
 
-pub invariant_of-self-in_err-arguments : goal.invariant_of-self-in_err-arguments
-invariant_of-self-in_err-arguments g c =
-    let i = c.self.inside in
-    let items = c.in_ok-reserve-2.ensures.items in record {
-      world = rw (items, c.in_ok-reserve.ensures.same) c.self.invariant.world;
-      room = rw (items) (c.in_ok-reserve.ensures.stays (living i.actors.items) c.self.invariant.room);
-      booked = rw (items, c.in_ok-reserve.ensures.same, c.in_ok-make_room.ensures.same) c.self.invariant.booked;
-      piped = rw (items, c.in_ok-reserve.ensures.same) c.self.invariant.piped;
-      started = rw (c.in_ok-reserve.ensures.same) (same_starts i.starts c.make_room-2.new.self i.crew (place_of i.places) (starts_of (reverse i.history.events.items)) c.in_ok-make_room-2.ensures.same c.self.invariant.started);
-    }
-
-pub invariant_of-self-in_err-message : goal.invariant_of-self-in_err-message
-invariant_of-self-in_err-message g c =
-    let i = c.self.inside in
-    let items = c.in_ok-reserve-2.ensures.items in record {
-      world = rw (items, c.in_ok-reserve.ensures.same) c.self.invariant.world;
-      room = rw (items) (c.in_ok-reserve.ensures.stays (living i.actors.items) c.self.invariant.room);
-      booked = rw (items, c.in_ok-reserve.ensures.same, c.in_ok-make_room.ensures.same) c.self.invariant.booked;
-      piped = rw (items, c.in_ok-reserve.ensures.same) c.self.invariant.piped;
-      started = rw (c.in_ok-reserve.ensures.same) (same_starts i.starts c.make_room-2.new.self i.crew (place_of i.places) (starts_of (reverse i.history.events.items)) c.in_ok-make_room-2.ensures.same c.self.invariant.started);
-    }
-
-pub invariant_of-self-in_err-envelope : goal.invariant_of-self-in_err-envelope
-invariant_of-self-in_err-envelope g c =
+pub invariant_of-self-in_err-program : goal.invariant_of-self-in_err-program
+invariant_of-self-in_err-program g c =
     let i = c.self.inside in
     let items = c.in_ok-reserve-2.ensures.items in record {
       world = rw (items, c.in_ok-reserve.ensures.same) c.self.invariant.world;
@@ -135,6 +114,17 @@ invariant_of-self-in_err-envelope g c =
 
 pub invariant_of-self-in_err-injector : goal.invariant_of-self-in_err-injector
 invariant_of-self-in_err-injector g c =
+    let i = c.self.inside in
+    let items = c.in_ok-reserve-2.ensures.items in record {
+      world = rw (items, c.in_ok-reserve.ensures.same) c.self.invariant.world;
+      room = rw (items) (c.in_ok-reserve.ensures.stays (living i.actors.items) c.self.invariant.room);
+      booked = rw (items, c.in_ok-reserve.ensures.same, c.in_ok-make_room.ensures.same) c.self.invariant.booked;
+      piped = rw (items, c.in_ok-reserve.ensures.same) c.self.invariant.piped;
+      started = rw (c.in_ok-reserve.ensures.same) (same_starts i.starts c.make_room-2.new.self i.crew (place_of i.places) (starts_of (reverse i.history.events.items)) c.in_ok-make_room-2.ensures.same c.self.invariant.started);
+    }
+
+pub invariant_of-self-in_err-injector-2 : goal.invariant_of-self-in_err-injector-2
+invariant_of-self-in_err-injector-2 g c =
     let i = c.self.inside in
     let items = c.in_ok-reserve-2.ensures.items in record {
       world = rw (items, c.in_ok-reserve.ensures.same) c.self.invariant.world;
@@ -181,19 +171,20 @@ invariant_of-self-2 g c =
     let total : c.len-3.result ≡ length c.push.new.self.items = c.len-3.ensures ∙ c.push.new.self.ok.0 in
     let last : c.len-3.result - i.crew - 1 + 4 ≡ length i.actors.items - i.crew + 4 = omega (arith, grown, total, within) in
     let bound = living_push i.actors.items c.new-actor.result in
+    let program : c.get.result.now ≡ Injector args = c.get.ensures ∙ c.in_ok-program.ensures in
     let numbered : c.new-actor.result.entry ≡ Some (length i.books.entries.items) =
-    c.new-actor.ensures.entry ∙ ap Some (c.next_entry-entry.ensures ∙ ap (λ (l : List Entry). length l) c.in_ok-make_room.ensures.same) in
-    let entry : c.add-2.new.self.entries.items ≡ i.books.entries.items ++ new_entry a args ∷ [] =
-    c.add-2.ensures ∙ ap (λ (l : List Entry). l ++ new_entry a c.in_ok-arguments.arguments ∷ []) c.in_ok-make_room.ensures.same
-    ∙ ap (λ (w : Arguments). i.books.entries.items ++ new_entry a w ∷ []) c.in_ok-arguments.ensures in
-    let texts : with_input c.in_ok-message.message c.in_ok-envelope.envelope (unfed i.next_pid i.present) ≡ args = with_texts_is i.next_pid i.present _ _ _ _ c.in_ok-message.ensures c.in_ok-envelope.ensures in
-    let waits = c.in_ok-injector.ensures.stands (unfed i.next_pid i.present) (record { uid_is = refl; pid_is = refl; invoked_is = refl; start_is = refl })
+    c.new-actor.ensures.entry ∙ c.enter-entry.ensures.place ∙ ap (entry_after (length c.make_room.new.self.entries.items)) program
+    ∙ ap Some (ap (λ (l : List Entry). length l) c.in_ok-make_room.ensures.same) in
+    let entry : c.enter-entry.new.self.entries.items ≡ i.books.entries.items ++ new_entry a args ∷ [] =
+    c.enter-entry.ensures.entered ∙ ap (λ (l : List Entry). l ++ entry_by a (injection_of c.get.result.now)) c.in_ok-make_room.ensures.same
+    ∙ ap (λ (p : Program). i.books.entries.items ++ entry_by a (injection_of p)) program in
+    let fed : FedStands c.in_ok-injector.injector args [] = c.in_ok-injector.ensures.stands (unfed i.next_pid i.present) (record { uid_is = refl; pid_is = refl; invoked_is = refl; start_is = refl })
     (record { message_is = refl; message_end = refl; envelope_is = refl; envelope_end = refl }) in
-    let fed : FedStands c.give.new.self args [] = subst (λ (args : Arguments). FedStands c.give.new.self args []) texts (c.give.ensures.stands (unfed i.next_pid i.present) [] waits) in
-    let machine = subst (λ (m : AnyMachine). Follows m (Injector args) []) (sym c.new-actor.ensures.machine) fed in
+    let stands : FedStands c.in_ok-injector-2.injector args [] = subst (λ (x : FedInjector). FedStands x args []) (sym c.in_ok-injector-2.ensures) fed in
+    let machine = subst (λ (m : AnyMachine). Follows m (Injector args) []) (sym c.new-actor.ensures.machine) stands in
     let stranger = c.self.invariant.world.kept.strangers a new in
     let awaits : awaits_of c.new-actor.result.machine ≡ is_awaiting (known i.history.events.items) a =
-    ap awaits_of c.new-actor.ensures.machine ∙ c.give.ensures.given
+    ap awaits_of c.new-actor.ensures.machine ∙ ap is_awaited c.in_ok-injector-2.ensures ∙ c.in_ok-injector.ensures.given
     ∙ sym (stranger_awaits i.crew i.mouths.items i.actors.items (known i.history.events.items) i.history.events.items a c.self.invariant.piped stranger.unknown) in record {
       world = rw (actors, event) (start_keeps (g.D.CallFs.disk i.disk) all (among_all i.crew (place_of c.add.new.self)) i.actors.items i.history.events.items i.present i.next_pid c.saturating_add-self-inside.result (counted i.bounces i.deliveries)
           c.new-actor.result a (Injector args) tt other c.requires.named c.self.invariant.world new placed name c.new-actor.ensures.ended c.new-actor.ensures.status c.new-actor.ensures.owed c.new-actor.ensures.descriptors machine awaits refl c.saturating_add-self-inside.ensures);

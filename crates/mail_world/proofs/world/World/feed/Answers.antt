@@ -1,13 +1,15 @@
 use Rattle.std.proofs.Common.{◌≡◌, ◌+◌, List, ◌++◌, length, set, refl, sym, ap, ◌∙◌, subst, arith, is_some}
 use Rattle.std.proofs.lemmas.List.{length-set}
 use Rattle.std.proofs.lemmas.Option.{slice_get_within}
+use Rattle.call_fs.specs.declared.past.NeedData.{NeedData}
 use Rattle.call_fs.specs.declared.past.NeedData.TheVariants as needs
+use Rattle.call_fs.specs.declared.past.Own.{Own}
 use Rattle.call_fs.specs.declared.program.Port.TheVariants as port
 use Rattle.mail_bytes.specs.Moments.{IsMoment}
 use Rattle.world_events.specs.declared.event.Event.{Event as Kept}
 use Rattle.world_pipes.specs.Seating.{due_slot}
 use Rattle.mail_world.specs.declared.actor.Actor.{Actor as Held}
-use Rattle.mail_world.specs.Children.{IsDueOfChild, IsSetting, IsFed}
+use Rattle.mail_world.specs.Children.{GivesTexts, GivesTwo, IsDueOfChild, IsSetting, IsFed}
 use Rattle.mail_world.specs.History.{netstring}
 use Rattle.mail_world.specs.Inside.{known}
 use Rattle.mail_world.specs.Places.{place_of}
@@ -47,7 +49,7 @@ child_at-requires g c =
     let i = c.self.inside in
     let w = can g at in
     let within = slice_get_within i.actors.items (i.crew + w.child.at) w.child.held w.child.is in
-    child_low (child_is i.crew (place_of i.places) c.deref.ensures.value (ap (λ (x : Held). x.wire) (sym (parent_seen w.asks (place_is g at) c.index_mut-parent.ensures.value))) (c.due_slot.ensures ∙ ap due_slot w.feeds.due_is) w.found)
+    child_low (child_is i.crew (place_of i.places) c.deref.ensures.value (ap (λ (x : Held). x.wire) (sym (parent_seen w.asks (place_is g at) c.index_mut-parent.ensures.value))) (c.due_slot-slot.ensures ∙ ap due_slot w.feeds.due_is) w.found)
     (omega (arith, within, i.actors.ok.0))
 
 pub unwrap-child-requires : goal.unwrap-child-requires
@@ -55,7 +57,7 @@ unwrap-child-requires g c =
     let at = (goal.at.unwrap-child-requires g c).After-len-room in
     let i = c.self.inside in
     let w = can g at in
-    let there = child_is i.crew (place_of i.places) c.deref.ensures.value (ap (λ (x : Held). x.wire) (sym (parent_seen w.asks (place_is g at) c.index_mut-parent.ensures.value))) (c.due_slot.ensures ∙ ap due_slot w.feeds.due_is) w.found in
+    let there = child_is i.crew (place_of i.places) c.deref.ensures.value (ap (λ (x : Held). x.wire) (sym (parent_seen w.asks (place_is g at) c.index_mut-parent.ensures.value))) (c.due_slot-slot.ensures ∙ ap due_slot w.feeds.due_is) w.found in
     ap is_some (c.child_at.ensures ∙ there)
 
 -- where the child stands
@@ -64,13 +66,14 @@ place : (g : _) (c : After-unwrap-child g)
     → c.args.at.place ≡ w.asks.at → c.unwrap-child.result ≡ c.self.inside.crew + w.child.at
 place g c w here =
     let i = c.self.inside in
-    let there = child_is i.crew (place_of i.places) c.deref.ensures.value (ap (λ (x : Held). x.wire) (sym (parent_seen w.asks here c.index_mut-parent.ensures.value))) (c.due_slot.ensures ∙ ap due_slot w.feeds.due_is) w.found in
+    let there = child_is i.crew (place_of i.places) c.deref.ensures.value (ap (λ (x : Held). x.wire) (sym (parent_seen w.asks here c.index_mut-parent.ensures.value))) (c.due_slot-slot.ensures ∙ ap due_slot w.feeds.due_is) w.found in
     same_at c.child_at.result c.unwrap-child.result (i.crew + w.child.at) c.unwrap-child.ensures (c.child_at.ensures ∙ there)
 
 pub ready_to_feed-requires-clause-gives : goal.ready_to_feed-requires-clause-gives
 ready_to_feed-requires-clause-gives g c =
     let i = c.self.inside in
-    gives_two (known i.history.events.items) i.history.events.items c.args.actor.now c.args.due.now (can g (goal.at.ready_to_feed-requires-clause-gives g c).After-len-room).feeds
+    subst GivesTwo (sym (ap (λ (own : Own). own.due) (c.get.ensures ∙ c.in_ok-own.ensures ∙ c.own_at-own.ensures)))
+    (gives_two (known i.history.events.items) i.history.events.items c.args.actor.now c.args.due.now (can g (goal.at.ready_to_feed-requires-clause-gives g c).After-len-room).feeds)
 
 pub ready_to_feed-requires-clause-owes : goal.ready_to_feed-requires-clause-owes
 ready_to_feed-requires-clause-owes g c =
@@ -90,7 +93,8 @@ invariant_of-self g c =
 texts : (g : _) (c : In_ok-message g)
     (w : CanFeed c.self.inside.crew (place_of c.self.inside.places) c.self.inside.actors.items c.self.inside.mouths.items c.self.inside.history.events.items c.self.inside.present c.args.actor.now c.args.due.now)
     → c.args.due.now ≡ needs.Give (port.Program 0) (netstring c.in_ok-message.message ++ netstring c.in_ok-message.envelope)
-texts g c w = texts_due c.args.due.now w.feeds.bytes c.in_ok-message.message c.in_ok-message.envelope w.feeds.due_is c.in_ok-message.ensures.texts
+texts g c w = texts_due c.args.due.now w.feeds.bytes c.in_ok-message.message c.in_ok-message.envelope w.feeds.due_is
+    (subst (λ (due : NeedData). GivesTexts due c.in_ok-message.message c.in_ok-message.envelope) (ap (λ (own : Own). own.due) (c.get.ensures ∙ c.in_ok-own.ensures ∙ c.own_at-own.ensures)) c.in_ok-message.ensures.texts)
 
 pub take_in-did-requires-clause-moment : goal.take_in-did-requires-clause-moment
 take_in-did-requires-clause-moment g c = subst IsMoment (sym (setting g (goal.at.take_in-did-requires-clause-moment g c).After-len-room).now) c.self.invariant.world.moment
@@ -102,7 +106,7 @@ pub take_in-did-requires-clause-may : goal.take_in-did-requires-clause-may
 take_in-did-requires-clause-may g c =
     let at = goal.at.take_in-did-requires-clause-may g c in
     let w = can g at.After-len-room in
-    may_hand w.asks (parent_seen w.asks (place_is g at.After-len-room) c.index_mut-parent.ensures.value) c.in_ok-message.ensures.paid (setting g at.After-len-room) c.own_at-own.ensures (texts g at.In_ok-message w) tt (λ most. tt)
+    may_hand w.asks (parent_seen w.asks (place_is g at.After-len-room) c.index_mut-parent.ensures.value) c.in_ok-message.ensures.paid (setting g at.After-len-room) (c.get-2.ensures ∙ c.in_ok-own.ensures ∙ c.own_at-own.ensures) (texts g at.In_ok-message w) tt (λ most. tt)
 
 pub index_mut-fed-requires : goal.index_mut-fed-requires
 index_mut-fed-requires g c =
@@ -152,8 +156,8 @@ invariant_of-self-2 g c =
     let y = c.take_in-did.new.actor in
     let z = c.give_input.new.actor in
     let due = texts g at.In_ok-message w in
-    let own = own_by (setting g at.After-len-room) c.own_at-own.ensures due in
-    let served = was_handed w.asks (parent_seen w.asks here c.index_mut-parent.ensures.value) ok.paid own (c.len.ensures ∙ ap (λ (l : List Kept). length l) ok.same) c.take_in-did.ensures.taken in
+    let own = own_by (setting g at.After-len-room) (c.in_ok-own.ensures ∙ c.own_at-own.ensures) due in
+    let served = was_handed w.asks (parent_seen w.asks here c.index_mut-parent.ensures.value) ok.paid (c.get-2.ensures ∙ own) (c.len.ensures ∙ ap (λ (l : List Kept). length l) ok.same) c.take_in-did.ensures.taken in
     let is = place g at.After-unwrap-child w here in
     let same = child g at.After-index_mut-fed w here is in
     let name = c.copy-name.ensures ∙ ap (λ (x : Held). x.name) (sym same) ∙ w.child.name in
@@ -174,9 +178,9 @@ returns-clause-served g c =
     let here = place_is g at.After-len-room in
     let ok = c.in_ok-message.ensures in
     let due = texts g at.In_ok-message w in
-    let own = own_by (setting g at.After-len-room) c.own_at-own.ensures due in
+    let own = own_by (setting g at.After-len-room) (c.in_ok-own.ensures ∙ c.own_at-own.ensures) due in
     let index = c.len.ensures ∙ ap (λ (l : List Kept). length l) ok.same in
-    let served = was_handed a (parent_seen a here c.index_mut-parent.ensures.value) ok.paid own index c.take_in-did.ensures.taken in
+    let served = was_handed a (parent_seen a here c.index_mut-parent.ensures.value) ok.paid (c.get-2.ensures ∙ own) index c.take_in-did.ensures.taken in
     let same = child g at.After-index_mut-fed w here (place g at.After-unwrap-child w here) in
     let name = c.copy-name.ensures ∙ ap (λ (x : Held). x.name) (sym same) ∙ w.child.name in
     let did = c.take_in-did.ensures.did in

@@ -10,6 +10,7 @@ use Rattle.world_events.specs.Children.{counts_with, entry_after}
 use Rattle.world_events.specs.Programs.{injection_of}
 use Rattle.world_events.specs.declared.books.Entry.{Entry}
 use Rattle.world_events.specs.declared.event.Event.{Event as Kept}
+use Rattle.world_events.specs.declared.event.Program.{Program}
 use Rattle.world_pipes.specs.declared.mouths.Mouths.{Mouths}
 use Rattle.world_pipes.specs.Pipework.{slot_of}
 use Rattle.world_pipes.specs.Seating.{HasPipesFor, HasPlaceAfter, due_slot}
@@ -103,7 +104,7 @@ pub take_in-did-requires-clause-may : goal.take_in-did-requires-clause-may
 take_in-did-requires-clause-may g c =
     let at = goal.at.take_in-did-requires-clause-may g c in
     let k = due_here g at.After-len in
-    may_hand k.asks (parent_seen k.asks (place_is g at.After-len) (read g at.After-index_mut-parent)) c.in_ok-pay_with_room.ensures.paid (setting g at.After-len) c.own_at-own.ensures k.due_is tt (λ most. tt)
+    may_hand k.asks (parent_seen k.asks (place_is g at.After-len) (read g at.After-index_mut-parent)) c.in_ok-pay_with_room.ensures.paid (setting g at.After-len) (c.get.ensures ∙ c.in_ok-own.ensures ∙ c.own_at-own.ensures) k.due_is tt (λ most. tt)
 
 pub index_mut-requires : goal.index_mut-requires
 index_mut-requires g c =
@@ -124,8 +125,8 @@ start_actor-requires g c =
     (c.self.invariant.piped.slots k.wire c.index_mut.result.now (subst (λ (j : ℕ). slice_get c.self.inside.mouths.items j ≡ Some c.index_mut.result.now) wire (mouths_at c.self.inside.mouths.items (mouths_read g at.After-index_mut) wire k.low)))
 
 -- what is asked for
-asked_is : (g : _) (c : In_ok-born g) (asked : ChildData) → c.args.due.now ≡ needs.Start asked → c.in-Start.asked ≡ asked
-asked_is g c asked due = let both : ◌≡◌ {A = NeedData} (needs.Start c.in-Start.asked) (needs.Start asked) = sym c.in-Start.is ∙ due in cc
+asked_is : (g : _) (c : In_ok-born g) (asked : ChildData) → c.args.due.now ≡ needs.Start asked → c.get-asked.result.now ≡ asked
+asked_is g c asked due = c.get-asked.ensures ∙ (let both : ◌≡◌ {A = NeedData} (needs.Start c.in-Start.asked) (needs.Start asked) = sym c.in-Start.is ∙ due in cc)
 
 pub invariant_of-self-2 : goal.invariant_of-self-2
 invariant_of-self-2 g c =
@@ -148,8 +149,8 @@ invariant_of-self-2 g c =
     let own_pipes = c.in_ok-own_pipes.own_pipes in
     let asked = asked_is g at.In_ok-born k.asked k.due_is in
     let born = born_at before c.in_ok-machine.machine (setting g at.After-len) asked (c.in_ok-born.ensures before c.counts_with-counts.ensures) c.in_ok-machine.ensures in
-    let own = own_by (setting g at.After-len) c.own_at-own.ensures k.due_is in
-    let served = was_handed k.asks seen ok.paid own (c.len-2.ensures ∙ ap (λ (l : List Kept). length l) ok.same) c.take_in-did.ensures.taken in
+    let own = own_by (setting g at.After-len) (c.in_ok-own.ensures ∙ c.own_at-own.ensures) k.due_is in
+    let served = was_handed k.asks seen ok.paid (c.get.ensures ∙ own) (c.len-2.ensures ∙ ap (λ (l : List Kept). length l) ok.same) c.take_in-did.ensures.taken in
     let all : c.push.new.self.items ≡ set i.actors.items c.args.at.place y ++ z ∷ [] = rw c.unwrap.ensures at c.push.ensures.items ∙ ap (λ (l : List Held). set l c.args.at.place y ++ z ∷ []) room.actors in
     let many : c.len.result ≡ length i.actors.items = c.len.ensures ∙ i.actors.ok.0 in
     let wide : length c.push.new.self.items ≡ length i.actors.items + 1 =
@@ -161,7 +162,8 @@ invariant_of-self-2 g c =
     (put_child c.put.ensures.event ok.same c.child_event.ensures own) all (room_pushed i.actors.items c.push.new.self.items c.pay_with_room.new.history c.put.new.self wide len ok.holds c.put.ensures.room) c.saturating_add-self-inside.ensures
     (λ q. c.in_ok-add.ensures.ok q ∙ ap (λ (n : List ℕ). put_at (place_of i.places) n (Some (c.len.result - i.crew)) q) c.as_slice.ensures ∙ ap (λ (n : ℕ). put_at (place_of i.places) name (Some (n - i.crew)) q) many)
     (made.name ∙ c.copy-2.ensures) made.ended made.owed made.status made.descriptors (subst (λ (m : AnyMachine). Begins m program) (sym made.machine) born.1)
-    (c.enter-entry.ensures.entered ∙ ap (λ (l : List Entry). l ++ entry_by name (injection_of program)) room.books) (made.entry ∙ c.enter-entry.ensures.place ∙ ap (λ (l : List Entry). entry_after (length l) program) room.books)
+    (c.enter-entry.ensures.entered ∙ ap (λ (l : List Entry). l ++ entry_by name (injection_of c.get-2.result.now)) room.books ∙ ap (λ (p : Program). i.books.entries.items ++ entry_by name (injection_of p)) c.get-2.ensures)
+    (made.entry ∙ c.enter-entry.ensures.place ∙ ap (λ (l : List Entry). entry_after (length l) c.get-2.result.now) room.books ∙ ap (entry_after (length i.books.entries.items)) c.get-2.ensures)
     wire (mouths_at c.self.inside.mouths.items (mouths_read g at.After-index_mut) wire k.low) (c.due_slot-number.ensures ∙ ap due_slot k.due_is)
     (subst (λ (n : List ℕ). HasStartedIn c.index_mut.result.now v c.due_slot-number.result n) c.copy.ensures (record { pipes = began.pipes; tenants = began.tenants; ended = began.ended; slots = began.slots }))
     (subst (λ (asked : ChildData). HasPipesFor asked own_pipes) asked c.in_ok-own_pipes.ensures)
@@ -178,9 +180,9 @@ returns-clause-served g c =
     let ok = c.in_ok-pay_with_room.ensures in
     let asked = asked_is g at.In_ok-born k.asked k.due_is in
     let born = born_at before c.in_ok-machine.machine (setting g at.After-len) asked (c.in_ok-born.ensures before c.counts_with-counts.ensures) c.in_ok-machine.ensures in
-    let own = own_by (setting g at.After-len) c.own_at-own.ensures k.due_is in
+    let own = own_by (setting g at.After-len) (c.in_ok-own.ensures ∙ c.own_at-own.ensures) k.due_is in
     let index = c.len-2.ensures ∙ ap (λ (l : List Kept). length l) ok.same in
-    let served = was_handed a (parent_seen a (place_is g at.After-len) (read g at.After-index_mut-parent)) ok.paid own index c.take_in-did.ensures.taken in
+    let served = was_handed a (parent_seen a (place_is g at.After-len) (read g at.After-index_mut-parent)) ok.paid (c.get.ensures ∙ own) index c.take_in-did.ensures.taken in
     let did = c.take_in-did.ensures.did in
     rw (← c.self.view_is, put_child c.put.ensures.event ok.same c.child_event.ensures own) (bear_serves (g.D.CallFs.disk i.disk) i.crew (place_of i.places) (place_of c.add.new.self) i.actors.items i.mouths.items i.history.events.items i.present
     i.next_pid before c.args.actor.now a.at a.parent c.self.invariant.world c.self.invariant.piped a.is a.alive a.here k.asked k.actor k.starts c.in_ok-born.born.name c.in_ok-born.born.program c.args.at.pid born.0 (a.next ∙ k.due_is)

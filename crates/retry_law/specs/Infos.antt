@@ -1,0 +1,82 @@
+-- When births are the moments of info files, by the sender's past (qmail-send(8)).
+use Rattle.std.specs.Prelude.{◌≡◌, ℕ, List, [], ◌∷◌, Bool, true, false, Option, Some, None, Contains}
+use Rattle.call_fs.specs.Past.{IsRunBy}
+use Rattle.call_fs.specs.declared.calls.Answer.TheVariants as answer
+use Rattle.call_fs.specs.declared.calls.Answer.{Answer}
+use Rattle.call_fs.specs.declared.calls.CallData.TheVariants as call
+use Rattle.call_fs.specs.declared.past.GotData.TheVariants as came
+use Rattle.call_fs.specs.declared.past.GotData.{GotData}
+use Rattle.call_fs.specs.declared.past.NeedData.TheVariants as needs
+use Rattle.call_fs.specs.declared.past.NeedData.{NeedData}
+use Rattle.call_fs.specs.declared.past.Own.{Own}
+use Rattle.queue_paths.specs.Names.Name.{Of}
+use Rattle.queue_paths.specs.Names.Part.{Info as InfoFile}
+use Rattle.queue_paths.specs.Names.{Name, parse}
+use Rattle.send_core.specs.Agrees.{has_ended}
+use Rattle.send_core.specs.Births.{Birth, Making, births, written_last}
+use Rattle.send_core.specs.Table.{Next, place_after}
+use Rattle.send_core.specs.declared.row.Row.TheVariants as at
+use Rattle.send_core.specs.declared.row.Row.{Row}
+use Rattle.send_known.specs.declared.known.Known.{Known}
+use Rattle.send_parts.specs.declared.rows.StartRow.TheVariants as start
+use Rattle.send_runs.specs.Knowing.{known_in}
+use Rattle.todo_pass.specs.Table.{Pass}
+use Rattle.todo_pass.specs.declared.part.Target.TheVariants as target
+use Rattle.todo_pass.specs.declared.row.Row.TheVariants as todo
+use Rattle.todo_pass.specs.declared.row.Row.{Row as PassRow}
+
+-- After each past of a sender, when the info file of each message was last written, if it is there: as its disk has it.
+abbrev pub Infos : Type 0
+Infos = List Own → ℕ → Option ℕ
+
+-- What an event tells of an info file: by a look at it, or by an append to the one that is made
+
+abbrev pub looked_at : Option Name → Answer → Option Birth
+looked_at (Some (Of InfoFile n)) (answer.Stat stat) = Some (record { n = n; moment = stat.moment })
+looked_at name told = None
+
+abbrev pub tells : Option Making → ℕ → NeedData → GotData → Option Birth
+tells made now (needs.File (call.Stat name)) (came.Answered told) = looked_at (parse name) told.answer
+tells made now (needs.File (call.Append fd bytes)) (came.Answered told) = written_last made fd told.answer now None
+tells made now due got = None
+
+-- Which message becomes known next: one whose info file the scan of the start looked at, or the one that is preprocessed, once its info file is
+-- written
+
+abbrev pub has_written : PassRow → Bool
+has_written (todo.Create target.Local) = true
+has_written (todo.Create target.Remote) = true
+has_written (todo.Append target.Local fd done) = true
+has_written (todo.Append target.Remote fd done) = true
+has_written (todo.Sync part fd) = true
+has_written (todo.Close part fd) = true
+has_written todo.Give = true
+has_written todo.Answer = true
+has_written row = false
+
+abbrev pub written : Bool → Pass → Option Birth
+written true p = Some (record { n = p.n; moment = p.birth })
+written false p = None
+
+abbrev pub coming : Row → Pass → Option Birth
+coming (at.Start (start.StatLocal split n birth)) p = Some (record { n = n; moment = birth })
+coming (at.Start (start.StatRemote split n birth local)) p = Some (record { n = n; moment = birth })
+coming at.InTodo p = written (has_written p.row) p
+coming row p = None
+
+-- What an event tells of an info file is so on the disk. The info file of a message that is known, or becomes known next, isn't written but by an
+-- event that tells so.
+pub record TellsInfos (infos : Infos) (turns : Option ℕ) (past : List Own) (event : Own) : Type 0 where
+  pub told : (it : Birth) → tells (births past).made event.read event.due event.came ≡ Some it → (moment : ℕ) → infos (event ∷ past) it.n ≡ Some moment → it.moment ≡ moment
+  pub known : (n moment : ℕ) → known_in past n ≡ true → infos (event ∷ past) n ≡ Some moment → infos past n ≡ Some moment
+  pub next : (it : Birth) → coming (place_after turns past).row (place_after turns past).pass ≡ Some it → tells (births past).made event.read event.due event.came ≡ None
+      → (moment : ℕ) → infos (event ∷ past) it.n ≡ Some moment → infos past it.n ≡ Some moment
+
+abbrev pub AllTellInfos : Infos → Option ℕ → List Own → Type 0
+AllTellInfos infos turns [] = Unit {0}
+AllTellInfos infos turns (event ∷ past) = AllTellInfos infos turns past × TellsInfos infos turns past event
+
+-- Then the birth of a known message is the moment at which its info file was last written, until the sender has ended.
+abbrev pub BirthsAreInfos : Type 0
+BirthsAreInfos = (infos : Infos) (turns : Option ℕ) (past : List Own) → IsRunBy (Next turns) past → AllTellInfos infos turns past → has_ended (place_after turns past).row ≡ false
+    → (k : Known) → Contains (place_after turns past).book.messages.known k → (moment : ℕ) → infos past k.n ≡ Some moment → k.birth ≡ moment
