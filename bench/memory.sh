@@ -2,7 +2,7 @@
 # bench/memory.sh [STEP [PROGRAM..]]: refuses memory to each program: its first growth, in the next run its second one, and so on,
 # until three runs ask for no more. With STEP each STEP-th one alone. Prints for each program how many growths were refused, and how
 # often each exit status came with what is left then. The programs: queue, clean, audit, local, forward, lspawn, rspawn, send,
-# play, make; all of them if none is named. Exit status 1 if a run crashes or never ends, or leaves something that a program that
+# play, make, work; all of them if none is named. Exit status 1 if a run crashes or never ends, or leaves something that a program that
 # is out of memory may not leave. A call that can't answer that it is out of memory counts as failed, so a program may end by that
 # failure too. What may be left:
 #
@@ -15,6 +15,7 @@
 #   send            any state in which the senders that are started afterwards deliver to the recipient, and leave nothing. 81: the
 #                   cleaner couldn't be told to remove the message that was delivered: a number in S2
 #   play, make      the beginning of what is printed with enough memory; all of it with 0
+#   work            51: nothing printed; all that is printed otherwise
 #
 # Of a name in pid/, of S2 and of S3 nothing may be left once 37 hours have passed, a sender having been started then.
 #
@@ -24,7 +25,7 @@
 set -u
 step=${1:-1}
 [ "$#" = 0 ] || shift
-programs=${*:-queue clean audit local forward lspawn rspawn send play make}
+programs=${*:-queue clean audit local forward lspawn rspawn send play make work}
 top=$(cd "$(dirname "$0")/.." && pwd)
 program=$(realpath "${QMAIL:-$top/qmail}")
 work=$(mktemp -d)
@@ -236,7 +237,7 @@ left_send() {
   echo "$states- $(queue audit q | tr '\n' ' ')$([ -s took ] && echo delivered)"
 }
 
-# a script, and the text of one
+# scripts, and the text of one
 printf 'mail a a@x b@y : hi%%0A\nrun a\nsender\nsettle D\nshow\n' > script
 queue play < script > play.whole
 queue make 1 20 > make.whole 2> noise || programs=${programs/make/} # a program that makes none
@@ -246,6 +247,10 @@ left_play() { echo "$(begins out play.whole)$(cmp -s out play.whole && echo ", w
 fresh_make() { :; }
 run_make() { refuse "$1" make 1 20; }
 left_make() { echo "$(begins out make.whole)$(cmp -s out make.whole && echo ", whole")"; }
+echo 'mail a a@x b@y : hi' > mails
+fresh_work() { :; }
+run_work() { refuse "$1" work --threads 2 < mails; }
+left_work() { if [ -s out ]; then tail -n 3 out | tr '\n' ' '; else echo nothing; fi; }
 
 for name in $programs; do
   case $name in
@@ -261,6 +266,11 @@ for name in $programs; do
     send) each send '0: pid 0 - pid 0 delivered' '(51|0|8[1-5]): pid 0 (S[2-5] )?- pid 0 delivered|81: pid 0 S2 - pid 0 S2 - pid 0 - pid 0 delivered' ;;
     play) each play '0: begun, whole' '51: begun|0: begun, whole' ;;
     make) each make '0: begun, whole' '51: begun|0: begun, whole' ;;
+    work)
+      step=$((step * 97))
+      each work '0: pid 0 a 0 a.1 delivered ' '51: nothing|0: pid 0 a 0 a.1 delivered '
+      step=$((step / 97))
+      ;;
   esac
 done
 exit "$bad"

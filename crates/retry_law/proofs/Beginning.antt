@@ -4,7 +4,7 @@ use Rattle.std.proofs.lemmas.Bool.{cond-true}
 use Rattle.std.specs.Prelude.{is_none, is_some, slice_get, ◌&&◌, ◌==◌}
 use Rattle.bounce_record.specs.Writing.{Writing}
 use Rattle.call_fs.specs.Program.{MayCome}
-use Rattle.call_fs.specs.declared.past.GotData.TheVariants as came
+use Rattle.call_fs.specs.declared.calls.Fd.{Fd}
 use Rattle.call_fs.specs.declared.past.GotData.{GotData}
 use Rattle.envelope_records.specs.declared.channel.Record.{Record}
 use Rattle.retry_law.proofs.Events.{begins}
@@ -96,48 +96,59 @@ module _ (Q : MarkRow → Option Mark → Marked → Writing → Type 0) (d : De
   abbrev BeginsAt : Row → GotData → Type 0
   BeginsAt row got = shift_by c n now command clears f tr (due_at row d) got ≡ Begins begun
 
-  abbrev Flying : Channel → ℕ → Type 0
-  Flying e k = flies k (a e) ≡ is_in_flight k (lane e d.slots)
+  no_trial : {A : Type 0} (row : Row) (got : GotData) → tr ≡ None → BeginsAt row got → A
+  no_trial row got none is = let w = begins c n now command clears f tr (due_at row d) got begun is in absurd (cc (sym w.1 ∙ none))
 
-  no_trial : (row : Row) (got : GotData) → tr ≡ None → BeginsAt row got → ⊥
-  no_trial row got none is = let w = begins c n now command clears f tr (due_at row d) got begun is in cc (sym w.1 ∙ none)
+  -- where its channel file was read to its end, and is records alone
+  abbrev IsRead : Row → Type 0
+  IsRead row = (m : ℕ) × (fd : Fd) × (row ≡ at.ReadFile c n m (Closing fd)) × ((lane c d.slots).left ≡ []) × (is_some (records_of d.book.read) ≡ true)
 
-  file_begun : (e : Channel) (k m : ℕ) (reading : FileReading) (got : GotData) → MayCome (due_at (at.ReadFile e k m reading) d) got → Fits (at.ReadFile e k m reading) → TrialAt (at.ReadFile e k m reading) tr
-      → BeginsAt (at.ReadFile e k m reading) got → Flying e k → flies n (a c) ≡ false → Has c n (act (at.ReadFile e k m reading) now got d)
-  file_begun e k m Opening got may fit tried is flying none = absurd (no_trial (at.ReadFile e k m Opening) got tried is)
-  file_begun e k m (Going fd) got may fit tried is flying none =
+  file_begins : (e : Channel) (k m : ℕ) (reading : FileReading) (got : GotData) → MayCome (due_at (at.ReadFile e k m reading) d) got → Fits (at.ReadFile e k m reading) → TrialAt (at.ReadFile e k m reading) tr
+      → BeginsAt (at.ReadFile e k m reading) got → IsRead (at.ReadFile e k m reading)
+  file_begins e k m Opening got may fit tried is = no_trial (at.ReadFile e k m Opening) got tried is
+  file_begins e k m (Going fd) got may fit tried is =
       let row : Row = at.ReadFile e k m (Going fd) in
-      by_file (due_at row d) tt (λ g. BeginsAt row g → Has c n (act row now g d)) got may (λ told answers is. absurd (cc)) is
-  file_begun e k m (Shutting fd) got may fit tried is flying none =
+      by_file (due_at row d) tt (λ g. BeginsAt row g → IsRead row) got may (λ told answers is. absurd (cc)) is
+  file_begins e k m (Shutting fd) got may fit tried is =
       let row : Row = at.ReadFile e k m (Shutting fd) in
-      by_file (due_at row d) tt (λ g. BeginsAt row g → Has c n (act row now g d)) got may
+      by_file (due_at row d) tt (λ g. BeginsAt row g → IsRead row) got may
       (λ told answers is.
       let w = begun_if (is_trial_of c n (record { channel = e; n = k; begun = m })) (is_whole f fd) m begun (ap (λ (o : Option Trial). closed o (is_whole f fd) c n) (sym tried) ∙ is) in
       absurd (cc (sym w.1 ∙ ap (λ (x : Option Work). is_whole x fd) fit.2)))
       is
-  file_begun e k m (Closing fd) got may fit tried is flying none =
+  file_begins e k m (Closing fd) got may fit tried is =
       let row : Row = at.ReadFile e k m (Closing fd) in
-      by_file (due_at row d) tt (λ g. BeginsAt row g → Has c n (act row now g d)) got may
+      by_file (due_at row d) tt (λ g. BeginsAt row g → IsRead row) got may
       (λ told answers is.
       let w = begun_if (is_trial_of c n (record { channel = e; n = k; begun = m })) (is_whole f fd) m begun (ap (λ (o : Option Trial). closed o (is_whole f fd) c n) (sym tried) ∙ is) in
       let of : (c ≡ e) × (n ≡ k) = trial_is c e n k m w.0 in
       let whole : is_some (records_of d.book.read) ≡ true = sym (ap (λ (x : Option Work). is_whole x fd) fit.2 ∙ ap (λ (x : Bool). x && is_some (records_of d.book.read)) (same_end fd.0)) ∙ w.1 in
-      let still : flies k (a e) ≡ false = ap (λ (y : Channel). flies k (a y)) (sym of.0) ∙ ap (λ (i : ℕ). flies i (a c)) (sym of.1) ∙ none in
-      subst (λ (y : Channel). Has y n (act row now (came.Answered told) d)) (sym of.0)
-      (subst (λ (i : ℕ). Has e i (act row now (came.Answered told) d)) (sym of.1) (whole_begun d now e k m fit.1 (sym flying ∙ still) (records_of d.book.read) whole)))
+      let left : (lane c d.slots).left ≡ [] = subst (λ (y : Channel). (lane y d.slots).left ≡ []) (sym of.0) fit.1 in
+      (m, fd, ap (λ (y : Channel). at.ReadFile y k m (Closing fd)) (sym of.0) ∙ ap (λ (i : ℕ). at.ReadFile c i m (Closing fd)) (sym of.1), left, whole))
       is
+
+  pub begins_at : (row : Row) (got : GotData) → MayCome (due_at row d) got → Fits row → TrialAt row tr → BeginsAt row got → IsRead row
+  begins_at (at.ReadFile e k m reading) got may fit tried is = file_begins e k m reading got may fit tried is
+  begins_at (at.Ended status) got may fit tried is = absurd may
+  begins_at (at.Start row) got may fit tried is = no_trial (at.Start row) got tried is
+  begins_at (at.Turn p) got may fit tried is = absurd may
+  begins_at (at.TakeLink e) got may fit tried is = no_trial (at.TakeLink e) got tried is
+  begins_at (at.Mark row m) got may fit tried is = no_trial (at.Mark row m) got tried is
+  begins_at (at.UnlinkFile e k q) got may fit tried is = no_trial (at.UnlinkFile e k q) got tried is
+  begins_at (at.Request e) got may fit tried is = no_trial (at.Request e) got tried is
+  begins_at (at.FindTodo search) got may fit tried is = no_trial (at.FindTodo search) got tried is
+  begins_at at.InTodo got may fit tried is = no_trial at.InTodo got tried is
+  begins_at (at.Finish row k) got may fit tried is = no_trial (at.Finish row k) got tried is
+  begins_at (at.Sweep row) got may fit tried is = no_trial (at.Sweep row) got tried is
 
   pub begun_row : (row : Row) (got : GotData) → MayCome (due_at row d) got → Fits row → TrialAt row tr → ((x : Channel) → Agrees (a x) (is_opened row x) (lane x d.slots) × (length (lane x d.slots).slots ≤ 120))
       → BeginsAt row got → flies n (a c) ≡ false → Has c n (act row now got d)
-  begun_row (at.ReadFile e k m reading) got may fit tried known is none = let w = known e in file_begun e k m reading got may fit tried is (flies_is k (lane e d.slots) (a e) w.0 w.1) none
-  begun_row (at.Ended status) got may fit tried known is none = absurd may
-  begun_row (at.Start row) got may fit tried known is none = absurd (no_trial (at.Start row) got tried is)
-  begun_row (at.Turn p) got may fit tried known is none = absurd may
-  begun_row (at.TakeLink e) got may fit tried known is none = absurd (no_trial (at.TakeLink e) got tried is)
-  begun_row (at.Mark row m) got may fit tried known is none = absurd (no_trial (at.Mark row m) got tried is)
-  begun_row (at.UnlinkFile e k q) got may fit tried known is none = absurd (no_trial (at.UnlinkFile e k q) got tried is)
-  begun_row (at.Request e) got may fit tried known is none = absurd (no_trial (at.Request e) got tried is)
-  begun_row (at.FindTodo search) got may fit tried known is none = absurd (no_trial (at.FindTodo search) got tried is)
-  begun_row at.InTodo got may fit tried known is none = absurd (no_trial at.InTodo got tried is)
-  begun_row (at.Finish row k) got may fit tried known is none = absurd (no_trial (at.Finish row k) got tried is)
-  begun_row (at.Sweep row) got may fit tried known is none = absurd (no_trial (at.Sweep row) got tried is)
+  begun_row row got may fit tried known is none = subst (λ (r : Row). Has c n (act r now got d)) (sym w.2) (whole_begun d now c n w.0 w.3 (sym flying ∙ none) (records_of d.book.read) w.4) where
+    w : IsRead row
+    w = begins_at row got may fit tried is
+
+    agrees : Agrees (a c) false (lane c d.slots) × (length (lane c d.slots).slots ≤ 120)
+    agrees = subst (λ (r : Row). Agrees (a c) (is_opened r c) (lane c d.slots) × (length (lane c d.slots).slots ≤ 120)) w.2 (known c)
+
+    flying : flies n (a c) ≡ is_in_flight n (lane c d.slots)
+    flying = flies_is n (lane c d.slots) (a c) agrees.0 agrees.1

@@ -1,5 +1,5 @@
 -- Which message becomes known next, and how each event leads there.
-use Rattle.std.proofs.Common.{◌≡◌, ◌⊎◌, ℕ, ◌+◌, List, [], ◌∷◌, length, nat_lt, bytes_eq, Bool, true, false, if◌then◌else◌, Option, Some, None, refl, sym, ap, ◌∙◌, inl, inr, eq-eqb}
+use Rattle.std.proofs.Common.{◌≡◌, ◌⊎◌, ℕ, ◌+◌, List, [], ◌∷◌, length, nat_lt, bytes_eq, Bool, true, false, if◌then◌else◌, Option, Some, None, refl, sym, ap, ◌∙◌, inl, inr}
 use Rattle.std.specs.Prelude.{Result, Ok, Err}
 use Rattle.address_rules.specs.Files.{Fault, first_fault}
 use Rattle.address_rules.specs.declared.control_file.ControlFile.{ControlFile}
@@ -17,15 +17,13 @@ use Rattle.call_fs.specs.declared.past.GotData.TheVariants as came
 use Rattle.call_fs.specs.declared.past.GotData.{GotData}
 use Rattle.call_fs.specs.declared.program.Ready.{Ready}
 use Rattle.mail_bytes.specs.Decimal.{digits}
-use Rattle.queue_paths.proofs.Paths.{parse-path}
 use Rattle.queue_paths.specs.Names.Name.{Of}
 use Rattle.queue_paths.specs.Names.Part.{Info as InfoFile, Local as LocalFile}
-use Rattle.queue_paths.specs.Names.{Name, parse, path}
-use Rattle.retry_law.proofs.Left.{act_keeps, is_plain, none_keeps, todo_keeps}
-use Rattle.retry_law.specs.Infos.{coming, has_written, looked_at, tells, written}
-use Rattle.send_core.proofs.Asked.{Facts, KnowsAt, PassSays}
+use Rattle.queue_paths.specs.Names.{path}
+use Rattle.retry_law.proofs.Left.{act_keeps, by_reading, is_plain, none_keeps, todo_keeps}
+use Rattle.retry_law.specs.Infos.{coming, has_written, looked_at, pass_tells, tells, written, written_at}
 use Rattle.send_core.proofs.Coming.{IsAnswered, IsFile, by_file}
-use Rattle.send_core.specs.Births.{Birth, Making, written_last}
+use Rattle.send_core.specs.Births.{Birth}
 use Rattle.send_core.specs.Desk.{past_todo}
 use Rattle.send_core.specs.Start.{start_at}
 use Rattle.send_core.specs.Table.{act, arrive, due_at, from_point}
@@ -35,7 +33,7 @@ use Rattle.send_core.specs.declared.row.Row.TheVariants as at
 use Rattle.send_core.specs.declared.row.Row.{Row}
 use Rattle.send_known.specs.Messages.{learned}
 use Rattle.send_parts.specs.Files.{message_number}
-use Rattle.send_parts.specs.Readings.{read_on}
+use Rattle.send_parts.specs.Readings.{begun_at, read_on}
 use Rattle.send_parts.specs.Replies.{Said, said}
 use Rattle.send_parts.specs.Rows.{is_again}
 use Rattle.send_parts.specs.Start.{act_start, by_way, control_read, file_after, greeted_local, greeted_remote, info_read, info_row, judged_by, next_file, remote_stated, scan_row, scanned, start_failed}
@@ -65,6 +63,7 @@ use Rattle.todo_pass.specs.declared.sorted.Sorted.{Sorted}
 plain_none : (row : Row) (p : Pass) → is_plain row ≡ true → coming row p ≡ None
 plain_none (at.Start row) p e = absurd (cc)
 plain_none at.InTodo p e = absurd (cc)
+plain_none (at.ReadFile c n begun reading) p e = refl
 plain_none row p e = refl
 
 fresh_none : (row : Row) (p : Pass) → IsFresh row → coming row p ≡ None
@@ -169,28 +168,28 @@ found_not way.Over split n birth local b = refl
 found_not way.Broken split n birth local b = refl
 found_not way.NoMemory split n birth local b = refl
 
-module _ (made : Option Making) (now : ℕ) (d : Desk) where
+module _ (now : ℕ) (d : Desk) where
   -- the info file is looked at
   stat_leads : (split n : ℕ) (told : Answer) (bytes : List ℕ) → IsAnswerTo (call.Stat (path (Of InfoFile n))) told → let s : Said = said (came.Answered (record { answer = told; bytes = bytes })) in
-      Leads (coming (start_at (by_way s.way (start.StatLocal split n s.stat.moment) (start.Scan split))) d.pass) (looked_at (parse (path (Of InfoFile n))) told) None
-  stat_leads split n (answer.Stat stat) bytes fit it is = inl (ap (λ (o : Option Name). looked_at o (answer.Stat stat)) (parse-path (Of InfoFile n)) ∙ is)
+      Leads (coming (start_at (by_way s.way (start.StatLocal split n s.stat.moment) (start.Scan split))) d.pass) (looked_at n told) None
+  stat_leads split n (answer.Stat stat) bytes fit it is = inl is
   stat_leads split n (answer.Refused why.NotThere) bytes fit it is = absurd (cc)
   stat_leads split n (answer.Refused why.Fault) bytes fit it is = absurd (cc)
   stat_leads split n told bytes fit it is = absurd fit
 
   -- the local file is looked for
   look_leads : (split n birth : ℕ) (told : Answer) (bytes : List ℕ) → IsAnswerTo (call.Stat (path (Of LocalFile n))) told → let s : Said = said (came.Answered (record { answer = told; bytes = bytes })) in
-      Leads (coming (start_at (by_way s.way (start.StatRemote split n birth true) (start.StatRemote split n birth false))) d.pass) (looked_at (parse (path (Of LocalFile n))) told) (Some (record { n = n; moment = birth }))
-  look_leads split n birth (answer.Stat stat) bytes fit it is = inr (is, ap (λ (o : Option Name). looked_at o (answer.Stat stat)) (parse-path (Of LocalFile n)))
-  look_leads split n birth (answer.Refused why.NotThere) bytes fit it is = inr (is, ap (λ (o : Option Name). looked_at o (answer.Refused why.NotThere)) (parse-path (Of LocalFile n)))
+      Leads (coming (start_at (by_way s.way (start.StatRemote split n birth true) (start.StatRemote split n birth false))) d.pass) None (Some (record { n = n; moment = birth }))
+  look_leads split n birth (answer.Stat stat) bytes fit it is = inr (is, refl)
+  look_leads split n birth (answer.Refused why.NotThere) bytes fit it is = inr (is, refl)
   look_leads split n birth (answer.Refused why.Fault) bytes fit it is = absurd (cc)
   look_leads split n birth told bytes fit it is = absurd fit
 
   abbrev StartLeads : StartRow → GotData → Type 0
-  StartLeads row got = Leads (coming (start_at (act_start row (said got) d.book).row) d.pass) (tells made now (due_at (at.Start row) d) got) (coming (at.Start row) d.pass)
+  StartLeads row got = Leads (coming (start_at (act_start row (said got) d.book).row) d.pass) (tells (at.Start row) d.pass now got) (coming (at.Start row) d.pass)
 
   start_still : (row : StartRow) (got : GotData) → is_coming (act_start row (said got) d.book).row ≡ false → StartLeads row got
-  start_still row got e = none_leads (coming (start_at (act_start row (said got) d.book).row) d.pass) (tells made now (due_at (at.Start row) d) got) (coming (at.Start row) d.pass)
+  start_still row got e = none_leads (coming (start_at (act_start row (said got) d.book).row) d.pass) (tells (at.Start row) d.pass now got) (coming (at.Start row) d.pass)
       (start_none (act_start row (said got) d.book).row d.pass e)
 
   start_leads : (row : StartRow) (got : GotData) → MayCome (due_at (at.Start row) d) got → StartLeads row got
@@ -257,7 +256,7 @@ create_not : (told : Answer) → has_written (create_row target.Info told) ≡ f
 create_not (answer.Created fd number) = refl
 create_not told = refl
 
-module _ (made : Option Making) (now : ℕ) (controls : Controls) (q : Pass) (d : Desk) where
+module _ (now : ℕ) (controls : Controls) (q : Pass) (d : Desk) where
   abbrev To : Pass → Option Birth
   To p = written (has_written p.row) p
 
@@ -272,42 +271,35 @@ module _ (made : Option Making) (now : ℕ) (controls : Controls) (q : Pass) (d 
   on_is row p is = refl
 
   abbrev TodoLeads : PassRow → GotData → Type 0
-  TodoLeads row got = let e : Desk = todo_on (after row got).row (after row got) now d in Leads (coming e.row e.pass) (tells made now (pass_table.due_at row q) got) (written (has_written row) q)
+  TodoLeads row got = let e : Desk = todo_on (after row got).row (after row got) now d in Leads (coming e.row e.pass) (pass_tells row q.n now got) (written (has_written row) q)
 
   -- by where the pass stands after it
-  by_pass : (row : PassRow) (got : GotData) → Leads (To (after row got)) (tells made now (pass_table.due_at row q) got) (written (has_written row) q) → TodoLeads row got
+  by_pass : (row : PassRow) (got : GotData) → Leads (To (after row got)) (pass_tells row q.n now got) (written (has_written row) q) → TodoLeads row got
   by_pass row got leads it is = leads it (sym (on_is (after row got).row (after row got) refl) ∙ is)
 
   unwritten : (row : PassRow) (got : GotData) → has_written (after row got).row ≡ false → TodoLeads row got
-  unwritten row got e = by_pass row got (none_leads (To (after row got)) (tells made now (pass_table.due_at row q) got) (written (has_written row) q) (ap (λ (b : Bool). written b (after row got)) e))
+  unwritten row got e = by_pass row got (none_leads (To (after row got)) (pass_tells row q.n now got) (written (has_written row) q) (ap (λ (b : Bool). written b (after row got)) e))
 
   -- a file is written
-  info_leads : (b : Bool) (row : PassRow) (fd : Fd) (done : ℕ) → made ≡ Some (record { n = q.n; fd = fd })
-      → Leads (written (has_written (if b then todo.Append target.Info fd done else todo.Sync target.Info fd)) (record q { row = row; birth = now })) (written_last made fd answer.Done now None) None
-  info_leads true row fd done is it e = absurd (cc)
-  info_leads false row fd done is it e = inl (
-      ap (λ (m : Option Making). written_last m fd answer.Done now None) is
-      ∙ ap (λ (b : Bool). if b then Some (record { n = q.n; moment = now }) else None) (eq-eqb fd.0 fd.0 refl)
-      ∙ e)
+  info_leads : (b : Bool) (row : PassRow) (fd : Fd) (done : ℕ)
+      → Leads (written (has_written (if b then todo.Append target.Info fd done else todo.Sync target.Info fd)) (record q { row = row; birth = now })) (Some (record { n = q.n; moment = now })) None
+  info_leads true row fd done it e = absurd (cc)
+  info_leads false row fd done it e = inl e
 
-  append_info : (fd : Fd) (done : ℕ) (told : Answer) → made ≡ Some (record { n = q.n; fd = fd }) → Leads (To (appended q target.Info fd done now told)) (written_last made fd told now None) None
-  append_info fd done answer.Done is = info_leads (nat_lt (done + piece_size) (length (text_of q.sorted target.Info))) (next_piece target.Info fd (done + piece_size) (text_of q.sorted target.Info)) fd (done + piece_size) is
-  append_info fd done told is = (λ it e. absurd (cc))
+  append_info : (fd : Fd) (done : ℕ) (told : Answer) → Leads (To (appended q target.Info fd done now told)) (written_at q.n now told) None
+  append_info fd done answer.Done = info_leads (nat_lt (done + piece_size) (length (text_of q.sorted target.Info))) (next_piece target.Info fd (done + piece_size) (text_of q.sorted target.Info)) fd (done + piece_size)
+  append_info fd done told = (λ it e. absurd (cc))
 
-  append_local : (fd : Fd) (done : ℕ) (told : Answer) → made ≡ None → Leads (To (appended q target.Local fd done now told)) (written_last made fd told now None) (written true q)
-  append_local fd done answer.Done none =
-      let p : Pass = appended q target.Local fd done now answer.Done in
-      keep_leads (has_written p.row) p q (written_last made fd answer.Done now None) refl (ap (λ (m : Option Making). written_last m fd answer.Done now None) none)
-  append_local fd done told none = (λ it e. absurd (cc))
+  append_local : (fd : Fd) (done : ℕ) (told : Answer) → Leads (To (appended q target.Local fd done now told)) None (written true q)
+  append_local fd done answer.Done = let p : Pass = appended q target.Local fd done now answer.Done in keep_leads (has_written p.row) p q None refl refl
+  append_local fd done told = (λ it e. absurd (cc))
 
-  append_remote : (fd : Fd) (done : ℕ) (told : Answer) → made ≡ None → Leads (To (appended q target.Remote fd done now told)) (written_last made fd told now None) (written true q)
-  append_remote fd done answer.Done none =
-      let p : Pass = appended q target.Remote fd done now answer.Done in
-      keep_leads (has_written p.row) p q (written_last made fd answer.Done now None) refl (ap (λ (m : Option Making). written_last m fd answer.Done now None) none)
-  append_remote fd done told none = (λ it e. absurd (cc))
+  append_remote : (fd : Fd) (done : ℕ) (told : Answer) → Leads (To (appended q target.Remote fd done now told)) None (written true q)
+  append_remote fd done answer.Done = let p : Pass = appended q target.Remote fd done now answer.Done in keep_leads (has_written p.row) p q None refl refl
+  append_remote fd done told = (λ it e. absurd (cc))
 
   abbrev TodoWent : PassRow → GotData → Type 0
-  TodoWent row got = let e : Desk = todo_went row got (after row got) now d in Leads (coming e.row e.pass) (tells made now (pass_table.due_at row q) got) (written (has_written row) q)
+  TodoWent row got = let e : Desk = todo_went row got (after row got) now d in Leads (coming e.row e.pass) (pass_tells row q.n now got) (written (has_written row) q)
 
   -- the cleaner answers
   good_none : (b : Bool) (p : Pass) → let row : PassRow = (if b then todo.Done else todo.Left left.Unclean) in let e : Desk = todo_over row p now d in coming e.row e.pass ≡ None
@@ -325,56 +317,55 @@ module _ (made : Option Making) (now : ℕ) (controls : Controls) (q : Pass) (d 
   file_row : (row : PassRow) (got : GotData) → IsFile (pass_table.due_at row q) → MayCome (pass_table.due_at row q) got → ((told : Told) → IsAnswered (pass_table.due_at row q) told.answer → TodoWent row (came.Answered told)) → TodoWent row got
   file_row row got is may f = by_file (pass_table.due_at row q) is (λ g. TodoWent row g) got may f
 
-module _ (S : ℕ → List ℕ → Type 0) (t : Facts) (now : ℕ) (controls : Controls) (q : Pass) (d : Desk) where
-  abbrev made : Option Making
-  made = t.births.made
-
+module _ (now : ℕ) (controls : Controls) (q : Pass) (d : Desk) where
   abbrev Went : PassRow → GotData → Type 0
-  Went row got = TodoWent made now controls q d row got
+  Went row got = TodoWent now controls q d row got
 
-  kept_leads : (row : PassRow) (got : GotData) → written true (after made now controls q d row got) ≡ written true q → tells made now (pass_table.due_at row q) got ≡ None
-      → Leads (To made now controls q d (after made now controls q d row got)) (tells made now (pass_table.due_at row q) got) (written true q)
-  kept_leads row got same none = keep_leads (has_written (after made now controls q d row got).row) (after made now controls q d row got) q (tells made now (pass_table.due_at row q) got) same none
+  kept_leads : (row : PassRow) (got : GotData) → written true (after now controls q d row got) ≡ written true q → pass_tells row q.n now got ≡ None
+      → Leads (To now controls q d (after now controls q d row got)) (pass_tells row q.n now got) (written true q)
+  kept_leads row got same none = keep_leads (has_written (after now controls q d row got).row) (after now controls q d row got) q (pass_tells row q.n now got) same none
 
-  went_leads : (row : PassRow) (got : GotData) → MayCome (pass_table.due_at row q) got → PassSays S t row q → Went row got
-  went_leads (todo.Clear g) got may says = file_row made now controls q d (todo.Clear g) got tt may (λ told fit. unwritten made now controls q d (todo.Clear g) (came.Answered told) (clear_not g told.answer))
-  went_leads todo.StatMess got may says = file_row made now controls q d todo.StatMess got tt may (λ told fit. unwritten made now controls q d todo.StatMess (came.Answered told) (stated_not q told.answer))
-  went_leads todo.OpenTodo got may says = file_row made now controls q d todo.OpenTodo got tt may (λ told fit. unwritten made now controls q d todo.OpenTodo (came.Answered told) (open_not told.answer))
-  went_leads (todo.ReadTodo fd) got may says = file_row made now controls q d (todo.ReadTodo fd) got tt may (λ told fit. unwritten made now controls q d (todo.ReadTodo fd) (came.Answered told) (read_not q fd told.answer told.bytes))
-  went_leads (todo.CloseTodo fd) got may says = file_row made now controls q d (todo.CloseTodo fd) got tt may (λ told fit. unwritten made now controls q d (todo.CloseTodo fd) (came.Answered told) (sorted_not q (sort_todo controls q.todo)))
-  went_leads (todo.Create target.Info) got may says = file_row made now controls q d (todo.Create target.Info) got tt may (λ told fit. unwritten made now controls q d (todo.Create target.Info) (came.Answered told) (create_not told.answer))
-  went_leads (todo.Create target.Local) got may says = file_row made now controls q d (todo.Create target.Local) got tt may
-      (λ told fit. by_pass made now controls q d (todo.Create target.Local) (came.Answered told) (kept_leads (todo.Create target.Local) (came.Answered told) refl refl))
-  went_leads (todo.Create target.Remote) got may says = file_row made now controls q d (todo.Create target.Remote) got tt may
-      (λ told fit. by_pass made now controls q d (todo.Create target.Remote) (came.Answered told) (kept_leads (todo.Create target.Remote) (came.Answered told) refl refl))
-  went_leads (todo.Append target.Info fd done) got may says = file_row made now controls q d (todo.Append target.Info fd done) got tt may
-      (λ told fit. by_pass made now controls q d (todo.Append target.Info fd done) (came.Answered told) (append_info made now controls q d fd done told.answer says.1))
-  went_leads (todo.Append target.Local fd done) got may says = file_row made now controls q d (todo.Append target.Local fd done) got tt may
-      (λ told fit. by_pass made now controls q d (todo.Append target.Local fd done) (came.Answered told) (append_local made now controls q d fd done told.answer says.2))
-  went_leads (todo.Append target.Remote fd done) got may says = file_row made now controls q d (todo.Append target.Remote fd done) got tt may
-      (λ told fit. by_pass made now controls q d (todo.Append target.Remote fd done) (came.Answered told) (append_remote made now controls q d fd done told.answer says.2))
-  went_leads (todo.Sync g fd) got may says = file_row made now controls q d (todo.Sync g fd) got tt may (λ told fit. by_pass made now controls q d (todo.Sync g fd) (came.Answered told) (kept_leads (todo.Sync g fd) (came.Answered told) refl refl))
-  went_leads (todo.Close g fd) got may says = file_row made now controls q d (todo.Close g fd) got tt may (λ told fit. by_pass made now controls q d (todo.Close g fd) (came.Answered told) (kept_leads (todo.Close g fd) (came.Answered told) refl refl))
-  went_leads (todo.Shut fd y) got may says = file_row made now controls q d (todo.Shut fd y) got tt may (λ told fit. unwritten made now controls q d (todo.Shut fd y) (came.Answered told) refl)
-  went_leads todo.Give got may says = by_pass made now controls q d todo.Give got (kept_leads todo.Give got refl refl)
-  went_leads todo.Answer got may says =
-      let e : Desk = todo_went todo.Answer got (after made now controls q d todo.Answer got) now d in
-      none_leads (coming e.row e.pass) (tells made now (pass_table.due_at todo.Answer q) got) (written true q) (answer_none made now controls q d got (after made now controls q d todo.Answer got))
-  went_leads todo.Done got may says = absurd may
-  went_leads (todo.Left y) got may says = absurd may
-  went_leads todo.Lost got may says = absurd may
+  went_leads : (row : PassRow) (got : GotData) → MayCome (pass_table.due_at row q) got → Went row got
+  went_leads (todo.Clear g) got may = file_row now controls q d (todo.Clear g) got tt may (λ told fit. unwritten now controls q d (todo.Clear g) (came.Answered told) (clear_not g told.answer))
+  went_leads todo.StatMess got may = file_row now controls q d todo.StatMess got tt may (λ told fit. unwritten now controls q d todo.StatMess (came.Answered told) (stated_not q told.answer))
+  went_leads todo.OpenTodo got may = file_row now controls q d todo.OpenTodo got tt may (λ told fit. unwritten now controls q d todo.OpenTodo (came.Answered told) (open_not told.answer))
+  went_leads (todo.ReadTodo fd) got may = file_row now controls q d (todo.ReadTodo fd) got tt may (λ told fit. unwritten now controls q d (todo.ReadTodo fd) (came.Answered told) (read_not q fd told.answer told.bytes))
+  went_leads (todo.CloseTodo fd) got may = file_row now controls q d (todo.CloseTodo fd) got tt may (λ told fit. unwritten now controls q d (todo.CloseTodo fd) (came.Answered told) (sorted_not q (sort_todo controls q.todo)))
+  went_leads (todo.Create target.Info) got may = file_row now controls q d (todo.Create target.Info) got tt may (λ told fit. unwritten now controls q d (todo.Create target.Info) (came.Answered told) (create_not told.answer))
+  went_leads (todo.Create target.Local) got may = file_row now controls q d (todo.Create target.Local) got tt may
+      (λ told fit. by_pass now controls q d (todo.Create target.Local) (came.Answered told) (kept_leads (todo.Create target.Local) (came.Answered told) refl refl))
+  went_leads (todo.Create target.Remote) got may = file_row now controls q d (todo.Create target.Remote) got tt may
+      (λ told fit. by_pass now controls q d (todo.Create target.Remote) (came.Answered told) (kept_leads (todo.Create target.Remote) (came.Answered told) refl refl))
+  went_leads (todo.Append target.Info fd done) got may = file_row now controls q d (todo.Append target.Info fd done) got tt may
+      (λ told fit. by_pass now controls q d (todo.Append target.Info fd done) (came.Answered told) (append_info now controls q d fd done told.answer))
+  went_leads (todo.Append target.Local fd done) got may = file_row now controls q d (todo.Append target.Local fd done) got tt may
+      (λ told fit. by_pass now controls q d (todo.Append target.Local fd done) (came.Answered told) (append_local now controls q d fd done told.answer))
+  went_leads (todo.Append target.Remote fd done) got may = file_row now controls q d (todo.Append target.Remote fd done) got tt may
+      (λ told fit. by_pass now controls q d (todo.Append target.Remote fd done) (came.Answered told) (append_remote now controls q d fd done told.answer))
+  went_leads (todo.Sync g fd) got may = file_row now controls q d (todo.Sync g fd) got tt may (λ told fit. by_pass now controls q d (todo.Sync g fd) (came.Answered told) (kept_leads (todo.Sync g fd) (came.Answered told) refl refl))
+  went_leads (todo.Close g fd) got may = file_row now controls q d (todo.Close g fd) got tt may (λ told fit. by_pass now controls q d (todo.Close g fd) (came.Answered told) (kept_leads (todo.Close g fd) (came.Answered told) refl refl))
+  went_leads (todo.Shut fd y) got may = file_row now controls q d (todo.Shut fd y) got tt may (λ told fit. unwritten now controls q d (todo.Shut fd y) (came.Answered told) refl)
+  went_leads todo.Give got may = by_pass now controls q d todo.Give got (kept_leads todo.Give got refl refl)
+  went_leads todo.Answer got may =
+      let e : Desk = todo_went todo.Answer got (after now controls q d todo.Answer got) now d in
+      none_leads (coming e.row e.pass) (pass_tells todo.Answer q.n now got) (written true q) (answer_none now controls q d got (after now controls q d todo.Answer got))
+  went_leads todo.Done got may = absurd may
+  went_leads (todo.Left y) got may = absurd may
+  went_leads todo.Lost got may = absurd may
 
 -- Each row
 
-pub row_leads : (S : ℕ → List ℕ → Type 0) (t : Facts) (row : Row) (now : ℕ) (got : GotData) (d : Desk) → MayCome (due_at row d) got → KnowsAt S t row d
-    → let e : Desk = act row now got d in Leads (coming e.row e.pass) (tells t.births.made now (due_at row d) got) (coming row d.pass)
-row_leads S t (at.Start row) now got d may says = start_leads t.births.made now d row got may
-row_leads S t (at.Turn p) now got d may says = absurd may
-row_leads S t (at.FindTodo s) now got d may says =
-    let e : Desk = act (at.FindTodo s) now got d in
-    none_leads (coming e.row e.pass) (tells t.births.made now (due_at (at.FindTodo s) d) got) None (searched_none (said got).way (said got).bytes s now d)
-row_leads S t at.InTodo now got d may says = went_leads S t now d.book.controls d.pass d d.pass.row got may says.1
-row_leads S t (at.Ended status) now got d may says = absurd may
-row_leads S t row now got d may says =
+pub row_leads : (row : Row) (now : ℕ) (got : GotData) (d : Desk) → MayCome (due_at row d) got → let e : Desk = act row now got d in Leads (coming e.row e.pass) (tells row d.pass now got) (coming row d.pass)
+row_leads (at.Start row) now got d may = start_leads now d row got may
+row_leads (at.Turn p) now got d may = absurd may
+row_leads (at.FindTodo s) now got d may =
+    let e : Desk = act (at.FindTodo s) now got d in none_leads (coming e.row e.pass) None None (searched_none (said got).way (said got).bytes s now d)
+row_leads (at.ReadFile c n begun reading) now got d may =
+    let row : Row = at.ReadFile c n begun reading in
     let e : Desk = act row now got d in
-    none_leads (coming e.row e.pass) (tells t.births.made now (due_at row d) got) (coming row d.pass) (plain_none e.row e.pass (act_keeps row now got d tt).1)
+    none_leads (coming e.row e.pass) None None
+    (by_reading (λ (x : Desk). coming x.row x.pass ≡ None) (read_on reading (said got)) c n (begun_at reading begun now) reading now (said got) d (λ next is. refl) (λ x k. plain_none x.row x.pass k.1))
+row_leads at.InTodo now got d may = went_leads now d.book.controls d.pass d d.pass.row got may
+row_leads (at.Ended status) now got d may = absurd may
+row_leads row now got d may =
+    let e : Desk = act row now got d in none_leads (coming e.row e.pass) (tells row d.pass now got) (coming row d.pass) (plain_none e.row e.pass (act_keeps row now got d tt).1)

@@ -1,7 +1,7 @@
 -- Births are the moments of info files.
 use Rattle.std.proofs.Common.{◌≡◌, ℕ, List, [], ◌∷◌, bytes_eq, eqb-true, eq-eqb, Bool, true, false, if◌then◌else◌, Option, Some, None, refl, sym, ap, ◌∙◌, subst, ⊎_elim}
 use Rattle.std.proofs.lemmas.List.Elements.{All-contains}
-use Rattle.std.specs.Prelude.{◌==◌, ◌&&◌, ◌||◌}
+use Rattle.std.specs.Prelude.{◌==◌, ◌&&◌, ◌||◌, Contains}
 use Rattle.call_fs.proofs.Maps.{put_same}
 use Rattle.call_fs.specs.Maps.{put}
 use Rattle.call_fs.specs.Past.{IsRunBy}
@@ -23,11 +23,12 @@ use Rattle.queue_paths.specs.Names.{Name, parse, path}
 use Rattle.retry_law.proofs.Comings.{arrives_coming, row_leads}
 use Rattle.retry_law.proofs.Events.{cleaned_same, stated_same}
 use Rattle.retry_law.proofs.KnownNow.{known_now, was_known}
-use Rattle.retry_law.specs.Infos.{AllTellInfos, BirthsAreInfos, Infos, TellsInfos, coming, has_written, looked_at, tells, written}
+use Rattle.retry_law.specs.Infos.{AllTellInfos, BirthsAreInfos, Infos, TellsInfos, coming, has_written, pass_tells, tells, written}
 use Rattle.send_core.proofs.Asked.{Facts, FinishSays, KnowsAt, PassSays, SweepSays}
 use Rattle.send_core.proofs.Coming.{by_file}
 use Rattle.send_core.proofs.Runs.{all_kept, facts}
 use Rattle.send_core.proofs.Says.{arrive_says}
+use Rattle.send_core.specs.Agrees.{has_ended}
 use Rattle.send_core.specs.Births.{Birth, Births, births, births_by, cleaned, found as found_birth, passed, stated}
 use Rattle.send_core.specs.Past.{Work, work}
 use Rattle.send_core.specs.Senders.{IsSaid}
@@ -117,7 +118,7 @@ module _ (S : ℕ → List ℕ → Type 0) (t : Facts) (d : Desk) (now : ℕ) (c
   IsLearnt due got = known_by due got t.births.command n false ≡ true
 
   abbrev Learnt : Row → GotData → Type 0
-  Learnt row got = (it : Birth) × (coming row d.pass ≡ Some it) × (it.n ≡ n) × ((births_by t.births now (due_at row d) got).of n ≡ it.moment) × (tells t.births.made now (due_at row d) got ≡ None)
+  Learnt row got = (it : Birth) × (coming row d.pass ≡ Some it) × (it.n ≡ n) × ((births_by t.births now (due_at row d) got).of n ≡ it.moment) × (tells row d.pass now got ≡ None)
 
   -- by an event of which the channels' laws say that it is none of a message
   quietly : {A : Type 0} (due : NeedData) (got : GotData) → IsQuiet (shift_by Local n now t.births.command clears w None due got) → IsLearnt due got → A
@@ -133,9 +134,9 @@ module _ (S : ℕ → List ℕ → Type 0) (t : Facts) (d : Desk) (now : ℕ) (c
       ap (λ (o : Option Birth). found_birth o k of n) is ∙ ap (λ (b : Bool). (if b then put of k birth else of) n) (eq-eqb k k refl) ∙ put_at of k birth same
 
   stat_learns : (split k birth : ℕ) (local : Bool) (told : Answer) → t.births.last ≡ Some (record { n = k; moment = birth }) → looked_for (Some (Of RemoteFile k)) told n false ≡ true
-      → (k ≡ n) × ((stated (Some (Of RemoteFile k)) told t.births).of n ≡ birth) × (looked_at (Some (Of RemoteFile k)) told ≡ None)
-  stat_learns split k birth local (answer.Stat stat) last is = let same : k ≡ n = eqb-true k n (or_false (k == n) is) in (same, found_at t.births.last k birth t.births.of last same, refl)
-  stat_learns split k birth local (answer.Refused why.NotThere) last is = let same : k ≡ n = eqb-true k n (or_false (k == n) is) in (same, found_at t.births.last k birth t.births.of last same, refl)
+      → (k ≡ n) × ((stated (Some (Of RemoteFile k)) told t.births).of n ≡ birth)
+  stat_learns split k birth local (answer.Stat stat) last is = let same : k ≡ n = eqb-true k n (or_false (k == n) is) in (same, found_at t.births.last k birth t.births.of last same)
+  stat_learns split k birth local (answer.Refused why.NotThere) last is = let same : k ≡ n = eqb-true k n (or_false (k == n) is) in (same, found_at t.births.last k birth t.births.of last same)
   stat_learns split k birth local told last is = absurd (cc)
 
   start_learns : (row : StartRow) (got : GotData) → MayCome (due_at (at.Start row) d) got → KnowsAt S t (at.Start row) d → IsLearnt (due_at (at.Start row) d) got → Learnt (at.Start row) got
@@ -145,7 +146,7 @@ module _ (S : ℕ → List ℕ → Type 0) (t : Facts) (d : Desk) (now : ℕ) (c
       (λ told fit is.
       let p : ◌≡◌ {A = Option Name} (parse (path (Of RemoteFile k))) (Some (Of RemoteFile k)) = parse-path (Of RemoteFile k) in
       let l = stat_learns split k birth local told.answer says.1.1 (sym (ap (λ (o : Option Name). looked_for o told.answer n false) p) ∙ is) in
-      (record { n = k; moment = birth }, refl, l.0, ap (λ (o : Option Name). (stated o told.answer t.births).of n) p ∙ l.1, ap (λ (o : Option Name). looked_at o told.answer) p ∙ l.2))
+      (record { n = k; moment = birth }, refl, l.0, ap (λ (o : Option Name). (stated o told.answer t.births).of n) p ∙ l.1, refl))
       is
   start_learns (start.Control f reading) got may says is = quietly (due_at (at.Start (start.Control f reading)) d) got (quiet_start Local n now t.births.command clears w (start.Control f reading) d (λ x. absurd x) got) is
   start_learns start.GreetLocal got may says is = quietly (due_at (at.Start start.GreetLocal) d) got (quiet_start Local n now t.births.command clears w start.GreetLocal d (λ x. absurd x) got) is
@@ -173,7 +174,7 @@ module _ (S : ℕ → List ℕ → Type 0) (t : Facts) (d : Desk) (now : ℕ) (c
       ∙ put_at of p.n p.birth same
 
   abbrev PassLearnt : PassRow → Pass → GotData → Type 0
-  PassLearnt row p got = (p.n ≡ n) × ((births_by t.births now (pass_table.due_at row p) got).of n ≡ p.birth) × (tells t.births.made now (pass_table.due_at row p) got ≡ None)
+  PassLearnt row p got = (p.n ≡ n) × ((births_by t.births now (pass_table.due_at row p) got).of n ≡ p.birth) × (pass_tells row p.n now got ≡ None)
 
   answer_learns : (p : Pass) (bytes : List ℕ) → t.births.last ≡ Some (record { n = p.n; moment = p.birth }) → t.births.command ≡ command_text p.n → IsLearnt (needs.Take port.Clean) (came.Took bytes)
       → (p.n ≡ n) × ((cleaned (bytes_eq bytes (43 ∷ [])) t.births).of n ≡ p.birth)
@@ -215,29 +216,30 @@ module _ (S : ℕ → List ℕ → Type 0) (t : Facts) (d : Desk) (now : ℕ) (c
 
 -- At each event
 
-module _ (infos : Infos) (turns : Option ℕ) where
-  -- what is known has the birth that its info file says
-  abbrev Said : List Own → Type 0
-  Said past = (n moment : ℕ) → known_in past n ≡ true → infos past n ≡ Some moment → (births past).of n ≡ moment
+-- what is known has the birth that its info file says
+abbrev pub Said : (ℕ → Option ℕ) → List Own → Type 0
+Said info past = (n moment : ℕ) → known_in past n ≡ true → info n ≡ Some moment → (births past).of n ≡ moment
 
-  -- and so has what becomes known next
-  abbrev Coming : List Own → Type 0
-  Coming past = (it : Birth) (moment : ℕ) → coming (place_after turns past).row (place_after turns past).pass ≡ Some it → infos past it.n ≡ Some moment → it.moment ≡ moment
+-- and so has what becomes known next
+abbrev pub Coming : (ℕ → Option ℕ) → Option ℕ → List Own → Type 0
+Coming info turns past = (it : Birth) (moment : ℕ) → coming (place_after turns past).row (place_after turns past).pass ≡ Some it → info it.n ≡ Some moment → it.moment ≡ moment
 
-  module _ (event : Own) (before : List Own) (run : IsRunBy (Next turns) (event ∷ before)) (tell : TellsInfos infos turns before event) (said : Said before) (next : Coming before) where
+abbrev pub AreInfos : (ℕ → Option ℕ) → Option ℕ → List Own → Type 0
+AreInfos info turns past = Said info past × Coming info turns past
+
+module _ (turns : Option ℕ) where
+  pub none_known : (info : ℕ → Option ℕ) → AreInfos info turns []
+  none_known info = ((λ n moment known there. absurd (cc)), (λ it moment is there. absurd (cc)))
+
+  module _ (info later : ℕ → Option ℕ) (event : Own) (before : List Own) (run : IsRunBy (Next turns) (event ∷ before)) (tell : TellsInfos info later turns before event) (said : Said info before)
+      (next : Coming info turns before) where
     abbrev d : Desk
     d = place_after turns before
 
     abbrev row : Row
     row = row_now d event.read event.ready
 
-    abbrev due : NeedData
-    due = due_at row d
-
-    abbrev told : Option Birth
-    told = tells (births before).made event.read due event.came
-
-    may : MayCome due event.came
+    may : MayCome (due_at row d) event.came
     may = subst (λ (x : NeedData). MayCome x event.came) (sym run.1.0) run.1.1
 
     says : KnowsAt (IsSaid before) (facts before) row d
@@ -246,17 +248,13 @@ module _ (infos : Infos) (turns : Option ℕ) where
     arrived : coming row d.pass ≡ coming d.row d.pass
     arrived = arrives_coming d.row d.pass d event.read event.ready
 
-    telling : tells (births before).made event.read event.due event.came ≡ told
-    telling = ap (λ (x : NeedData). tells (births before).made event.read x event.came) (sym run.1.0)
-
-    next_on : Coming (event ∷ before)
+    next_on : Coming later turns (event ∷ before)
     next_on it moment is there = ⊎_elim
-        (λ (e : told ≡ Some it). tell.told it (telling ∙ e) moment there)
-        (λ (w : (coming row d.pass ≡ Some it) × (told ≡ None)).
-        let was : coming d.row d.pass ≡ Some it = sym arrived ∙ w.0 in next it moment was (tell.next it was (telling ∙ w.1) moment there))
-        (row_leads (IsSaid before) (facts before) row event.read event.came d may says it is)
+        (λ (e : tells row d.pass event.read event.came ≡ Some it). tell.told it e moment there)
+        (λ (w : (coming row d.pass ≡ Some it) × (tells row d.pass event.read event.came ≡ None)). let was : coming d.row d.pass ≡ Some it = sym arrived ∙ w.0 in next it moment was (tell.next it was w.1 moment there))
+        (row_leads row event.read event.came d may it is)
 
-    learnt : (n moment : ℕ) → known_by event.due event.came (births before).command n false ≡ true → infos (event ∷ before) n ≡ Some moment → (births (event ∷ before)).of n ≡ moment
+    learnt : (n moment : ℕ) → known_by event.due event.came (births before).command n false ≡ true → later n ≡ Some moment → (births (event ∷ before)).of n ≡ moment
     learnt n moment e there = ap (λ (x : NeedData). (births_by (births before) event.read x event.came).of n) (sym run.1.0) ∙ l.3 ∙ next l.0 moment was had where
       l : Learnt (IsSaid before) (facts before) d event.read (has_unlinked before) (work before) n row event.came
       l = row_learns (IsSaid before) (facts before) d event.read (has_unlinked before) (work before) n row event.came may (cleared_here turns before event.read event.ready run.0) says
@@ -265,10 +263,10 @@ module _ (infos : Infos) (turns : Option ℕ) where
       was : coming d.row d.pass ≡ Some l.0
       was = sym arrived ∙ l.1
 
-      had : infos before l.0.n ≡ Some moment
-      had = tell.next l.0 was (telling ∙ l.4) moment (ap (infos (event ∷ before)) l.2 ∙ there)
+      had : info l.0.n ≡ Some moment
+      had = tell.next l.0 was l.4 moment (ap later l.2 ∙ there)
 
-    said_on : Said (event ∷ before)
+    said_on : Said later (event ∷ before)
     said_on n moment known there = by (known_by event.due event.came (births before).command n false) refl where
       by : (b : Bool) → known_by event.due event.came (births before).command n false ≡ b → (births (event ∷ before)).of n ≡ moment
       by true e = learnt n moment e there
@@ -276,11 +274,19 @@ module _ (infos : Infos) (turns : Option ℕ) where
           let was : known_in before n ≡ true = was_known event before n known e in
           birth_kept n event.read (births before) event.due event.came (known_in before n) e known ∙ said n moment was (tell.known n moment was there)
 
-  both_hold : (past : List Own) → IsRunBy (Next turns) past → AllTellInfos infos turns past → Said past × Coming past
-  both_hold [] run all = ((λ n moment known there. absurd (cc)), (λ it moment is there. absurd (cc)))
-  both_hold (event ∷ before) run all = let h = both_hold before run.0 all.0 in (said_on event before run all.1 h.0 h.1, next_on event before run all.1 h.0 h.1)
+  pub infos_on : (info later : ℕ → Option ℕ) (event : Own) (before : List Own) → IsRunBy (Next turns) (event ∷ before) → TellsInfos info later turns before event → AreInfos info turns before → AreInfos later turns (event ∷ before)
+  infos_on info later event before run tell h = (said_on info later event before run tell h.0 h.1, next_on info later event before run tell h.0 h.1)
+
+  -- of each that the sender knows
+  pub known_said : (info : ℕ → Option ℕ) (past : List Own) → IsRunBy (Next turns) past → has_ended (place_after turns past).row ≡ false → Said info past → (k : Known)
+      → Contains (place_after turns past).book.messages.known k → (moment : ℕ) → info k.n ≡ Some moment → k.birth ≡ moment
+  known_said info past run alive said k there moment is =
+      All-contains (λ (x : Known). x.birth ≡ (births past).of x.n) (place_after turns past).book.messages.known k (known_are_of_past turns past run alive).born there
+      ∙ said k.n moment (known_now turns past run k there) is
+
+  all_said : (infos : Infos) (past : List Own) → IsRunBy (Next turns) past → AllTellInfos infos turns past → AreInfos (infos past) turns past
+  all_said infos [] run all = none_known (infos [])
+  all_said infos (event ∷ before) run all = infos_on (infos before) (infos (event ∷ before)) event before run all.1 (all_said infos before run.0 all.0)
 
 pub births_are_infos : BirthsAreInfos
-births_are_infos infos turns past run all alive k there moment is =
-    All-contains (λ (x : Known). x.birth ≡ (births past).of x.n) (place_after turns past).book.messages.known k (known_are_of_past turns past run alive).born there
-    ∙ (both_hold infos turns past run all).0 k.n moment (known_now turns past run k there) is
+births_are_infos infos turns past run all alive k there moment is = known_said turns (infos past) past run alive (all_said turns infos past run all).0 k there moment is

@@ -1,5 +1,5 @@
 -- Which number of `todo` was left last, and from which name a search of `todo` goes on.
-use Rattle.std.proofs.Common.{◌≡◌, ℕ, List, [], ◌∷◌, nat_lt, Bool, true, false, if◌then◌else◌, Option, Some, None, refl, sym, ap, ◌∙◌, subst}
+use Rattle.std.proofs.Common.{◌≡◌, ◌⊎◌, inl, inr, ⊎_elim, ℕ, List, [], ◌∷◌, nat_lt, Bool, true, false, if◌then◌else◌, Option, Some, None, refl, sym, ap, ◌∙◌, subst}
 use Rattle.std.specs.Prelude.{codes, is_some, ◌-◌, ◌||◌}
 use Rattle.address_rules.specs.declared.controls.Controls.{Controls}
 use Rattle.bounce_record.specs.Returning.{return_begun}
@@ -68,9 +68,10 @@ use Rattle.todo_pass.specs.Table.{Pass, answer_row, moved_at}
 use Rattle.todo_pass.specs.declared.row.Row.TheVariants as todo
 use Rattle.todo_pass.specs.declared.row.Row.{Row as PassRow}
 
--- a row of neither the start nor a todo pass, at which no search goes on after a name
+-- a row of neither the start, nor a todo pass, nor a reading, at which no search goes on after a name
 abbrev pub is_plain : Row → Bool
 is_plain (at.Start row) = false
+is_plain (at.ReadFile c n begun reading) = false
 is_plain at.InTodo = false
 is_plain (at.FindTodo (search.AfterStray again)) = false
 is_plain row = true
@@ -131,6 +132,12 @@ no_stray (at.FindTodo search.FromStart) plain e = absurd (cc)
 no_stray (at.FindTodo (search.AfterStray again)) plain e = absurd (cc)
 no_stray row plain e = absurd (cc)
 
+unstray : (row : Row) → is_plain row ≡ true → is_stray row ≡ false
+unstray row plain = by (is_stray row) refl where
+  by : (b : Bool) → is_stray row ≡ b → b ≡ false
+  by true e = no_stray row plain e
+  by false e = refl
+
 named_stray : (w : Way) (text : List ℕ) (s : Search) (now : ℕ) (d : Desk) → is_stray (todo_named w text s now d).row ≡ true → (w ≡ way.Fine) × (message_number text ≡ None)
 named_stray way.Fine text s now d e = (refl, found_stray (message_number text) text s d e)
 named_stray way.Over text s now d e = no_stray (todo_none (is_again s) d.last_left now d).row (none_keeps (is_again s) d.last_left now d).1 e
@@ -140,29 +147,27 @@ named_stray way.NoMemory text s now d e = no_stray (todo_none (is_again s) d.las
 
 -- A todo pass
 
-abbrev KeepsUnless : Bool → Desk → Desk → Type 0
-KeepsUnless left d e = (left ≡ false → e.last_left ≡ d.last_left) × (is_stray e.row ≡ false)
+-- it goes on, or leads to such a row
+abbrev pub IsPast : Row → Type 0
+IsPast row = (is_plain row ≡ true) ⊎ (row ≡ at.InTodo)
 
-unstray : (row : Row) → is_plain row ≡ true → is_stray row ≡ false
-unstray row plain = by (is_stray row) refl where
-  by : (b : Bool) → is_stray row ≡ b → b ≡ false
-  by true e = no_stray row plain e
-  by false e = refl
+abbrev KeepsUnless : Bool → Desk → Desk → Type 0
+KeepsUnless left d e = (left ≡ false → e.last_left ≡ d.last_left) × IsPast e.row
 
 on_keeps : (row : PassRow) (p : Pass) (now : ℕ) (d : Desk) → KeepsUnless (is_left row) d (todo_on row p now d)
-on_keeps (todo.Left y) p now d = let after : Desk = record d { pass = p; last_left = digits p.n } in ((λ e. absurd (cc)), unstray (past_todo now after).row (todo_keeps now after).1)
-on_keeps todo.Lost p now d = ((λ e. refl), refl)
-on_keeps row p now d = ((λ e. refl), refl)
+on_keeps (todo.Left y) p now d = let after : Desk = record d { pass = p; last_left = digits p.n } in ((λ e. absurd (cc)), inl (todo_keeps now after).1)
+on_keeps todo.Lost p now d = ((λ e. refl), inl refl)
+on_keeps row p now d = ((λ e. refl), inr refl)
 
 over_pass_keeps : (row : PassRow) (p : Pass) (now : ℕ) (d : Desk) → KeepsUnless (is_left row) d (todo_over row p now d)
 over_pass_keeps todo.Done p now d =
     let after : Desk = record d { pass = p; book = record d.book { messages = learned (known_of p) now d.book.messages } } in
-    let k = todo_keeps now after in ((λ e. k.0), unstray (past_todo now after).row k.1)
+    let k = todo_keeps now after in ((λ e. k.0), inl k.1)
 over_pass_keeps (todo.Left y) p now d = on_keeps (todo.Left y) p now d
 over_pass_keeps todo.Lost p now d = on_keeps todo.Lost p now d
 over_pass_keeps row p now d = on_keeps row p now d
 
-went_keeps : (controls : Controls) (row : PassRow) (q : Pass) (got : GotData) (now : ℕ) (d : Desk) → KeepsUnless (is_left (moved_at controls row q now got).row) d (todo_went row got (moved_at controls row q now got) now d)
+pub went_keeps : (controls : Controls) (row : PassRow) (q : Pass) (got : GotData) (now : ℕ) (d : Desk) → KeepsUnless (is_left (moved_at controls row q now got).row) d (todo_went row got (moved_at controls row q now got) now d)
 went_keeps controls todo.Answer q got now d = over_pass_keeps (answer_row got) (moved_at controls todo.Answer q now got) now d
 went_keeps controls row q got now d = on_keeps (moved_at controls row q now got).row (moved_at controls row q now got) now d
 
@@ -268,11 +273,23 @@ pass_keeps (Some rs) c n begun now d =
     let k = closed_keeps (job_over n (lane c after.slots)) c n (point.Pass c false) after in
     if_keeps (is_free_for n (lane c d.slots)) d (closed_by (job_over n (lane c after.slots)) c n (point.Pass c false) after) (put_later c n now d) (k.0 ∙ begun_left c n begun rs d, k.1) (refl, refl)
 
-read_keeps : (p : Progress) (c : Channel) (n begun : ℕ) (reading : Reading) (now : ℕ) (s : Said) (d : Desk) → Keeps d (file_read p c n begun reading now s d)
-read_keeps (Goes next) c n begun reading now s d = (refl, refl)
-read_keeps Whole c n begun reading now s d = pass_keeps _ c n begun now d
-read_keeps Missing c n begun reading now s d = (refl, refl)
-read_keeps Failed c n begun reading now s d = (refl, refl)
+abbrev pub is_going : Progress → Bool
+is_going (Goes next) = true
+is_going p = false
+
+pub read_keeps : (p : Progress) (c : Channel) (n begun : ℕ) (reading : Reading) (now : ℕ) (s : Said) (d : Desk) → is_going p ≡ false → Keeps d (file_read p c n begun reading now s d)
+read_keeps (Goes next) c n begun reading now s d over = absurd (cc)
+read_keeps Whole c n begun reading now s d over = pass_keeps _ c n begun now d
+read_keeps Missing c n begun reading now s d over = (refl, refl)
+read_keeps Failed c n begun reading now s d over = (refl, refl)
+
+-- what is so of a reading that goes on, and of each row that a reading leads to at its end
+pub by_reading : (P : Desk → Type 0) (p : Progress) (c : Channel) (n begun : ℕ) (reading : Reading) (now : ℕ) (s : Said) (d : Desk)
+    → ((next : Reading) → p ≡ Goes next → P (file_read (Goes next) c n begun reading now s d)) → ((e : Desk) → Keeps d e → P e) → P (file_read p c n begun reading now s d)
+by_reading P (Goes next) c n begun reading now s d goes ends = goes next refl
+by_reading P Whole c n begun reading now s d goes ends = ends (file_read Whole c n begun reading now s d) (read_keeps Whole c n begun reading now s d refl)
+by_reading P Missing c n begun reading now s d goes ends = ends (file_read Missing c n begun reading now s d) (read_keeps Missing c n begun reading now s d refl)
+by_reading P Failed c n begun reading now s d goes ends = ends (file_read Failed c n begun reading now s d) (read_keeps Failed c n begun reading now s d refl)
 
 sent_keeps : (w : Way) (c : Channel) (d : Desk) → Keeps d (requested w c d)
 sent_keeps way.Fine Local d = if_keeps _ d _ (stands_at d (point.Pass Local false)) (refl, refl) (refl, refl)
@@ -289,10 +306,11 @@ start_none start.Over = refl
 start_none (start.Ended status) = refl
 start_none row = refl
 
--- a row of neither the start, nor a todo pass or the search before it
+-- a row of neither the start, nor a reading, nor a todo pass or the search before it
 abbrev pub IsOther : Row → Type 0
 IsOther (at.Start row) = ⊥
 IsOther (at.Turn p) = ⊥
+IsOther (at.ReadFile c n begun reading) = ⊥
 IsOther (at.FindTodo s) = ⊥
 IsOther at.InTodo = ⊥
 IsOther (at.Ended status) = ⊥
@@ -302,7 +320,7 @@ pub act_keeps : (row : Row) (now : ℕ) (got : GotData) (d : Desk) → IsOther r
 act_keeps (at.TakeLink c) now got d is = took_keeps (said got).way (said got).bytes c d
 act_keeps (at.Mark row m) now got d is = act_mark_keeps row m got d
 act_keeps (at.UnlinkFile c n p) now got d is = unlinked_keeps (said got).way c n p now d
-act_keeps (at.ReadFile c n begun reading) now got d is = read_keeps (read_on reading (said got)) c n (begun_at reading begun now) reading now (said got) d
+act_keeps (at.ReadFile c n begun reading) now got d is = absurd is
 act_keeps (at.Request c) now got d is = sent_keeps (said got).way c d
 act_keeps (at.Finish row n) now got d is = act_finish_keeps row n now got d
 act_keeps (at.Sweep row) now got d is = act_sweep_keeps row now (said got) d
@@ -315,6 +333,8 @@ act_keeps (at.Ended status) now got d is = absurd is
 act_left : (row : Row) (event : Own) (d : Desk) → leaves row d event ≡ false → (act row event.read event.came d).last_left ≡ d.last_left
 act_left (at.Start row) event d stays = refl
 act_left (at.Turn p) event d stays = refl
+act_left (at.ReadFile c n begun reading) event d stays = by_reading (λ (e : Desk). e.last_left ≡ d.last_left) (read_on reading (said event.came)) c n (begun_at reading begun event.read) reading event.read (said event.came) d
+    (λ next e. refl) (λ e k. k.0)
 act_left (at.FindTodo s) event d stays = named_left (said event.came).way (said event.came).bytes s event.read d
 act_left at.InTodo event d stays = (went_keeps d.book.controls d.pass.row d.pass event.came event.read d).0 stays
 act_left (at.Ended status) event d stays = refl
@@ -333,8 +353,14 @@ IsStray row got = (s : Search) × (row ≡ at.FindTodo s) × ((said got).way ≡
 act_stray : (row : Row) (now : ℕ) (got : GotData) (d : Desk) → MayCome (due_at row d) got → is_stray (act row now got d).row ≡ true → IsStray row got
 act_stray (at.Start row) now got d may e = let x : StartRow = (entered row (said got) d).book.row in absurd (cc (sym e ∙ start_none x))
 act_stray (at.Turn p) now got d may e = absurd may
+act_stray (at.ReadFile c n begun reading) now got d may e =
+    let none : is_stray (act (at.ReadFile c n begun reading) now got d).row ≡ false = by_reading (λ (x : Desk). is_stray x.row ≡ false) (read_on reading (said got)) c n (begun_at reading begun now) reading now (said got) d
+    (λ next is. refl) (λ x k. unstray x.row k.1) in
+    absurd (cc (sym e ∙ none))
 act_stray (at.FindTodo s) now got d may e = let w = named_stray (said got).way (said got).bytes s now d e in (s, refl, w.0, w.1)
-act_stray at.InTodo now got d may e = absurd (cc (sym e ∙ (went_keeps d.book.controls d.pass.row d.pass got now d).1))
+act_stray at.InTodo now got d may e =
+    let row : Row = (act at.InTodo now got d).row in
+    ⊎_elim (λ (plain : is_plain row ≡ true). no_stray row plain e) (λ (goes : row ≡ at.InTodo). absurd (cc (sym e ∙ ap is_stray goes))) (went_keeps d.book.controls d.pass.row d.pass got now d).1
 act_stray (at.Ended status) now got d may e = absurd may
 act_stray row now got d may e = no_stray (act row now got d).row (act_keeps row now got d tt).1 e
 

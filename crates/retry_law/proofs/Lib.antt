@@ -22,3 +22,9 @@ pub mod Left
 pub mod Comings
 -- births are the moments of info files
 pub mod Infos
+-- when nothing fails, by the rows
+pub mod Served
+-- when no finish is put off
+pub mod PutOff
+-- which rows show channel files
+pub mod Shown

@@ -4,7 +4,6 @@ use Rattle.std.proofs.Math.Nat.{min-eq_left}
 use Rattle.std.proofs.lemmas.List.Elements.{All-head, All-tail}
 use Rattle.std.specs.Prelude.{◌==◌, ◌≢◌, All}
 use Rattle.call_fs.proofs.Maps.{put_cases}
-use Rattle.call_fs.specs.Columns.{IsMomentIn}
 use Rattle.call_fs.specs.Maps.{put}
 use Rattle.call_fs.specs.declared.calls.Answer.TheVariants as answer
 use Rattle.call_fs.specs.declared.calls.Answer.{Answer}
@@ -13,6 +12,7 @@ use Rattle.call_fs.specs.declared.calls.CallData.{CallData}
 use Rattle.call_fs.specs.declared.calls.Fd.{Fd}
 use Rattle.call_fs.specs.declared.calls.FsError.TheVariants as why
 use Rattle.call_fs.specs.declared.calls.How.TheVariants as how
+use Rattle.call_fs.specs.declared.calls.Told.{Told as ToldOf}
 use Rattle.call_fs.specs.declared.past.GotData.TheVariants as came
 use Rattle.call_fs.specs.declared.past.GotData.{GotData}
 use Rattle.call_fs.specs.declared.past.NeedData.TheVariants as needs
@@ -24,7 +24,7 @@ use Rattle.queue_paths.specs.Names.Name.{Of}
 use Rattle.queue_paths.specs.Names.Part.{Info as InfoFile, Remote as RemoteFile}
 use Rattle.queue_paths.specs.Names.{Name, parse}
 use Rattle.retry_law.proofs.Events.{begins}
-use Rattle.retry_law.specs.Moments.{IsMomentOf, MomentsAreTold, TellsMoments}
+use Rattle.retry_law.specs.Moments.{IsMomentAt, IsMomentOf, MomentsAreTold, TellsMoments}
 use Rattle.retry_law.specs.Tried.{tried_by, tried_in}
 use Rattle.send_core.specs.Births.{Birth, Births, Making, births, births_by, births_on, cleaned, found, passed, stated, written_last}
 use Rattle.send_core.specs.Past.Work.{Missing, Noting, Reading}
@@ -69,7 +69,7 @@ cleaned_told : (good : Bool) (b : Births) → Told b → Told (cleaned good b)
 cleaned_told true b h = (passed_told b.last b.command b.of h.1 h.0, h.1)
 cleaned_told false b h = h
 
-stated_told : (x : Option Name) (told : Answer) (b : Births) → IsMomentIn told → Told b → Told (stated x told b)
+stated_told : (x : Option Name) (told : Answer) (b : Births) → IsMomentAt x told → Told b → Told (stated x told b)
 stated_told (Some (Of InfoFile n)) (answer.Stat stat) b is h = (h.0, is)
 stated_told (Some (Of RemoteFile n)) (answer.Stat stat) b is h = (found_told b.last n b.of h.1 h.0, h.1)
 stated_told (Some (Of RemoteFile n)) (answer.Refused why.NotThere) b is h = (found_told b.last n b.of h.1 h.0, h.1)
@@ -83,13 +83,13 @@ written_told : (made : Option Making) (fd : Fd) (told : Answer) (now : ℕ) (las
 written_told (Some m) fd answer.Done now last is h = last_if (fd.0 == m.fd.0) (record { n = m.n; moment = now }) last is h
 written_told made fd told now last is h = h
 
-call_told : (b : Births) (now : ℕ) (c : CallData) (told : Answer) → IsMoment now → IsMomentIn told → Told b → Told (births_on b now c told)
-call_told b now (call.Append fd bytes) told is came h = (h.0, written_told b.made fd told now b.last is h.1)
-call_told b now (call.Stat name) told is came h = stated_told (parse name) told b came h
+call_told : (b : Births) (now : ℕ) (c : CallData) (told : ToldOf) → IsMoment now → IsMomentOf (needs.File c) (came.Answered told) → Told b → Told (births_on b now c told.answer)
+call_told b now (call.Append fd bytes) told is came h = (h.0, written_told b.made fd told.answer now b.last is h.1)
+call_told b now (call.Stat name) told is came h = stated_told (parse name) told.answer b came h
 call_told b now c told is came h = h
 
-event_told : (b : Births) (now : ℕ) (due : NeedData) (got : GotData) → IsMoment now → IsMomentOf got → Told b → Told (births_by b now due got)
-event_told b now (needs.File c) (came.Answered told) is came h = call_told b now c told.answer is came h
+event_told : (b : Births) (now : ℕ) (due : NeedData) (got : GotData) → IsMoment now → IsMomentOf due got → Told b → Told (births_by b now due got)
+event_told b now (needs.File c) (came.Answered told) is came h = call_told b now c told is came h
 event_told b now (needs.Take port.Clean) (came.Took bytes) is came h = cleaned_told (bytes_eq bytes (43 ∷ [])) b h
 event_told b now (needs.Give port.Clean text) came.Gave is came h = h
 event_told b now due got is came h = h

@@ -1,5 +1,5 @@
 -- Which channel files are gone, by the sender's past (qmail-send(8)).
-use Rattle.std.specs.Prelude.{◌≡◌, ℕ, List, [], ◌∷◌, Bool, true, false, ◌&&◌, Option, Contains}
+use Rattle.std.specs.Prelude.{◌≡◌, ℕ, List, [], ◌∷◌, Bool, true, false, ◌&&◌, Option, Some, None, Contains}
 use Rattle.call_fs.specs.Past.{IsRunBy}
 use Rattle.call_fs.specs.declared.calls.Answer.TheVariants as answer
 use Rattle.call_fs.specs.declared.calls.Answer.{Answer}
@@ -11,12 +11,20 @@ use Rattle.call_fs.specs.declared.past.NeedData.{NeedData}
 use Rattle.call_fs.specs.declared.past.Own.{Own}
 use Rattle.queue_paths.specs.Names.{parse}
 use Rattle.retry_law.specs.Retries.{has_file}
-use Rattle.send_core.specs.Table.{Next, place_after}
+use Rattle.send_core.specs.Table.{Next, place_after, row_now}
+use Rattle.send_core.specs.declared.desk.Desk.{Desk}
+use Rattle.send_core.specs.declared.row.Row.TheVariants as at
+use Rattle.send_core.specs.declared.row.Row.{Row}
 use Rattle.send_jobs.specs.declared.channels.Channel.{Channel}
 use Rattle.send_known.specs.declared.known.Known.{Known}
+use Rattle.send_parts.specs.declared.rows.StartRow.TheVariants as start
 use Rattle.send_runs.specs.DueMoments.{is_file}
 use Rattle.send_runs.specs.Files.{has_in, there_in}
 use Rattle.send_runs.specs.Knowing.{known_in}
+use Rattle.todo_pass.specs.Table.{Pass}
+use Rattle.todo_pass.specs.declared.part.Target.TheVariants as target
+use Rattle.todo_pass.specs.declared.row.Row.TheVariants as todo
+use Rattle.todo_pass.specs.declared.row.Row.{Row as PassRow}
 
 abbrev pub is_there : Answer → Bool
 is_there (answer.Stat stat) = true
@@ -45,3 +53,25 @@ MissingAreGone = (c : Channel) (n : ℕ) (past : List Own) → AreShownFirst c n
 abbrev pub KnownAreGone : Type 0
 KnownAreGone = (turns : Option ℕ) (past : List Own) → IsRunBy (Next turns) past → (c : Channel) (k : Known) → Contains (place_after turns past).book.messages.known k
     → has_file c k ≡ false → AreShownFirst c k.n past → there_in c k.n past ≡ false
+
+-- By rows: a channel file of a message is looked for or made, before the message is known
+
+abbrev pub made_in : PassRow → ℕ → Option ℕ
+made_in (todo.Create target.Local) n = Some n
+made_in (todo.Create target.Remote) n = Some n
+made_in row n = None
+
+abbrev pub meets : Row → Pass → Option ℕ
+meets (at.Start (start.StatLocal split n birth)) p = Some n
+meets (at.Start (start.StatRemote split n birth local)) p = Some n
+meets at.InTodo p = made_in p.row p.n
+meets row p = None
+
+abbrev pub AreMetUnknown : Option ℕ → List Own → Type 0
+AreMetUnknown turns [] = Unit {0}
+AreMetUnknown turns (event ∷ past) =
+    let d : Desk = place_after turns past in AreMetUnknown turns past × ((n : ℕ) → meets (row_now d event.read event.ready) d.pass ≡ Some n → known_in past n ≡ false)
+
+-- If each message isn't known at such a row, each of its files was shown first.
+abbrev pub MetAreShownFirst : Type 0
+MetAreShownFirst = (turns : Option ℕ) (past : List Own) → IsRunBy (Next turns) past → AreMetUnknown turns past → (c : Channel) (n : ℕ) → AreShownFirst c n past

@@ -3,18 +3,13 @@ use Rattle.std.specs.Prelude.{◌≡◌, ℕ, List, [], ◌∷◌, Bool, true, f
 use Rattle.call_fs.specs.Past.{IsRunBy}
 use Rattle.call_fs.specs.declared.calls.Answer.TheVariants as answer
 use Rattle.call_fs.specs.declared.calls.Answer.{Answer}
-use Rattle.call_fs.specs.declared.calls.CallData.TheVariants as call
 use Rattle.call_fs.specs.declared.past.GotData.TheVariants as came
 use Rattle.call_fs.specs.declared.past.GotData.{GotData}
-use Rattle.call_fs.specs.declared.past.NeedData.TheVariants as needs
-use Rattle.call_fs.specs.declared.past.NeedData.{NeedData}
 use Rattle.call_fs.specs.declared.past.Own.{Own}
-use Rattle.queue_paths.specs.Names.Name.{Of}
-use Rattle.queue_paths.specs.Names.Part.{Info as InfoFile}
-use Rattle.queue_paths.specs.Names.{Name, parse}
 use Rattle.send_core.specs.Agrees.{has_ended}
-use Rattle.send_core.specs.Births.{Birth, Making, births, written_last}
-use Rattle.send_core.specs.Table.{Next, place_after}
+use Rattle.send_core.specs.Births.{Birth}
+use Rattle.send_core.specs.Table.{Next, place_after, row_now}
+use Rattle.send_core.specs.declared.desk.Desk.{Desk}
 use Rattle.send_core.specs.declared.row.Row.TheVariants as at
 use Rattle.send_core.specs.declared.row.Row.{Row}
 use Rattle.send_known.specs.declared.known.Known.{Known}
@@ -29,16 +24,24 @@ use Rattle.todo_pass.specs.declared.row.Row.{Row as PassRow}
 abbrev pub Infos : Type 0
 Infos = List Own → ℕ → Option ℕ
 
--- What an event tells of an info file: by a look at it, or by an append to the one that is made
+-- What an event tells of an info file: by the look at it in the scan of the start, or by an append to it in a todo pass
 
-abbrev pub looked_at : Option Name → Answer → Option Birth
-looked_at (Some (Of InfoFile n)) (answer.Stat stat) = Some (record { n = n; moment = stat.moment })
-looked_at name told = None
+abbrev pub looked_at : ℕ → Answer → Option Birth
+looked_at n (answer.Stat stat) = Some (record { n = n; moment = stat.moment })
+looked_at n told = None
 
-abbrev pub tells : Option Making → ℕ → NeedData → GotData → Option Birth
-tells made now (needs.File (call.Stat name)) (came.Answered told) = looked_at (parse name) told.answer
-tells made now (needs.File (call.Append fd bytes)) (came.Answered told) = written_last made fd told.answer now None
-tells made now due got = None
+abbrev pub written_at : ℕ → ℕ → Answer → Option Birth
+written_at n now answer.Done = Some (record { n = n; moment = now })
+written_at n now told = None
+
+abbrev pub pass_tells : PassRow → ℕ → ℕ → GotData → Option Birth
+pass_tells (todo.Append target.Info fd done) n now (came.Answered told) = written_at n now told.answer
+pass_tells row n now got = None
+
+abbrev pub tells : Row → Pass → ℕ → GotData → Option Birth
+tells (at.Start (start.StatInfo split n)) p now (came.Answered told) = looked_at n told.answer
+tells at.InTodo p now got = pass_tells p.row p.n now got
+tells row p now got = None
 
 -- Which message becomes known next: one whose info file the scan of the start looked at, or the one that is preprocessed, once its info file is
 -- written
@@ -64,17 +67,20 @@ coming (at.Start (start.StatRemote split n birth local)) p = Some (record { n = 
 coming at.InTodo p = written (has_written p.row) p
 coming row p = None
 
+-- which the event of a past tells
+abbrev pub told_after : Option ℕ → List Own → Own → Option Birth
+told_after turns past event = let d : Desk = place_after turns past in tells (row_now d event.read event.ready) d.pass event.read event.came
+
 -- What an event tells of an info file is so on the disk. The info file of a message that is known, or becomes known next, isn't written but by an
--- event that tells so.
-pub record TellsInfos (infos : Infos) (turns : Option ℕ) (past : List Own) (event : Own) : Type 0 where
-  pub told : (it : Birth) → tells (births past).made event.read event.due event.came ≡ Some it → (moment : ℕ) → infos (event ∷ past) it.n ≡ Some moment → it.moment ≡ moment
-  pub known : (n moment : ℕ) → known_in past n ≡ true → infos (event ∷ past) n ≡ Some moment → infos past n ≡ Some moment
-  pub next : (it : Birth) → coming (place_after turns past).row (place_after turns past).pass ≡ Some it → tells (births past).made event.read event.due event.came ≡ None
-      → (moment : ℕ) → infos (event ∷ past) it.n ≡ Some moment → infos past it.n ≡ Some moment
+-- event that tells so. By the moments of these files before and after it.
+pub record TellsInfos (info later : ℕ → Option ℕ) (turns : Option ℕ) (past : List Own) (event : Own) : Type 0 where
+  pub told : (it : Birth) → told_after turns past event ≡ Some it → (moment : ℕ) → later it.n ≡ Some moment → it.moment ≡ moment
+  pub known : (n moment : ℕ) → known_in past n ≡ true → later n ≡ Some moment → info n ≡ Some moment
+  pub next : (it : Birth) → coming (place_after turns past).row (place_after turns past).pass ≡ Some it → told_after turns past event ≡ None → (moment : ℕ) → later it.n ≡ Some moment → info it.n ≡ Some moment
 
 abbrev pub AllTellInfos : Infos → Option ℕ → List Own → Type 0
 AllTellInfos infos turns [] = Unit {0}
-AllTellInfos infos turns (event ∷ past) = AllTellInfos infos turns past × TellsInfos infos turns past event
+AllTellInfos infos turns (event ∷ past) = AllTellInfos infos turns past × TellsInfos (infos past) (infos (event ∷ past)) turns past event
 
 -- Then the birth of a known message is the moment at which its info file was last written, until the sender has ended.
 abbrev pub BirthsAreInfos : Type 0

@@ -14,3 +14,5 @@ pub mod Finishes
 pub mod Left
 -- when births are the moments of info files
 pub mod Infos
+-- when nothing fails, by the rows of the sender
+pub mod Served

@@ -5,13 +5,14 @@ ghost use Rattle.call_fs.specs.declared.past.NeedData.TheVariants as needs;
 ghost use Rattle.send_jobs.specs.declared.channels.Channel.TheVariants.{Local, Remote};
 ghost use Rattle.send_runs.specs.Worked.{absent, stated};
 ghost use Rattle.send_runs.specs.WorkedPasts.{deferred_for};
-ghost use Rattle.retry_law.specs.Finishes.{FinishesAtOnce};
-ghost use Rattle.retry_law.specs.Gone.{KnownAreGone, MissingAreGone, shows};
+ghost use Rattle.retry_law.specs.Finishes.{FinishesAtOnce, NoneIsPutOff};
+ghost use Rattle.retry_law.specs.Gone.{KnownAreGone, MetAreShownFirst, MissingAreGone, shows};
 ghost use Rattle.retry_law.specs.Infos.{BirthsAreInfos};
 ghost use Rattle.retry_law.specs.Left.{NoNumberLeft, StraysWereGiven};
 ghost use Rattle.retry_law.specs.Moments.{MomentsAreTold};
 ghost use Rattle.retry_law.specs.Passes.{ClearChannelsRest, EmptyPassesUnlink, PassesAreJobs};
 ghost use Rattle.retry_law.specs.Retries.{KnownAreDueAgain, TriedAreRetried};
+ghost use Rattle.retry_law.specs.Served.{ServedArePlain};
 ghost use Rattle.retry_law.specs.Tried.{SearchesKeepTries, tried_in};
 
 /// Births, and the moments at which passes began, are moments that a clock may tell.
@@ -36,6 +37,12 @@ pub fn known_are_due_again()
     ensures { KnownAreDueAgain }
 {}
 
+/// Nothing fails for any message, and no pass begins while an attempt at its message is in flight, if at each event the channel file is there that is
+/// opened, read or unlinked, and so on, by the row of that event.
+pub fn served_are_plain()
+    ensures { ServedArePlain }
+{}
+
 /// A known message that doesn't have its channel file has none, if no event found or made that while the message was known; by the past alone,
 /// and by what the sender keeps.
 pub fn missing_are_gone()
@@ -43,9 +50,19 @@ pub fn missing_are_gone()
     ensures known { KnownAreGone }
 {}
 
+/// Each event that finds or makes a channel file of a message comes before the message is known, if it isn't known at the rows at which that is done.
+pub fn met_are_shown_first()
+    ensures { MetAreShownFirst }
+{}
+
 /// A known message may be finished at once, if no finish of it failed while it was known.
 pub fn finishes_at_once()
     ensures { FinishesAtOnce }
+{}
+
+/// So may each, if no finish was put off, by the rows of the finishes.
+pub fn none_is_put_off()
+    ensures { NoneIsPutOff }
 {}
 
 /// The birth of a known message is the moment at which its info file was last written, if no event wrote it but one that told so.

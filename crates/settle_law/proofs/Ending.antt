@@ -32,7 +32,7 @@ module _ (controls : Controls) (d : Disk) (h : List Deed) (letter : Letter) (rou
   rest_of : StopsSo d h letter rounds [] → Rest controls d (events_in letter rounds ++ h)
   rest_of (TooLong a is) = absurd (not_refused Steps a is)
   rest_of (TooMany all is) = absurd (not_refused Rounds (codes "settle") is)
-  rest_of (Rests none round before are last deed older newest ends) =
+  rest_of (Rests none round before are last deed older newest ends finds) =
       let others = subst (λ (l : List Round). OthersWait (after d (events_in letter l ++ h))) (sym are)
       (idle_rounds_rest d h so.plan letter round before (subst (λ (l : List Round). IsSettled d h so.plan letter l []) are so.settles) last) in
       record {
@@ -40,8 +40,10 @@ module _ (controls : Controls) (d : Disk) (h : List Deed) (letter : Letter) (rou
         before = older;
         are = newest;
         rest = record {
+          empty = so.empty;
           well = subst (λ (l : List Deed). GoesWell controls d (history_of l)) newest so.well;
           idle = ends;
+          finds = finds;
           others = subst (λ (l : List Deed). OthersWait (after d l)) newest others;
         };
       }

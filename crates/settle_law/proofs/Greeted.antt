@@ -52,7 +52,7 @@ IsTaken told bytes = (bytes ≢ []) × ((rest : List ℕ) × (told ≡ bytes ++ 
 abbrev after : Channel → List Own → Own → Account
 after c past own = account_by (happening own.due own.came (work past) (account Local past).to_mark c) (account c past)
 
-took_after : (c : Channel) (past : List Own) (own : Own) (bytes : List ℕ) → own.due ≡ needs.Take (port_of c) → own.came ≡ came.Took bytes
+pub took_after : (c : Channel) (past : List Own) (own : Own) (bytes : List ℕ) → own.due ≡ needs.Take (port_of c) → own.came ≡ came.Took bytes
     → after c past own ≡ took (account c past).heard bytes (account c past)
 took_after Local past own bytes due got =
     ap (λ (d : NeedData). account_by (happening d own.came (work past) (account Local past).to_mark Local) (account Local past)) due

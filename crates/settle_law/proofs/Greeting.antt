@@ -62,46 +62,57 @@ no_given port.Lspawn Local (slot ∷ rest) came.Gave = tt
 no_given port.Rspawn Remote (slot ∷ rest) came.Gave = tt
 no_given p c text got = tt
 
-no_whole : (channel c : Channel) (s : Source) → IsNoTaking (whole_of channel c s)
+-- and no giving
+abbrev pub IsStill : Happening → Type 0
+IsStill (Takes bytes) = ⊥
+IsStill (Gives slot) = ⊥
+IsStill other = Unit {0}
+
+pub untaken : (it : Happening) → IsStill it → IsNoTaking it
+untaken (Takes bytes) still = absurd still
+untaken (Gives slot) still = absurd still
+untaken other still = tt
+
+no_whole : (channel c : Channel) (s : Source) → IsStill (whole_of channel c s)
 no_whole Local Local s = tt
 no_whole Remote Remote s = tt
 no_whole channel c s = tt
 
-no_closed_if : (b : Bool) (s : Source) (c : Channel) → IsNoTaking (closed_if b s c)
+no_closed_if : (b : Bool) (s : Source) (c : Channel) → IsStill (closed_if b s c)
 no_closed_if true s c = no_whole s.channel c s
 no_closed_if false s c = tt
 
-no_given_up : (c : Channel) (owed : List Owed) → IsNoTaking (given_up c owed)
+no_given_up : (c : Channel) (owed : List Owed) → IsStill (given_up c owed)
 no_given_up Local owed = tt
 no_given_up Remote [] = tt
 no_given_up Remote (first ∷ rest) = tt
 
-no_note : (b : Bool) (c : Channel) (owed : List Owed) → IsNoTaking (note_closed b c owed)
+no_note : (b : Bool) (c : Channel) (owed : List Owed) → IsStill (note_closed b c owed)
 no_note true c owed = tt
 no_note false c owed = no_given_up c owed
 
-no_closed : (s : Option Work) (fd : Fd) (owed : List Owed) (c : Channel) → IsNoTaking (closed s fd owed c)
+no_closed : (s : Option Work) (fd : Fd) (owed : List Owed) (c : Channel) → IsStill (closed s fd owed c)
 no_closed None fd owed c = tt
 no_closed (Some (Reading s)) fd owed c = no_closed_if (ends s fd) s c
 no_closed (Some Missing) fd owed c = tt
 no_closed (Some (Noting f synced)) fd owed c = no_note synced c owed
 
-no_opened : (name : Option Name) (c : Channel) → IsNoTaking (opened name c)
+no_opened : (name : Option Name) (c : Channel) → IsStill (opened name c)
 no_opened (Some (Of LocalFile n)) Local = tt
 no_opened (Some (Of RemoteFile n)) Remote = tt
 no_opened name c = tt
 
-no_unopened : (told : Answer) (owed : List Owed) (c : Channel) → IsNoTaking (unopened_note told owed c)
+no_unopened : (told : Answer) (owed : List Owed) (c : Channel) → IsStill (unopened_note told owed c)
 no_unopened (answer.Opened fd) owed c = tt
 no_unopened (answer.Refused why.NotThere) owed c = tt
 no_unopened told owed c = no_given_up c owed
 
-no_uncreated : (name : Option Name) (told : Answer) (owed : List Owed) (c : Channel) → IsNoTaking (uncreated_note name told owed c)
+no_uncreated : (name : Option Name) (told : Answer) (owed : List Owed) (c : Channel) → IsStill (uncreated_note name told owed c)
 no_uncreated (Some (Of BounceFile n)) (answer.Created fd number) owed c = tt
 no_uncreated (Some (Of BounceFile n)) told owed c = no_given_up c owed
 no_uncreated name told owed c = tt
 
-no_called : (one : CallData) (told : Told) (s : Option Work) (owed : List Owed) (c : Channel) → IsNoTaking (called one told s owed c)
+pub no_called : (one : CallData) (told : Told) (s : Option Work) (owed : List Owed) (c : Channel) → IsStill (called one told s owed c)
 no_called (call.Close fd) told s owed c = no_closed s fd owed c
 no_called (call.Open name how.Write) told s owed c = no_opened (parse name) c
 no_called (call.Open name how.Append) told s owed c = no_unopened told.answer owed c
@@ -116,7 +127,7 @@ pub data SentAs (c : Channel) (due : NeedData) (got : GotData) : Type 0 where
 pub sent_as : (c : Channel) (due : NeedData) (got : GotData) → SentAs c due got
 sent_as Local (needs.Take port.Lspawn) (came.Took bytes) = Hears bytes refl refl
 sent_as Remote (needs.Take port.Rspawn) (came.Took bytes) = Hears bytes refl refl
-sent_as c (needs.File one) (came.Answered told) = Other (λ s owed. no_called one told s owed c) (λ t. refl)
+sent_as c (needs.File one) (came.Answered told) = Other (λ s owed. untaken (called one told s owed c) (no_called one told s owed c)) (λ t. refl)
 sent_as c (needs.Give p text) got = Other (λ s owed. no_given p c text got) (λ t. refl)
 sent_as c due got = Other (λ s owed. tt) (λ t. refl)
 
@@ -128,6 +139,14 @@ kept_limit (Reads tasks) a untaken = refl
 kept_limit Marks a untaken = refl
 kept_limit GivesUp a untaken = refl
 
+pub kept_flights : (it : Happening) (a : Account) → IsStill it → (account_by it a).in_flight ≡ a.in_flight
+kept_flights Nothing a still = refl
+kept_flights (Takes bytes) a still = absurd still
+kept_flights (Gives slot) a still = absurd still
+kept_flights (Reads tasks) a still = refl
+kept_flights Marks a still = refl
+kept_flights GivesUp a still = refl
+
 pub kept_heard : (it : Happening) (a : Account) → IsNoTaking it → (account_by it a).heard ≡ a.heard
 kept_heard Nothing a untaken = refl
 kept_heard (Takes bytes) a untaken = absurd untaken
@@ -138,9 +157,9 @@ kept_heard GivesUp a untaken = refl
 
 -- reports leave the limit, and that something was heard
 
-record Stays (a b : Account) : Type 0 where
-  limit : b.limit ≡ a.limit
-  heard : b.heard ≡ a.heard
+pub record Stays (a b : Account) : Type 0 where
+  pub limit : b.limit ≡ a.limit
+  pub heard : b.heard ≡ a.heard
 
 settled_stays : (r : Report) (a : Account) → Stays a (settle r a)
 settled_stays r a = by (a.in_flight r.slot)
@@ -149,7 +168,7 @@ settled_stays r a = by (a.in_flight r.slot)
     by None = record { limit = refl; heard = refl }
     by (Some t) = record { limit = refl; heard = refl }
 
-all_stay : (rs : List Report) (a : Account) → Stays a (settle_all rs a)
+pub all_stay : (rs : List Report) (a : Account) → Stays a (settle_all rs a)
 all_stay [] a = record { limit = refl; heard = refl }
 all_stay (r ∷ rs) a =
     let one = settled_stays r a in
@@ -307,7 +326,7 @@ users_opened_work (answer.Refused why.NotThere) p = refl
 users_opened_work (answer.Refused why.Memory) p = refl
 users_opened_work told p = refl
 
-opening_work : (got : GotData) (p : LocalPlace) → (users_opened got p).work ≡ p.work
+pub opening_work : (got : GotData) (p : LocalPlace) → (users_opened got p).work ≡ p.work
 opening_work (came.Answered told) p = users_opened_work told.answer p
 opening_work got p = refl
 
@@ -315,11 +334,11 @@ users_read_work : (fd : Fd) (told : Answer) (bytes : List ℕ) (p : LocalPlace) 
 users_read_work fd (answer.Count count) bytes p = refl
 users_read_work fd told bytes p = refl
 
-reading_work : (fd : Fd) (got : GotData) (p : LocalPlace) → (users_read fd got p).work ≡ p.work
+pub reading_work : (fd : Fd) (got : GotData) (p : LocalPlace) → (users_read fd got p).work ≡ p.work
 reading_work fd (came.Answered told) p = users_read_work fd told.answer told.bytes p
 reading_work fd got p = refl
 
-closing_work : (whole : Bool) (p : LocalPlace) → (users_closed whole p).work ≡ p.work
+pub closing_work : (whole : Bool) (p : LocalPlace) → (users_closed whole p).work ≡ p.work
 closing_work true p = refl
 closing_work false p = refl
 

@@ -30,7 +30,8 @@ use Rattle.settle_law.specs.Slots.{RestsHaveSlots}
 use Rattle.settle_law.specs.Suffices.{desk_of}
 use Rattle.settle_law.specs.Well.{GoesWell}
 use Rattle.settle_law.proofs.Allowed.{slots_are_allowed}
-use Rattle.settle_law.proofs.GreetedEvents.{GreetedIn, greeted_always, sends_by, sends_past}
+use Rattle.settle_law.proofs.GreetedEvents.{GreetedIn, greeted_always}
+use Rattle.settle_law.proofs.PipeEvents.{sends_by, sends_past}
 
 -- Both spawners were heard when a turn begins, and the control files were read.
 

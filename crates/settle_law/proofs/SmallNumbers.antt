@@ -1,22 +1,27 @@
 -- Where nothing fails the numbers of messages are below 2^64.
-use Rattle.std.proofs.Common.{◌≡◌, ◌≢◌, ⊎_elim, ℕ, ◌+◌, ◌<◌, ◌^◌, List, [], ◌∷◌, length, Bool, true, false, ◌&&◌, if◌then◌else◌, Option, Some, None, refl, sym, ap, ◌∙◌, subst}
+use Rattle.std.proofs.Common.{◌≡◌, ◌≢◌, ⊎_elim, ℕ, ◌+◌, ◌<◌, ◌≤◌, ◌^◌, List, [], ◌∷◌, length, Bool, true, false, ◌&&◌, if◌then◌else◌, Option, Some, None, refl, sym, ap, ◌∙◌, subst}
 use Rattle.std.specs.Prelude.{bytes_eq, is_some, nat_le, nat_lt, option_map}
 use Rattle.std.specs.List.{list_all}
-use Rattle.std.proofs.lemmas.Bool.{and_parts, ltb-true}
+use Rattle.std.proofs.lemmas.Bool.{and_parts, le-leb, leb-true, ltb-true}
+use Rattle.call_fs.specs.Apply.{Fits}
 use Rattle.call_fs.specs.Disk.{Disk}
 use Rattle.call_fs.specs.Maps.{put, put_at}
+use Rattle.call_fs.specs.Program.{IsTaken, MayCome}
 use Rattle.call_fs.proofs.Maps.{put_at_cases, put_cases}
 use Rattle.call_fs.specs.declared.calls.Answer.{Answer}
 use Rattle.call_fs.specs.declared.calls.Answer.TheVariants.{Created, Done, Refused}
 use Rattle.call_fs.specs.declared.calls.CallData.{CallData}
-use Rattle.call_fs.specs.declared.calls.CallData.TheVariants.{Link}
+use Rattle.call_fs.specs.declared.calls.CallData.TheVariants.{CreateExcl, Link}
 use Rattle.call_fs.specs.declared.calls.Fd.{Fd}
 use Rattle.call_fs.specs.declared.calls.FsError.TheVariants.{Exists, NotThere}
+use Rattle.call_fs.specs.declared.calls.Told.{Told}
 use Rattle.call_fs.specs.declared.past.GotData.{GotData}
 use Rattle.call_fs.specs.declared.past.GotData.TheVariants.{Answered}
 use Rattle.call_fs.specs.declared.past.NeedData.{NeedData}
 use Rattle.call_fs.specs.declared.past.NeedData.TheVariants as needs
 use Rattle.call_fs.specs.declared.past.Own.{Own}
+use Rattle.call_fs.specs.declared.program.Port.{Port}
+use Rattle.call_fs.specs.declared.program.Port.TheVariants as port
 use Rattle.call_fs.specs.declared.program.Ready.{Ready}
 use Rattle.queue_inject.specs.declared.injection.Arguments.{Arguments}
 use Rattle.queue_inject.specs.declared.row.Row.{Row}
@@ -35,18 +40,50 @@ use Rattle.send_jobs.specs.Bookings.{Booking}
 use Rattle.send_jobs.specs.Bookings.Booking.{Dropped, Noted, ReadNotes, Reported, Returned}
 use Rattle.world_events.specs.declared.event.Program.{Program}
 use Rattle.world_events.specs.declared.event.Program.TheVariants.{Injector, Cleaner, Sender, LocalSpawner, RemoteSpawner, Delivery}
-use Rattle.mail_world.specs.History.{Actor, Allowed, Event, Legal, Life, State, acted, after, booked_by, books_after, bouncer_of, finished, happens, newborn, next_of, stopped, told_by}
+use Rattle.mail_world.specs.History.{Actor, Allowed, ComesOf, Event, Legal, Life, State, acted, after, booked_by, books_after, bouncer_of, finished, happens, newborn, next_of, stopped, told_by}
 use Rattle.mail_world.specs.History.Event.{Start, Act, Child, Generation, Report, End, Stop, Moment, Halt}
 use Rattle.mail_world.specs.History.Life.{Over, Stopped}
+use Rattle.mail_world.proofs.Coming.{may_come}
 use Rattle.settle_law.specs.Numbers.{NumbersAreSmall}
 use Rattle.settle_law.specs.Well.{came_well, goes_well, is_well_answered}
 
+-- a number that a program can name
+abbrev IsSmall : ℕ → Type 0
+IsSmall n = (1 ≤ n) × (n < 2 ^ 64)
+
 -- Nothing failed in the past of any actor.
 
-abbrev is_well : Own → Bool
-is_well own = came_well own.came
+-- the file has a number from 1 on, as all that are made
+abbrev is_counted : Answer → Bool
+is_counted (Created fd n) = nat_le 1 n
+is_counted told = true
 
-abbrev PastsWell : (List ℕ → Option Actor) → Type 0
+abbrev came_counted : GotData → Bool
+came_counted (Answered told) = is_counted told.answer
+came_counted came = true
+
+abbrev pub is_well : Own → Bool
+is_well own = came_well own.came && came_counted own.came
+
+pub went_well : (own : Own) → is_well own ≡ true → came_well own.came ≡ true
+went_well own well = (and_parts (came_well own.came) (came_counted own.came) well).0
+
+fits_counted : (d : Disk) (c : CallData) (told : Answer) (wrote : ℕ) → Fits d c told wrote → is_counted told ≡ true
+fits_counted d (CreateExcl name) (Created fd n) wrote fits = le-leb 1 n fits.positive
+fits_counted d c (Created fd n) wrote fits = absurd fits
+fits_counted d c told wrote fits = refl
+
+not_taken : (p : Port) (told : Told) → IsTaken p (Answered told) → ⊥
+not_taken (port.Status d) told may = may
+not_taken p told may = may
+
+comes_counted : (s : State) (a : List ℕ) (due : NeedData) (came : GotData) (wrote : ℕ) → ComesOf s a due came wrote → MayCome due came → came_counted came ≡ true
+comes_counted s a (needs.File c) (Answered told) wrote comes may = fits_counted s.disk c told.answer wrote comes.0
+comes_counted s a (needs.Take p) (Answered told) wrote comes may = absurd (not_taken p told may)
+comes_counted s a due (Answered told) wrote comes may = absurd may
+comes_counted s a due came wrote comes may = refl
+
+abbrev pub PastsWell : (List ℕ → Option Actor) → Type 0
 PastsWell actors = (a : List ℕ) (x : Actor) → actors a ≡ Some x → list_all is_well x.past ≡ true
 
 both_true : (p q : Bool) → p ≡ true → q ≡ true → (p && q) ≡ true
@@ -64,7 +101,7 @@ put_well actors a y W well b x is = ⊎_elim
     (put_at_cases actors a (Some y) b)
 
 module _ (s : State) (W : PastsWell s.actors) where
-  acted_well : (a : List ℕ) (own : Own) (wrote : ℕ) (o : Option Actor) → s.actors a ≡ o → came_well own.came ≡ true → PastsWell (acted s a own wrote o).actors
+  acted_well : (a : List ℕ) (own : Own) (wrote : ℕ) (o : Option Actor) → s.actors a ≡ o → is_well own ≡ true → PastsWell (acted s a own wrote o).actors
   acted_well a own wrote None is well = W
   acted_well a own wrote (Some x) is well =
       put_well s.actors a (record { program = x.program; past = own ∷ x.past; life = x.life }) W (both_true (is_well own) (list_all is_well x.past) well (W a x is))
@@ -79,9 +116,11 @@ module _ (s : State) (W : PastsWell s.actors) where
 
 event_well : (e : Event) (s : State) → PastsWell s.actors → goes_well e ≡ true → Allowed s e → PastsWell (happens s e).actors
 event_well (Start a program) s W well may = put_well s.actors a (newborn program) W refl
-event_well (Act a own wrote) s W well may = acted_well s W a own wrote (s.actors a) refl well
+event_well (Act a own wrote) s W well may =
+    acted_well s W a own wrote (s.actors a) refl
+    (both_true (came_well own.came) (came_counted own.came) well (comes_counted s a own.due own.came wrote may.came (may_come s a own.due own.came wrote may.came)))
 event_well (Child parent own a program) s W well may =
-    put_well (acted s parent own 0 (s.actors parent)).actors a (newborn program) (acted_well s W parent own 0 (s.actors parent) refl (ap came_well may.came)) refl
+    put_well (acted s parent own 0 (s.actors parent)).actors a (newborn program) (acted_well s W parent own 0 (s.actors parent) refl (ap (λ (g : GotData). came_well g && came_counted g) may.came)) refl
 event_well (Generation sender clean lspawn rspawn) s W well may =
     put_well _ _ (newborn rspawn) (put_well _ _ (newborn lspawn) (put_well _ _ (newborn clean) (put_well _ _ (newborn sender) W refl) refl) refl) refl
 event_well (Report slot output) s W well may = W
@@ -90,7 +129,7 @@ event_well (Stop a) s W well may = finished_well s W a Stopped (s.actors a) refl
 event_well (Moment m) s W well may = W
 event_well (Halt how contents) s W well may = λ a x is. stopped_well s W (s.actors a) x (W a) is
 
-pasts_well : (d : Disk) (h : List Event) → Legal d h → list_all goes_well h ≡ true → PastsWell (after d h).actors
+pub pasts_well : (d : Disk) (h : List Event) → Legal d h → list_all goes_well h ≡ true → PastsWell (after d h).actors
 pasts_well d [] legal well = λ a x is. absurd (cc)
 pasts_well d (e ∷ h) legal well =
     let parts = and_parts (goes_well e) (list_all goes_well h) well in
@@ -99,15 +138,15 @@ pasts_well d (e ∷ h) legal well =
 -- So an injector that is to link its message has a number below 2^64.
 
 abbrev IsSmallAt : Row → Type 0
-IsSmallAt (at.LinkMess seq n fd) = n < 2 ^ 64
+IsSmallAt (at.LinkMess seq n fd) = IsSmall n
 IsSmallAt row = Unit {0}
 
 if_small : (b : Bool) (one other : Row) → IsSmallAt one → IsSmallAt other → IsSmallAt (if b then one else other)
 if_small true one other p q = p
 if_small false one other p q = q
 
-goes_small : (row : Row) (told : Answer) → is_well_answered told ≡ true → IsSmallAt (goes_to row told)
-goes_small (at.Create seq) (Created fd n) well = ltb-true n (2 ^ 64) well
+goes_small : (row : Row) (told : Answer) → (is_well_answered told ≡ true) × (is_counted told ≡ true) → IsSmallAt (goes_to row told)
+goes_small (at.Create seq) (Created fd n) well = (leb-true 1 n well.1, ltb-true n (2 ^ 64) well.0)
 goes_small (at.Create seq) (Refused Exists) well = if_small (nat_lt seq 9) (at.Create (seq + 1)) (at.Failed 63) tt tt
 goes_small (at.Create seq) told well = tt
 goes_small (at.LinkMess seq n fd) Done well = tt
@@ -147,7 +186,7 @@ past_small work (at.AppendTodo n fd done) h =
     piece_small work.todo.bytes work.todo.fault done (at.AppendTodo n f done) (at.SyncTodo n f) (λ status. at.CleanIntd n status) tt tt (λ status. tt)
 past_small work row h = h
 
-came_small : (args : Arguments) (row : Row) (came : GotData) → came_well came ≡ true → IsSmallAt row → IsSmallAt (after_came args row came)
+came_small : (args : Arguments) (row : Row) (came : GotData) → (came_well came ≡ true) × (came_counted came ≡ true) → IsSmallAt row → IsSmallAt (after_came args row came)
 came_small args row (Answered told) well h = past_small (work_of args) (goes_to row told.answer) (goes_small row told.answer well)
 came_small args row came well h = h
 
@@ -155,7 +194,7 @@ small_row : (args : Arguments) (past : List Own) → list_all is_well past ≡ t
 small_row args [] well = tt
 small_row args (own ∷ past) well =
     let parts = and_parts (is_well own) (list_all is_well past) well in
-    came_small args (place_after args past) own.came parts.0 (small_row args past parts.1)
+    came_small args (place_after args past) own.came (and_parts (came_well own.came) (came_counted own.came) parts.0) (small_row args past parts.1)
 
 -- The link of a message is that of this number.
 
@@ -165,12 +204,12 @@ call_due true false (needs.File own) c h = h
 call_due false late (needs.File own) c h = absurd (cc)
 call_due input late due c h = absurd (cc)
 
-link_small : (args : Arguments) (row : Row) (old new : List ℕ) (n : ℕ) → due_by args row ≡ needs.File (Link old new) → parse new ≡ Some (Of Mess n) → IsSmallAt row → n < 2 ^ 64
+link_small : (args : Arguments) (row : Row) (old new : List ℕ) (n : ℕ) → due_by args row ≡ needs.File (Link old new) → parse new ≡ Some (Of Mess n) → IsSmallAt row → IsSmall n
 link_small args (at.LinkMess seq m fd) old new n due is small =
     let name : path (Of Mess m) ≡ new = cc in
     let both : ◌≡◌ {A = Option Name} (Some (Of Mess m)) (Some (Of Mess n)) = sym (parse-path (Of Mess m)) ∙ ap parse name ∙ is in
     let same : m ≡ n = cc in
-    subst (λ (k : ℕ). k < 2 ^ 64) same small
+    subst (λ (k : ℕ). IsSmall k) same small
 link_small args (at.LinkTodo m) old new n due is small =
     let name : path (Of Todo m) ≡ new = cc in
     let both : ◌≡◌ {A = Option Name} (Some (Of Todo m)) (Some (Of Mess n)) = sym (parse-path (Of Todo m)) ∙ ap parse name ∙ is in
@@ -180,12 +219,12 @@ link_small args row old new n due is small = absurd (cc)
 -- The books
 
 abbrev AreSmall : Books → Type 0
-AreSmall b = (n : ℕ) → is_some (b.living n) ≡ true → n < 2 ^ 64
+AreSmall b = (n : ℕ) → is_some (b.living n) ≡ true → IsSmall n
 
-put_small : (living : ℕ → Option Injection) (n : ℕ) (o : Option Injection) → ((m : ℕ) → is_some (living m) ≡ true → m < 2 ^ 64) → (is_some o ≡ true → n < 2 ^ 64)
-    → (m : ℕ) → is_some (put living n o m) ≡ true → m < 2 ^ 64
+put_small : (living : ℕ → Option Injection) (n : ℕ) (o : Option Injection) → ((m : ℕ) → is_some (living m) ≡ true → IsSmall m) → (is_some o ≡ true → IsSmall n)
+    → (m : ℕ) → is_some (put living n o m) ≡ true → IsSmall m
 put_small living n o S here m there = ⊎_elim
-    (λ (c : (m ≡ n) × (put living n o m ≡ o)). subst (λ (k : ℕ). k < 2 ^ 64) (sym c.0) (here (sym (ap is_some c.1) ∙ there)))
+    (λ (c : (m ≡ n) × (put living n o m ≡ o)). subst (λ (k : ℕ). IsSmall k) (sym c.0) (here (sym (ap is_some c.1) ∙ there)))
     (λ (c : (m ≢ n) × (put living n o m ≡ living m)). S m (sym (ap is_some c.1) ∙ there))
     (put_cases living n o m)
 
@@ -225,7 +264,7 @@ told_small child b (LocalSpawner start) past read ready came S = S
 told_small child b (RemoteSpawner start) past read ready came S = S
 told_small child b (Delivery start args) past read ready came S = S
 
-linked_small : (b : Books) (a : List ℕ) (args : Arguments) (old : List ℕ) (name : Option Name) → ((n : ℕ) → name ≡ Some (Of Mess n) → n < 2 ^ 64) → AreSmall b → AreSmall (linked b a args old name)
+linked_small : (b : Books) (a : List ℕ) (args : Arguments) (old : List ℕ) (name : Option Name) → ((n : ℕ) → name ≡ Some (Of Mess n) → IsSmall n) → AreSmall b → AreSmall (linked b a args old name)
 linked_small b a args old (Some (Of Mess n)) small S = put_small b.living n (Some (begun a args n)) S (λ there. small n refl)
 linked_small b a args old (Some (Of Todo n)) small S = by (bytes_eq old (path (Of Intd n)))
   where
@@ -234,7 +273,7 @@ linked_small b a args old (Some (Of Todo n)) small S = by (bytes_eq old (path (O
     by false = S
 linked_small b a args old name small S = S
 
-booked_small : (b : Books) (a : List ℕ) (args : Arguments) (c : CallData) (told : Answer) → ((old new : List ℕ) (n : ℕ) → c ≡ Link old new → parse new ≡ Some (Of Mess n) → n < 2 ^ 64) → AreSmall b
+booked_small : (b : Books) (a : List ℕ) (args : Arguments) (c : CallData) (told : Answer) → ((old new : List ℕ) (n : ℕ) → c ≡ Link old new → parse new ≡ Some (Of Mess n) → IsSmall n) → AreSmall b
     → AreSmall (booked b a args c told)
 booked_small b a args (Link old new) Done small S = linked_small b a args old (parse new) (λ n is. small old new n refl is) S
 booked_small b a args c told small S = S
@@ -243,7 +282,7 @@ booked_small b a args c told small S = S
 
 module _ (program : Program) (past : List Own) (read : ℕ) (ready : Ready) (well : list_all is_well past ≡ true) where
   links_small : (args : Arguments) (c : CallData) (old new : List ℕ) (n : ℕ) → program ≡ Injector args → next_of program past read ready ≡ needs.File c → c ≡ Link old new → parse new ≡ Some (Of Mess n)
-      → n < 2 ^ 64
+      → IsSmall n
   links_small args c old new n is next link name =
       let row = place_after args past in
       let mine : in_time (has_input ready) (is_late args read) (due_by args row) ≡ needs.File c = subst (λ (p : Program). next_of p past read ready ≡ needs.File c) is next in

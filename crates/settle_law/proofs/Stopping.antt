@@ -5,21 +5,26 @@ use Rattle.std.proofs.lemmas.Bool.{and_parts}
 use Rattle.std.proofs.lemmas.Slice.Eq.{bytes_eq-Decides}
 use Rattle.call_fs.specs.Disk.{Disk}
 use Rattle.call_fs.specs.Plan.{Plan}
+use Rattle.call_fs.specs.declared.past.Own.{Own}
 use Rattle.mail_world.specs.Generations.{idled_by, lives_in}
-use Rattle.mail_world.specs.History.{IsLiving, State}
+use Rattle.mail_world.specs.History.{Actor, IsLiving, State}
 use Rattle.mail_world.specs.History.Event.{Start, Act, Child, Generation, Report, End, Stop, Moment, Halt}
+use Rattle.mail_world.specs.Readiness.{found_in}
 use Rattle.script_words.specs.declared.letter.Letter.{Letter}
 use Rattle.scenario.specs.Chains.{EachFollows}
-use Rattle.scenario.specs.Deeds.{Deed, after, event_in}
+use Rattle.scenario.specs.Deeds.{Deed, after, counts_in, event_in, next_pid}
 use Rattle.scenario.specs.Deeds.Deed.{Came, Fed}
-use Rattle.scenario.specs.Steps.{Refusal, Stops, has_idled, idles, plan_through, refusal_line, stop_text}
+use Rattle.scenario.specs.Steps.{IsRunOf, Refusal, StepsTo, Stops, has_idled, idles, plan_through, refusal_line, stop_text}
+use Rattle.scenario.specs.Steps.Outcome.{Happens}
 use Rattle.scenario.specs.Steps.Refusal.{Alive, Gone, NotWaiting, Past, Rounds, Steps, Taken, Unknown}
 use Rattle.scenario.specs.Steps.Stops.{Idles, Refused, Full}
-use Rattle.scenario.specs.Turns.{IsRound, Part, Round, Settles, SettlesOn, TurnsOn, are_searches, events_in, events_of, has_bytes, is_first_deed, is_idle, is_next, is_search_call, is_search_deed, next_in, place_after, round_events, starts_of, text_of}
+use Rattle.scenario.specs.Turns.{IsRound, Part, Round, Settles, SettlesOn, TurnsOn, are_searches, events_in, events_of, has_bytes, is_first_deed, is_idle, is_next, is_search_call, is_search_deed, next_in, place_after, reports_of, round_events, starts_of, text_of}
 use Rattle.scenario.specs.Turns.Settles.{Rests as RestsThen, Full as FullThen}
 use Rattle.scenario.proofs.Carried.{living_in}
 use Rattle.scenario.proofs.Outcomes.{alive_waits}
-use Rattle.settle_law.specs.Ends.{EndsIdle, SettleStops, StopsSo}
+use Rattle.scenario.proofs.StepKinds.{HasDone, has_stepped}
+use Rattle.scenario.proofs.StepKinds.HasDone.{Bears, Calls, Feeds, Finishes, Passes}
+use Rattle.settle_law.specs.Ends.{EndsIdle, FindsAll, SettleStops, StopsSo}
 use Rattle.settle_law.specs.Ends.StopsSo.{Rests, TooLong, TooMany}
 
 -- Who comes next in a turn lives.
@@ -103,26 +108,75 @@ ends_idle d before (Came (Moment m)) search idle = absurd (cc)
 ends_idle d before (Came (Halt how contents)) search idle = absurd (cc)
 ends_idle d before (Fed a own c message envelope) search idle = absurd (cc)
 
+-- Who searched found all that was ready: its event is a step of a run.
+
+own_by_found : (s : State) (a : List ℕ) (own other : Own) (wrote n : ℕ) → Came (Act (codes "sender") own wrote) ≡ Came (Act a other n) → other.read ≡ s.now → other.ready ≡ found_in s a → FindsAll s own
+own_by_found s a own other wrote n e now found =
+    let same : own ≡ other = cc in
+    let name : a ≡ codes "sender" = cc in
+    record { now = ap (λ (o : Own). o.read) same ∙ now; found = ap (λ (o : Own). o.ready) same ∙ found ∙ ap (found_in s) name }
+
+step_finds : (d : Disk) (h : List Deed) (plan : Plan) (a : List ℕ) (deed : Deed) (own : Own) (wrote : ℕ) → StepsTo d h plan a (Happens deed) → deed ≡ Came (Act (codes "sender") own wrote)
+    → FindsAll (after d h) own
+step_finds d h plan a deed own wrote step is = let it = has_stepped d h plan a deed step in by it.actor it.did
+  where
+    by : (x : Actor) → HasDone plan (after d h) (next_pid h) (counts_in h) a x deed → FindsAll (after d h) own
+    by x (Calls c) = own_by_found (after d h) a own _ wrote 0 (sym is ∙ c.4) refl refl
+    by x (Passes p) = own_by_found (after d h) a own _ wrote 0 (sym is ∙ p.is) refl refl
+    by x (Finishes e) = let both = sym is ∙ e.2 in absurd (cc)
+    by x (Bears b) = let both = sym is ∙ b.is in absurd (cc)
+    by x (Feeds f) = let both = sym is ∙ f.is in absurd (cc)
+
+-- the newest deed of a turn
+turn_finds : (d : Disk) (h : List Deed) (plan : Plan) (parts : List Part) → EachFollows (TurnsOn d h plan) parts → (deed : Deed) (before : List Deed) → events_of parts ≡ deed ∷ before
+    → (own : Own) (wrote : ℕ) → deed ≡ Came (Act (codes "sender") own wrote) → FindsAll (after d (before ++ h)) own
+turn_finds d h plan [] are deed before newest own wrote is = absurd (cc)
+turn_finds d h plan (part ∷ parts) are deed before newest own wrote is =
+    by part.events (λ (e : events_of parts ≡ deed ∷ before). turn_finds d h plan parts are.0 deed before e own wrote is) are.1.run newest
+  where
+    by : (events : List Deed) → (events_of parts ≡ deed ∷ before → FindsAll (after d (before ++ h)) own) → IsRunOf d (events_of parts ++ h) (plan_through plan (events_of parts)) part.actor events part.text → events ++ events_of parts ≡ deed ∷ before
+        → FindsAll (after d (before ++ h)) own
+    by [] earlier run e = earlier e
+    by (newer ∷ older) earlier run e =
+        let same : newer ≡ deed = cc in
+        let rest : older ++ events_of parts ≡ before = cc in
+        let all : older ++ (events_of parts ++ h) ≡ before ++ h = sym (append_assoc older (events_of parts) h) ∙ ap (λ (l : List Deed). l ++ h) rest in
+        subst (λ (l : List Deed). FindsAll (after d l) own) all
+        (step_finds d (older ++ (events_of parts ++ h)) (plan_through (plan_through plan (events_of parts)) older) part.actor newer own wrote run.are_steps.1.2 (same ∙ is))
+
+-- of a round that does nothing but search
+round_finds : (d : Disk) (h : List Deed) (plan : Plan) (letter : Letter) (parts : List Part) (slots : List ℕ) → EachFollows (TurnsOn d h plan) parts
+    → list_all is_search_deed (reports_of letter slots ++ events_of parts) ≡ true → (deed : Deed) (before : List Deed) → reports_of letter slots ++ events_of parts ≡ deed ∷ before
+    → (own : Own) (wrote : ℕ) → deed ≡ Came (Act (codes "sender") own wrote) → FindsAll (after d (before ++ h)) own
+round_finds d h plan letter parts [] are all deed before newest own wrote is = turn_finds d h plan parts are deed before newest own wrote is
+round_finds d h plan letter parts (slot ∷ slots) are all deed before newest own wrote is = absurd (cc)
+
 record Newest (d : Disk) (events h : List Deed) : Type 0 where
   deed : Deed
   older : List Deed
+  rest : List Deed
+  newest : events ≡ deed ∷ rest
+  older_is : older ≡ rest ++ h
   is : events ++ h ≡ deed ∷ older
   ends : EndsIdle d deed older
 
 newest_ends : (d : Disk) (events h : List Deed) → list_all is_search_deed events ≡ true → has_idled d h events ≡ true → Newest d events h
 newest_ends d [] h all idle = absurd (cc)
 newest_ends d (x ∷ before) h all idle =
-    record { deed = x; older = before ++ h; is = refl; ends = ends_idle d (before ++ h) x (and_parts (is_search_deed x) (list_all is_search_deed before) all).0 idle }
+    record { deed = x; older = before ++ h; rest = before; newest = refl; older_is = refl; is = refl; ends = ends_idle d (before ++ h) x (and_parts (is_search_deed x) (list_all is_search_deed before) all).0 idle }
 
-rests_so : (d : Disk) (h : List Deed) (letter : Letter) (round : Round) (before : List Round) (text : List ℕ) → text ≡ [] → is_idle d (events_in letter before ++ h) letter round ≡ true
-    → StopsSo d h letter (round ∷ before) text
-rests_so d h letter round before text none idle =
+rests_so : (d : Disk) (h : List Deed) (plan : Plan) (letter : Letter) (round : Round) (before : List Round) (text : List ℕ) → text ≡ []
+    → EachFollows (TurnsOn d (events_in letter before ++ h) plan) round.parts → is_idle d (events_in letter before ++ h) letter round ≡ true → StopsSo d h letter (round ∷ before) text
+rests_so d h plan letter round before text none are idle =
     let g = events_in letter before ++ h in
     let events = round_events letter round in
     let parts = and_parts (are_searches events) (has_idled d g events) idle in
     let all = (and_parts (list_all is_search_deed events) (nat_lt (count_by is_first_deed events) 2) parts.0).0 in
     let newest = newest_ends d events g all parts.1 in
-    Rests none round before refl idle newest.deed newest.older (append_assoc events (events_in letter before) h ∙ newest.is) newest.ends
+    let finds : FindsAll (after d newest.older) newest.ends.own =
+    subst (λ (l : List Deed). FindsAll (after d l) newest.ends.own) (sym newest.older_is)
+    (round_finds d g plan letter round.parts round.slots are all newest.deed newest.rest newest.newest newest.ends.own newest.ends.wrote newest.ends.is) in
+    Rests none round before refl idle newest.deed newest.older (append_assoc events (events_in letter before) h ∙ newest.is) newest.ends finds
 
 -- All rounds
 
@@ -134,7 +188,7 @@ last_round d h plan letter round before text is last prints =
   where
     by : (text_of round.parts ≡ []) ⊎ ((a : List ℕ) × (text_of round.parts ≡ refusal_line Steps a)) → StopsSo d h letter (round ∷ before) text
     by (inl none) =
-        rests_so d h letter round before text (prints ∙ none)
+        rests_so d h (plan_through plan (events_in letter before)) letter round before text (prints ∙ none) is.turn.are
         (subst (λ (t : List ℕ). has_bytes t || is_idle d (events_in letter before ++ h) letter round ≡ true) none last)
     by (inr many) = TooLong many.0 (prints ∙ many.1)
 

@@ -26,6 +26,7 @@ use Rattle.queue_paths.specs.Names.Name.{Of}
 use Rattle.queue_paths.specs.Names.Part.{Bounce, Info, Intd, Local, Mess, Remote, Todo}
 use Rattle.queue_states.specs.declared.state.State.TheVariants.{S4}
 use Rattle.queue_states.specs.States.{is_there, state_of}
+use Rattle.send_core.specs.Stands.{ends_idle}
 use Rattle.send_parts.specs.declared.reply.Way.TheVariants as way
 use Rattle.send_parts.specs.Replies.{answered, said}
 use Rattle.world_events.specs.declared.event.Program.{Program}
@@ -39,7 +40,7 @@ use Rattle.mail_world.specs.History.{after as after_events}
 use Rattle.mail_world.specs.Untouched.{queue}
 use Rattle.scenario.specs.Deeds.{Deed, after, history_of}
 use Rattle.settle_law.specs.Queued.{RestsUnqueued}
-use Rattle.settle_law.specs.Rests.{BeginsTurn}
+use Rattle.settle_law.specs.Rests.{BeginsTurn, IsAtRest}
 use Rattle.settle_law.specs.Suffices.{desk_of}
 use Rattle.settle_law.specs.Well.{GoesWell, came_well, goes_well, is_well_answered}
 use Rattle.settle_law.proofs.Dirs.{same_dirs}
@@ -74,13 +75,13 @@ search_leaves : (d : Disk) (read : ℕ) (dir from : List ℕ) (got : GotData) (w
 search_leaves d read dir from (came.Answered told) wrote = refl
 search_leaves d read dir from got wrote = refl
 
-acted_leaves : (s : State) (a : List ℕ) (own : Own) (wrote : ℕ) (o : Option Actor) (dir from : List ℕ) → own.due ≡ needs.File (NextName dir from) → (acted s a own wrote o).disk ≡ s.disk
+pub acted_leaves : (s : State) (a : List ℕ) (own : Own) (wrote : ℕ) (o : Option Actor) (dir from : List ℕ) → own.due ≡ needs.File (NextName dir from) → (acted s a own wrote o).disk ≡ s.disk
 acted_leaves s a own wrote None dir from due = refl
 acted_leaves s a own wrote (Some x) dir from due = ap (λ (n : NeedData). disk_after s.disk own.read n own.came wrote) due ∙ search_leaves s.disk own.read dir from own.came wrote
 
 -- A message that waits to be preprocessed is a living one
 
-living_by : (controls : Controls) (s : State) (n file : ℕ) (role : ℕ → Role) → Phase controls (about (queue s role) n) → s.disk.names (path (Of Todo n)) ≡ Some file → (i : Injection) × (s.books.living n ≡ Some i)
+pub living_by : (controls : Controls) (s : State) (n file : ℕ) (role : ℕ → Role) → Phase controls (about (queue s role) n) → s.disk.names (path (Of Todo n)) ≡ Some file → (i : Injection) × (s.books.living n ≡ Some i)
 living_by controls s n file role (Free h) is = let here = find_some s.disk.names s.disk.files (Of Todo n) file is in let gone = h.no_todo in absurd (cc)
 living_by controls s n file role (Queued h) is = (h.taken.injection, h.taken.lives)
 living_by controls s n file role (Sorted h) is = let here = find_some s.disk.names s.disk.files (Of Todo n) file is in let gone = h.no_todo in absurd (cc)
@@ -99,7 +100,7 @@ waits_living controls d h n well e =
     living_by controls s n file.0 I.role (I.sound.fine n) file.1
 
 waits_small : (controls : Controls) (d : Disk) (h : List Event) (n : ℕ) → GoesWell controls d h → state_of (after_events d h).disk n ≡ S4 → n < 2 ^ 64
-waits_small controls d h n well e = let i = waits_living controls d h n well e in numbers_are_small d h well.legal well.well n i.0 i.1
+waits_small controls d h n well e = let i = waits_living controls d h n well e in (numbers_are_small d h well.legal well.well n i.0 i.1).1
 
 -- The directory is there
 
@@ -115,12 +116,18 @@ has_todo d h legal = subst (λ (l : List (List ℕ)). Contains l (codes "todo"))
 
 -- At the search that ended the idle turn
 
-record Searched (past : List Own) (own : Own) : Type 0 where
-  due : own.due ≡ needs.File (NextName (codes "todo") [])
-  missed : (said own.came).way ≢ way.Fine
+pub record Searched (p : Program) (past : List Own) (own : Own) : Type 0 where
+  pub start : ℕ
+  pub program : p ≡ Sender start
+  pub due : own.due ≡ needs.File (NextName (codes "todo") [])
+  pub rests : IsAtRest (desk_of past) own.read own.ready
+  pub missed : (said own.came).way ≢ way.Fine
+  pub ends : ends_idle (desk_of past) own ≡ true
 
-searched : (p : Program) (past : List Own) (own : Own) → BeginsTurn (desk_of past).row → next_of p past own.read own.ready ≡ own.due → idled_in p past own ≡ true → Searched past own
-searched (Sender start) past own begins next ends = record { due = sym next ∙ from_start (desk_of past) own begins ends; missed = (idle (desk_of past) own begins ends).no_name }
+pub searched : (p : Program) (past : List Own) (own : Own) → BeginsTurn (desk_of past).row → next_of p past own.read own.ready ≡ own.due → idled_in p past own ≡ true → Searched p past own
+searched (Sender start) past own begins next ends =
+    let it = idle (desk_of past) own begins ends in
+    record { start = start; program = refl; due = sym next ∙ from_start (desk_of past) own begins ends; rests = it.rests; missed = it.no_name; ends = ends }
 searched (Injector args) past own begins next ends = absurd (cc)
 searched (Cleaner start) past own begins next ends = absurd (cc)
 searched (LocalSpawner start) past own begins next ends = absurd (cc)
@@ -143,9 +150,7 @@ no_waiting controls d own wrote h well x is begins idled n e =
     none s.disk wrote fits n (waits_small controls d (Act (codes "sender") own wrote ∷ h) n well e) (ap (λ (disk : Disk). state_of disk n) (sym left) ∙ e)
 
 pub unqueued : RestsUnqueued
-unqueued controls d deed before rest x is begins n =
-    let own = rest.idle.own in
-    let wrote = rest.idle.wrote in
-    let well = subst (λ (e : Deed). GoesWell controls d (history_of (e ∷ before))) rest.idle.is rest.well in
-    subst (λ (e : Deed). state_of (after d (e ∷ before)).disk n ≢ S4) (sym rest.idle.is)
-    (no_waiting controls d own wrote (history_of before) well x is begins rest.idle.idle n)
+unqueued controls d deed before goes idle x is begins n =
+    let well = subst (λ (e : Deed). GoesWell controls d (history_of (e ∷ before))) idle.is goes in
+    subst (λ (e : Deed). state_of (after d (e ∷ before)).disk n ≢ S4) (sym idle.is)
+    (no_waiting controls d idle.own idle.wrote (history_of before) well x is begins idle.idle n)

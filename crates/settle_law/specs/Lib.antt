@@ -22,3 +22,25 @@ pub mod Promised
 pub mod Slots
 -- when known messages are due at the end of an idle turn
 pub mod Dues
+-- channel files that serve a sender
+pub mod Served
+-- when no finish was put off
+pub mod Finishes
+-- which channel files are gone
+pub mod Gone
+-- where what a sender has in flight is
+pub mod InHand
+-- when nothing is in flight at the end of an idle turn
+pub mod Free
+-- that who serves a sender lives as long as it
+pub mod Living
+-- which moments a sender is told
+pub mod Moments
+-- the names in `todo`
+pub mod Strays
+-- which births it keeps
+pub mod Births
+-- what is still to be proved of a rest
+pub mod Holds
+-- that no pass is begun while one is open
+pub mod Alone

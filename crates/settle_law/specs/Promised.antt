@@ -11,17 +11,20 @@ use Rattle.mail_world.specs.Readiness.{found_in}
 use Rattle.script_words.specs.declared.letter.Letter.{Letter}
 use Rattle.scenario.specs.Deeds.{Deed, after, history_of}
 use Rattle.scenario.specs.Turns.{IsSettled, Round, events_in, is_idle}
-use Rattle.settle_law.specs.Ends.{EndsIdle}
+use Rattle.settle_law.specs.Ends.{EndsIdle, FindsAll}
 use Rattle.settle_law.specs.Settled.{AllGone, Settled}
+use Rattle.settle_law.specs.Strays.{TodoIsEmpty}
 use Rattle.settle_law.specs.Suffices.{HasRest}
 use Rattle.settle_law.specs.Well.{AllSucceed, GoesWell}
 
 -- What is promised
 
--- `settle` with this letter made these rounds and printed nothing, and all went well until its end.
+-- `settle` with this letter made these rounds and printed nothing, and all went well until its end. The first disk had no name in `todo`, as an
+-- opening one may that is no number.
 pub record HasSettled (controls : Controls) (d : Disk) (h : List Deed) (letter : Letter) (rounds : List Round) : Type 0 where
   pub plan : Plan
   pub settles : IsSettled d h plan letter rounds []
+  pub empty : TodoIsEmpty d
   pub well : GoesWell controls d (history_of (events_in letter rounds ++ h))
 
 -- Then the state is settled.
@@ -41,10 +44,12 @@ pub record OthersWait (s : State) : Type 0 where
   pub waits : (a : List ℕ) (x : Actor) → s.actors a ≡ Some x → x.life ≡ Alive → a ≢ codes "sender" → CanNot s a (next_of x.program x.past s.now (found_in s a))
   pub reported : lowest_unreported 0 s ≡ None
 
--- All went well, the newest deed ended an idle turn of the sender, and nobody else has anything to do.
+-- The first disk had no name in `todo`, all went well, the newest deed ended an idle turn of the sender, which found all that was ready then, and nobody else has anything to do.
 pub record IsRest (controls : Controls) (d : Disk) (deed : Deed) (before : List Deed) : Type 0 where
+  pub empty : TodoIsEmpty d
   pub well : GoesWell controls d (history_of (deed ∷ before))
   pub idle : EndsIdle d deed before
+  pub finds : FindsAll (after d before) idle.own
   pub others : OthersWait (after d (deed ∷ before))
 
 -- After an idle round of `settle` nobody else has anything to do, whatever failed before.

@@ -1,5 +1,5 @@
 -- When a queue has come to rest (qmail-send(8); INTERNALS, sections 2 and 6).
-use Rattle.std.specs.Prelude.{◌≡◌, ◌⊎◌, ℕ, ◌<◌, List, [], ◌∷◌, false, Some, Contains, codes}
+use Rattle.std.specs.Prelude.{◌≡◌, ◌⊎◌, ℕ, ◌<◌, List, false, Some, Contains, codes}
 use Rattle.call_fs.specs.Disk.{Disk}
 use Rattle.call_fs.specs.declared.past.Own.{Own}
 use Rattle.envelope_records.specs.declared.channel.Record.{Record}

@@ -1,12 +1,23 @@
 // What `settle` leads to, as laws: contracts of functions that do nothing.
+ghost use Rattle.settle_law.specs.Alone.{PassesBeginAlone};
 ghost use Rattle.settle_law.specs.Begins.{SearchesBegin};
-ghost use Rattle.settle_law.specs.Dues.{RestsAreDue};
+ghost use Rattle.settle_law.specs.Births.{KnownAreBorn};
+ghost use Rattle.settle_law.specs.Dues.{KnownAreDue, RestsAreDue};
 ghost use Rattle.settle_law.specs.Ends.{SettleStops};
+ghost use Rattle.settle_law.specs.Finishes.{KnownFinishAtOnce};
+ghost use Rattle.settle_law.specs.Free.{OthersEnd, OthersRunNone, RestsFree};
+ghost use Rattle.settle_law.specs.Gone.{KnownAreGone};
+ghost use Rattle.settle_law.specs.Holds.{RestsHoldBy};
+ghost use Rattle.settle_law.specs.InHand.{FlightsAreInHand};
+ghost use Rattle.settle_law.specs.Living.{ServantsLive};
+ghost use Rattle.settle_law.specs.Moments.{PastsTellMoments};
 ghost use Rattle.settle_law.specs.Numbers.{NumbersAreSmall};
 ghost use Rattle.settle_law.specs.Promised.{IdleRoundsRest, RestsEnd};
 ghost use Rattle.settle_law.specs.Queued.{NoneIsQueued, RestsUnqueued};
 ghost use Rattle.settle_law.specs.Rests.{FreeChannelsRest, IdleTurnsRest, RestsStay};
+ghost use Rattle.settle_law.specs.Served.{PastsAreServed};
 ghost use Rattle.settle_law.specs.Slots.{RestsHaveSlots, SlotsAreAllowed};
+ghost use Rattle.settle_law.specs.Strays.{RestsBegin, TodoHasNumbers};
 ghost use Rattle.settle_law.specs.Suffices.{RestsSuffice};
 ghost use Rattle.settle_law.specs.Waiting.{SpawnersWait};
 
@@ -76,6 +87,41 @@ pub fn rests_have_slots()
     ensures { RestsHaveSlots }
 {}
 
+/// Where nothing fails each attempt in flight has just one request or report in hand, and a free slot none.
+pub fn flights_are_in_hand()
+    ensures { FlightsAreInHand }
+{}
+
+/// Where nothing fails each name that comes into `todo` is the number of a message.
+pub fn todo_has_numbers()
+    ensures { TodoHasNumbers }
+{}
+
+/// So the sender began a turn with the search that ended an idle one, if no todo pass was left.
+pub fn rests_begin()
+    ensures { RestsBegin }
+{}
+
+/// Where nothing fails the cleaner and the spawners of a living sender live.
+pub fn servants_live()
+    ensures { ServantsLive }
+{}
+
+/// If nobody but the sender has anything to do no program of a living spawner runs.
+pub fn others_run_none()
+    ensures { OthersRunNone }
+{}
+
+/// Then no injector of a mail lives either, nor who runs in a slot of a living spawner or delivery.
+pub fn others_end()
+    ensures { OthersEnd }
+{}
+
+/// At a rest nothing is in flight, if the sender began a turn with the search that ended it.
+pub fn rests_free()
+    ensures { RestsFree }
+{}
+
 /// Before the search that ends an idle turn the sender stands where a turn begins, or its first search goes on: from the start, since a number was
 /// left, or after a name that is no number.
 pub fn searches_begin()
@@ -86,4 +132,44 @@ pub fn searches_begin()
 /// after its last pass, or at once if it had none.
 pub fn rests_are_due()
     ensures { RestsAreDue }
+{}
+
+/// Where nothing fails the channel files of a sender serve it, so that nothing failed for any message by its past.
+pub fn pasts_are_served()
+    ensures { PastsAreServed }
+{}
+
+/// When a channel file was read for a pass none is open on that channel, and no attempt at its message is in flight there, whatever failed before.
+pub fn passes_begin_alone()
+    ensures { PassesBeginAlone }
+{}
+
+/// The birth of a known message is the moment at which its info file was last written, when a turn begins, whatever failed before.
+pub fn known_are_born()
+    ensures { KnownAreBorn }
+{}
+
+/// A known message that doesn't have its file of a channel has none there, when a turn begins, whatever failed before.
+pub fn known_are_gone()
+    ensures { KnownAreGone }
+{}
+
+/// Where nothing fails each known message may be finished at once, if each injector of a bounce whose status was taken had ended with 0.
+pub fn known_finish_at_once()
+    ensures { KnownFinishAtOnce }
+{}
+
+/// A sender is told only moments that a clock may tell, also of the info files that it looks at, and none that lies before an earlier one.
+pub fn pasts_tell_moments()
+    ensures { PastsTellMoments }
+{}
+
+/// So each known message is due where nothing fails.
+pub fn known_are_due()
+    ensures { KnownAreDue }
+{}
+
+/// What is still to be proved of a rest: of these facts come all those of which a settled state comes.
+pub fn rests_hold_by()
+    ensures { RestsHoldBy }
 {}

@@ -14,7 +14,8 @@
 //! - A state is settled if each message is gone, or is preprocessed and waits for its next retry on each channel on which a record of it reads
 //!   `T`, and on one at least: `Settled` (`specs/Settled.antt`).
 //! - It is if certain facts hold of it and of what the sender keeps: `rests_suffice`, by `HasRest` (`specs/Suffices.antt`). **That these facts
-//!   hold at the end of an idle round (`RestsHold`) is not proved**, but for what the following laws say of some.
+//!   hold at the end of an idle round (`RestsHold`) is not proved**, but if `FactsLeft` are facts they do: `rests_hold_by` (`specs/Holds.antt`), by
+//!   what the following laws say of the others.
 //! - At an event that is an idle turn by itself there is nothing for the sender to take, to mark, to give, to finish or to sweep, and `todo` gave no
 //!   name: `idle_turns_rest`. So it is after that event: `rests_stay`. Then no pass is open on a channel that has a slot and has nothing in flight,
 //!   and all that is due there is due later: `free_channels_rest` (`specs/Rests.antt`).
@@ -30,12 +31,35 @@
 //! - If a search of `todo` from the start gives no name, no message waits to be preprocessed: `none_is_queued`. So none does after a search that
 //!   ended an idle turn, if the sender stood where a turn begins and nothing failed: `rests_unqueued` (`specs/Queued.antt`).
 //! - Where nothing fails each message has a number that a program can name: `numbers_are_small` (`specs/Numbers.antt`).
+//! - Where nothing fails a sender that begins a turn has for each attempt in flight just one request that lies in the pipe of its spawner, or is
+//!   at work or runs there, or one report that isn't taken; for a free slot none: `flights_are_in_hand`, by `InHand` (`specs/InHand.antt`).
+//! - Where nothing fails each name that comes into `todo` is the number of a message: `todo_has_numbers`. So the sender stood where a turn
+//!   begins before the search that ended an idle one, if no todo pass was left: `rests_begin` (`specs/Strays.antt`). Both are said if `todo` was
+//!   empty at first: an opening disk may have other names there.
+//! - Where nothing fails the cleaner and the spawners live as long as the sender: `servants_live` (`specs/Living.antt`).
+//! - If nobody but the sender has anything to do no program of a living spawner runs: `others_run_none`. No injector of a mail lives then, nor who
+//!   runs in a slot of a living spawner or delivery: `others_end`. So after a search that ended an idle
+//!   turn nothing is in flight, if the sender stood where a turn begins and nothing failed: `rests_free` (`specs/Free.antt`).
+//! - Where nothing fails the channel files of a sender serve it, so that by its past nothing failed for a message on a channel:
+//!   `pasts_are_served` (`specs/Served.antt`).
+//! - Each moment that a sender is told is one that a clock may tell, and it reads none that lies before one that it read earlier, whatever fails:
+//!   `pasts_tell_moments` (`specs/Moments.antt`).
+//! - No pass is begun while one is open on its channel, or while an attempt at its message is in flight there, whatever failed before:
+//!   `passes_begin_alone` (`specs/Alone.antt`).
+//! - When a sender begins a turn a known message has no channel file but those that it is known to have, and its birth is the moment at which its
+//!   info file was last written, whatever failed before: `known_are_gone` (`specs/Gone.antt`) and `known_are_born` (`specs/Births.antt`).
+//! - Where nothing fails no finish is put off, if each bounce whose status was taken was accepted: `known_finish_at_once` (`specs/Finishes.antt`).
+//! - Where nothing fails each known message is due as a settled state asks, where a turn begins with a slot on each channel and nothing in flight:
+//!   `known_are_due` (`specs/Dues.antt`).
 #![tactic(auto)]
 
 mod laws;
 
 pub use laws::{
-    free_channels_rest, idle_rounds_rest, idle_turns_rest, none_is_queued, numbers_are_small,
-    rests_are_due, rests_end, rests_have_slots, rests_stay, rests_suffice, rests_unqueued,
-    searches_begin, settle_stops, slots_are_allowed, spawners_wait,
+    flights_are_in_hand, free_channels_rest, idle_rounds_rest, idle_turns_rest, known_are_born,
+    known_are_due, known_are_gone, known_finish_at_once, none_is_queued, numbers_are_small,
+    others_end, others_run_none, passes_begin_alone, pasts_are_served, pasts_tell_moments,
+    rests_are_due, rests_begin, rests_end, rests_free, rests_have_slots, rests_hold_by, rests_stay,
+    rests_suffice, rests_unqueued, searches_begin, servants_live, settle_stops, slots_are_allowed,
+    spawners_wait, todo_has_numbers,
 };
