@@ -39,6 +39,7 @@ use Rattle.settle_law.proofs.HasSlots.{rests_have_slots}
 use Rattle.settle_law.proofs.KnownBorn.{known_are_born}
 use Rattle.settle_law.proofs.KnownDue.{known_are_due}
 use Rattle.settle_law.proofs.KnownGone.{known_are_gone}
+use Rattle.settle_law.proofs.Passed.{passes_go_on}
 use Rattle.settle_law.proofs.Strays.{rests_begin}
 use Rattle.settle_law.proofs.Staying.{Keeps, ends_keep, rests_stay}
 use Rattle.settle_law.proofs.Unfailing.{known_finish_at_once}
@@ -111,7 +112,8 @@ module _ (controls : Controls) (d : Disk) (deed : Deed) (before : List Deed) (re
     run = subst (λ (p : Program). IsRunBy (next_of p) x.past) ended.1 (have_run d (history_of before) well.legal (codes "sender") x is)
 
     begins : BeginsTurn (desk_of x.past).row
-    begins = rests_begin controls d deed before rest.well rest.empty rest.idle x is left.none_left.0
+    begins = rests_begin controls d deed before rest.well rest.empty rest.idle x is
+        (passes_go_on controls d (history_of before) well (codes "sender") x ended.0 is ended.1 left.hears.0)
 
     it : Searched x.program x.past own
     it = searched x.program x.past own begins may.due (ap (λ (o : Option Actor). idled_by o own) (sym is) ∙ rest.idle.idle)

@@ -109,3 +109,11 @@ pub mod KnownDue
 pub mod Holding
 -- no pass is begun while one is open
 pub mod Alone
+-- what a cleaner answers
+pub mod Cleaned
+-- names of the files that preprocessing makes
+pub mod PartDirs
+-- when a todo pass is about to be left
+pub mod PassRows
+-- what leaves a todo pass
+pub mod Passed

@@ -73,8 +73,8 @@ module _ (controls : Controls) (ok : Event → Bool) (Q : State → Type 0) (P :
   event_holds (Moment m) s I w ran R well may = R
   event_holds (Halt how contents) s I w ran R well may = λ a x is. stops s R ran (s.actors a) x (R a) is
 
-  pub sender_pasts : (d : Disk) → AreControls controls d → ((h : List Event) → Legal d h → Q (after d h)) → (h : List Event) → Legal d h → list_all ok h ≡ true → AllHold (after d h).actors
+  pub sender_pasts : (d : Disk) → AreControls controls d → ((h : List Event) → Legal d h → list_all ok h ≡ true → Q (after d h)) → (h : List Event) → Legal d h → list_all ok h ≡ true → AllHold (after d h).actors
   sender_pasts d are facts [] legal well = λ a x is. absurd (cc)
   sender_pasts d are facts (e ∷ h) legal well =
       let parts = and_parts (ok e) (list_all ok h) well in
-      event_holds e (after d h) (always controls d h are legal.0) (facts h legal.0) (have_run d h legal.0) (sender_pasts d are facts h legal.0 parts.1) parts.0 legal.1
+      event_holds e (after d h) (always controls d h are legal.0) (facts h legal.0 parts.1) (have_run d h legal.0) (sender_pasts d are facts h legal.0 parts.1) parts.0 legal.1

@@ -236,4 +236,4 @@ pasts_are_served = record {
   all controls d h g a x start is program = sender_pasts controls goes_well (λ s. Unit {0}) (λ past. AreServed None past) tt
       (λ s I w a own wrote may start is well ran held. (held, served controls s I a own wrote may start is well))
       (λ s I w a own b program may start is ran held. (held, child_served s a own b program may start is))
-      d g.are (λ h legal. tt) h g.legal g.well a x is start program
+      d g.are (λ h legal well. tt) h g.legal g.well a x is start program

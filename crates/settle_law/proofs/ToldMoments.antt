@@ -68,4 +68,4 @@ pasts_tell_moments controls d h are legal a x start is program = sender_pasts co
       All-cons TellsMoments own may.actor.past (record { read = moment; came = subst (λ (due : NeedData). IsMomentOf due own.came) (sym may.starts) tt }) held.0,
       (held.1, all_before start own.read may.actor.past held.1 (subst (λ (p : Program). latest p may.actor.past ≤ own.read) is may.reads.no_earlier)),
     ))
-    d are (λ h legal. infos_bounded controls d are h legal) h legal (all_true h) a x is start program
+    d are (λ h legal well. infos_bounded controls d are h legal) h legal (all_true h) a x is start program

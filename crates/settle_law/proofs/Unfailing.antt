@@ -260,5 +260,5 @@ bears s a own b program may start is ran held =
 
 pub known_finish_at_once : KnownFinishAtOnce
 known_finish_at_once controls d h g a x start is program bounces k there =
-    let goes = sender_pasts controls goes_well (λ s. Unit {0}) Goes (refl, λ none n. tt) (λ s I w. acts controls s I) (λ s I w. bears s) d g.are (λ h legal. tt) h g.legal g.well a x is start program in
+    let goes = sender_pasts controls goes_well (λ s. Unit {0}) Goes (refl, λ none n. tt) (λ s I w. acts controls s I) (λ s I w. bears s) d g.are (λ h legal well. tt) h g.legal g.well a x is start program in
     finishes_at_once None x.past (subst (λ (p : Program). IsRunBy (next_of p) x.past) program (have_run d h g.legal a x is)) k there (goes.1 bounces k.n)

@@ -1,10 +1,9 @@
 -- Which facts of a rest aren't proved yet, and that all those of which a settled state comes follow from them.
-use Rattle.std.specs.Prelude.{◌≡◌, ◌≢◌, ℕ, List, ◌∷◌, true, Some, None, codes}
+use Rattle.std.specs.Prelude.{◌≡◌, ◌≢◌, ℕ, List, ◌∷◌, true, Some, codes}
 use Rattle.address_rules.specs.declared.controls.Controls.{Controls}
 use Rattle.call_fs.specs.Disk.{Disk}
 use Rattle.queue_states.specs.States.{state_of}
 use Rattle.queue_states.specs.declared.state.State.TheVariants.{S2, S3, S5}
-use Rattle.retry_law.specs.Left.{NoneLeft}
 use Rattle.retry_law.specs.Retries.{has_file}
 use Rattle.retry_law.specs.Tried.{tried_in}
 use Rattle.send_jobs.specs.declared.channels.Channel.{Channel}
@@ -12,6 +11,7 @@ use Rattle.send_known.specs.declared.known.Known.{Known}
 use Rattle.mail_world.specs.History.{Actor}
 use Rattle.scenario.specs.Deeds.{Deed, after}
 use Rattle.settle_law.specs.Finishes.{BouncesEnd}
+use Rattle.settle_law.specs.Passed.{AllHearWell}
 use Rattle.settle_law.specs.Promised.{IsRest, RestsHold}
 use Rattle.settle_law.specs.Settled.{HasUndone}
 use Rattle.settle_law.specs.Suffices.{IsKnown}
@@ -23,8 +23,8 @@ pub record IsLeft (d : Disk) (deed : Deed) (before : List Deed) (x : Actor) : Ty
   pub no_s3 : (n : ℕ) → state_of (after d (deed ∷ before)).disk n ≢ S3
   -- each message that is preprocessed is known
   pub known : (n : ℕ) → state_of (after d (deed ∷ before)).disk n ≡ S5 → (k : Known) × IsKnown x.past k × (k.n ≡ n)
-  -- no todo pass was left
-  pub none_left : NoneLeft None x.past
+  -- each todo pass read a todo text, and took `+` of the cleaner
+  pub hears : AllHearWell x.past
   -- each bounce was accepted
   pub bounces : BouncesEnd x.past
   -- a message that was tried on a channel and has a file there has a record that reads `T`

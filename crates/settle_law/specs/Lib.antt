@@ -44,3 +44,7 @@ pub mod Births
 pub mod Holds
 -- that no pass is begun while one is open
 pub mod Alone
+-- what a cleaner answers
+pub mod Cleaned
+-- what leaves a todo pass
+pub mod Passed

@@ -2,6 +2,7 @@
 ghost use Rattle.settle_law.specs.Alone.{PassesBeginAlone};
 ghost use Rattle.settle_law.specs.Begins.{SearchesBegin};
 ghost use Rattle.settle_law.specs.Births.{KnownAreBorn};
+ghost use Rattle.settle_law.specs.Cleaned.{CleanersAnswerWell};
 ghost use Rattle.settle_law.specs.Dues.{KnownAreDue, RestsAreDue};
 ghost use Rattle.settle_law.specs.Ends.{SettleStops};
 ghost use Rattle.settle_law.specs.Finishes.{KnownFinishAtOnce};
@@ -12,6 +13,7 @@ ghost use Rattle.settle_law.specs.InHand.{FlightsAreInHand};
 ghost use Rattle.settle_law.specs.Living.{ServantsLive};
 ghost use Rattle.settle_law.specs.Moments.{PastsTellMoments};
 ghost use Rattle.settle_law.specs.Numbers.{NumbersAreSmall};
+ghost use Rattle.settle_law.specs.Passed.{PassesGoOn};
 ghost use Rattle.settle_law.specs.Promised.{IdleRoundsRest, RestsEnd};
 ghost use Rattle.settle_law.specs.Queued.{NoneIsQueued, RestsUnqueued};
 ghost use Rattle.settle_law.specs.Rests.{FreeChannelsRest, IdleTurnsRest, RestsStay};
@@ -105,6 +107,16 @@ pub fn rests_begin()
 /// Where nothing fails the cleaner and the spawners of a living sender live.
 pub fn servants_live()
     ensures { ServantsLive }
+{}
+
+/// Where nothing fails a cleaner answers `+`, or `x` to what is no command.
+pub fn cleaners_answer_well()
+    ensures { CleanersAnswerWell }
+{}
+
+/// Where nothing fails no todo pass is left, if what it read is a todo text and the cleaner answered `+`.
+pub fn passes_go_on()
+    ensures { PassesGoOn }
 {}
 
 /// If nobody but the sender has anything to do no program of a living spawner runs.

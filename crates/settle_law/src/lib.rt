@@ -37,6 +37,9 @@
 //!   begins before the search that ended an idle one, if no todo pass was left: `rests_begin` (`specs/Strays.antt`). Both are said if `todo` was
 //!   empty at first: an opening disk may have other names there.
 //! - Where nothing fails the cleaner and the spawners live as long as the sender: `servants_live` (`specs/Living.antt`).
+//! - Where nothing fails a cleaner answers `+`, or `x` to what is no command: `cleaners_answer_well` (`specs/Cleaned.antt`).
+//! - Where nothing fails no todo pass is left but for what was read, which isn't a todo text, or for an answer of the cleaner that isn't `+`:
+//!   `passes_go_on` (`specs/Passed.antt`).
 //! - If nobody but the sender has anything to do no program of a living spawner runs: `others_run_none`. No injector of a mail lives then, nor who
 //!   runs in a slot of a living spawner or delivery: `others_end`. So after a search that ended an idle
 //!   turn nothing is in flight, if the sender stood where a turn begins and nothing failed: `rests_free` (`specs/Free.antt`).
@@ -56,10 +59,11 @@
 mod laws;
 
 pub use laws::{
-    flights_are_in_hand, free_channels_rest, idle_rounds_rest, idle_turns_rest, known_are_born,
-    known_are_due, known_are_gone, known_finish_at_once, none_is_queued, numbers_are_small,
-    others_end, others_run_none, passes_begin_alone, pasts_are_served, pasts_tell_moments,
-    rests_are_due, rests_begin, rests_end, rests_free, rests_have_slots, rests_hold_by, rests_stay,
-    rests_suffice, rests_unqueued, searches_begin, servants_live, settle_stops, slots_are_allowed,
-    spawners_wait, todo_has_numbers,
+    cleaners_answer_well, flights_are_in_hand, free_channels_rest, idle_rounds_rest,
+    idle_turns_rest, known_are_born, known_are_due, known_are_gone, known_finish_at_once,
+    none_is_queued, numbers_are_small, others_end, others_run_none, passes_begin_alone,
+    passes_go_on, pasts_are_served, pasts_tell_moments, rests_are_due, rests_begin, rests_end,
+    rests_free, rests_have_slots, rests_hold_by, rests_stay, rests_suffice, rests_unqueued,
+    searches_begin, servants_live, settle_stops, slots_are_allowed, spawners_wait,
+    todo_has_numbers,
 };
