@@ -16,18 +16,28 @@ use Rattle.qmail_top.specs.SafePlays.{IsSafePrefixAtMost, PrintsSafely, WorksSaf
 use Rattle.qmail_top.specs.Command.{Counted, HasReason, status_of, IsReading, IsChecked}
 use Rattle.scenario.specs.Deeds.{history_of}
 use Rattle.scenario.specs.Working.{PrintsWorked, deeds_of, is_quiet}
-use Rattle.scenario.specs.Text.{BeginsAtMost, IsPrefixAtMost, Prints, script_line, IsTakenText, PrintsBadLine}
+use Rattle.scenario.specs.Text.{BeginsAtMost, HasFewDeeds, HaveFewDeeds, IsPrefixAtMost, Prints, script_line, IsTakenText, PrintsBadLine}
 use Rattle.script_lines.proofs.Scripts.{no_refusal}
+use Rattle.scenario.proofs.OneText.{few_printed}
 use Rattle.scenario.proofs.WholePlays.{prefix_at_most}
 
 -- a script that was read is all that its source had
-reading-script : (before after bytes : List ℕ) (content : Content) → IsReading before after bytes → IsScript bytes content → ¬ (IsRefused before)
-reading-script before after bytes content reading script =
-    let all : before ≡ bytes = ⊎_elim
+all_read : (before after bytes : List ℕ) (content : Content) → IsReading before after bytes → IsScript bytes content → before ≡ bytes
+all_read before after bytes content reading script = ⊎_elim
     (λ end. reading.taken ∙ ap (λ t. bytes ++ t) end ∙ append-nil bytes)
     (λ over. let most = script.short in absurd (omega arith))
-    reading.enough in
-    subst (λ (t : List ℕ). ¬ (IsRefused t)) (sym all) (no_refusal bytes content script)
+    reading.enough
+
+reading-script : (before after bytes : List ℕ) (content : Content) → IsReading before after bytes → IsScript bytes content → ¬ (IsRefused before)
+reading-script before after bytes content reading script =
+    subst (λ (t : List ℕ). ¬ (IsRefused t)) (sym (all_read before after bytes content reading script)) (no_refusal bytes content script)
+
+-- however it is played, fewer deeds are done than a memory holds
+pub few_said : (before after : Option (List ℕ)) (bytes : List ℕ) (content : Content) → Meets before after (λ old new. IsReading old new bytes) → IsScript bytes content → HaveFewDeeds content.opening content.lines
+    → OnTold before HasFewDeeds
+few_said (Some before) (Some after) bytes content reading script few = subst HasFewDeeds (sym (all_read before after bytes content reading script)) (few_printed bytes content script few)
+few_said (Some before) None bytes content reading script few = absurd reading
+few_said None after bytes content reading script few = tt
 
 -- so it is none that is refused
 pub checked_script : (before after : Option (List ℕ)) (bytes : List ℕ) (content : Content) (result : Result (Unit {0}) Failure) → Meets before after (λ old new. IsReading old new bytes) → IsScript bytes content → (result ≡ Err Malformed → ⊥) → OnTold before (λ old. IsChecked old result)

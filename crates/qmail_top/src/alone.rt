@@ -9,7 +9,7 @@ ghost use Rattle.command_words.specs.declared.command.SendWords.{SendWords as Se
 ghost use Rattle.command_words.specs.Reads.{IsNoCommand};
 ghost use Rattle.script_lines.specs.Contents.{Content};
 ghost use Rattle.script_lines.specs.Lines.{IsScript, IsRefused, most_bytes};
-ghost use Rattle.scenario.specs.Text.{IsTakenText, PrintsBadLine};
+ghost use Rattle.scenario.specs.Text.{HasFewDeeds, IsTakenText, PrintsBadLine};
 ghost use Rattle.audit_command.specs.Audited.{HasAudited};
 ghost use Rattle.local_command.specs.Delivered.{WasDelivered};
 ghost use Rattle.local_parts.specs.Arguments.{local_args};
@@ -145,6 +145,7 @@ pub fn qmail_alone<
     ensures prints { IsPlay words.now → OnTold (M.left message.old) (λ script. result ≡ DONE
         → Meets (O.taken out.old) (O.taken out.new)
         (λ before after. (text : List ℕ) × PrintsSafely script text × (after ≡ before ++ text))) }
+    ensures few { IsPlay words.now → OnTold (M.left message.old) (λ script. result ≡ DONE → HasFewDeeds script) }
     ensures begins { IsPlay words.now → OnTold (M.left message.old) (λ script. result ≢ DONE → result ≢ MALFORMED
         → Meets (O.taken out.old) (O.taken out.new)
         (λ before after. (text : List ℕ) × IsSafePrefixAtMost script text × (after ≡ before ++ text))) }

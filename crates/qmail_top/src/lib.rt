@@ -34,7 +34,8 @@
 //!   in todo. With 91 the number of the first bad line, or a prefix of that if the output failed; with any other
 //!   status nothing, or a prefix of what the script prints. And nothing before the source has answered that it has
 //!   ended, if it tells that, or the script was too long: `qmail`: `prints`, `ended`, `told_end`, `begins`,
-//!   `refuses`, `reached`, `unended`.
+//!   `refuses`, `reached`, `unended`. With status 0 fewer than 2^63 deeds were done, so that each new file's number is below
+//!   2^64: `few`. By that `settle_law` says what each `settle` line leads to (`lines_settle`).
 //! - `play`: 91 only if the script isn't one, and then never 0 or 53; 53 and 54 only if that count rose, or stands
 //!   at its last value, and 51 only if neither did. A script that was read gives 0 or 51 if no count rose: `qmail`:
 //!   `malformed`, `checked`, `output`, `input`, `unfailed`, `complete`, `known`.

@@ -3,7 +3,7 @@ ghost use Rattle.std.specs.Prelude.{◌≡◌, ◌≢◌, ◌⊎◌, ◌++◌, �
 ghost use Rattle.mail_bytes.specs.Told.{Rose, Meets, OnTold};
 ghost use Rattle.script_lines.specs.Contents.{Content};
 ghost use Rattle.script_lines.specs.Lines.{IsScript, IsRefused, most_bytes};
-ghost use Rattle.scenario.specs.Text.{Prints, BeginsAtMost, PrintsBadLine};
+ghost use Rattle.scenario.specs.Text.{HasFewDeeds, Prints, BeginsAtMost, PrintsBadLine};
 ghost use Rattle.qmail_top.specs.SafePlays.{IsSafePrefixAtMost, PrintsSafely};
 ghost use Rattle.qmail_top.specs.Command.{IsReading, IsChecked, IsPrintedAtEnd, HasReason, NoneFailed, IsBeforeOutput, status_of};
 
@@ -30,6 +30,7 @@ pub fn play_script<M: Source, O: Sink>(alloc: Global, message: &mut M, out: &mut
     // what is printed
     ensures prints { OnTold (M.left message.old) (λ script. result ≡ DONE → Meets (O.taken out.old) (O.taken out.new)
         (λ before after. (text : List ℕ) × PrintsSafely script text × (after ≡ before ++ text))) }
+    ensures few { OnTold (M.left message.old) (λ script. result ≡ DONE → HasFewDeeds script) }
     ensures begins { OnTold (M.left message.old) (λ script. result ≢ DONE → result ≢ MALFORMED
         → Meets (O.taken out.old) (O.taken out.new)
         (λ before after. (text : List ℕ) × IsSafePrefixAtMost script text × (after ≡ before ++ text))) }
@@ -93,6 +94,7 @@ fn play_message<M: Source, O: Sink>(
 ) -> Result<(), Failure>
     ensures prints { OnTold (M.left message.old) (λ script. OnOk result (Meets (O.taken out.old) (O.taken out.new)
         (λ before after. (text : List ℕ) × Prints script text × (after ≡ before ++ text)))) }
+    ensures few { OnTold (M.left message.old) (λ script. OnOk result (HasFewDeeds script)) }
     ensures begins { OnTold (M.left message.old) (λ script. IfErr result (λ why. why ≢ Failure.Malformed
         → Meets (O.taken out.old) (O.taken out.new)
         (λ before after. (text : List ℕ) × BeginsAtMost script text × (after ≡ before ++ text)))) }

@@ -1,5 +1,5 @@
 -- A script prints one text.
-use Rattle.std.proofs.Common.{◌≡◌, ℕ, ◌<◌, List, [], ◌∷◌, ◌++◌, Bool, false, Option, Some, None, sym, ap, ◌∙◌, subst, inl, inr, arith, append_assoc}
+use Rattle.std.proofs.Common.{◌≡◌, ℕ, ◌<◌, ◌^◌, length, List, [], ◌∷◌, ◌++◌, Bool, false, Option, Some, None, sym, ap, ◌∙◌, subst, inl, inr, arith, append_assoc}
 use Rattle.call_fs.specs.Disk.{Disk}
 use Rattle.mail_bytes.specs.Decimal.{digits}
 use Rattle.call_fs.specs.Choices.{AreNamed, contents_by}
@@ -20,12 +20,13 @@ use Rattle.script_lines.specs.declared.keyword.OfMoment.TheVariants as of_moment
 use Rattle.script_lines.specs.declared.keyword.OfSurvival.TheVariants as of_survival
 use Rattle.script_lines.specs.declared.keyword.OfWord.TheVariants as of_word
 use Rattle.script_lines.specs.Contents.{Content}
+use Rattle.script_lines.specs.Lines.{IsScript}
 use Rattle.scenario.specs.Deeds.{Deed, after, history_of}
 use Rattle.scenario.specs.Deeds.Deed.{Came}
 use Rattle.scenario.specs.FirstDisk.{IsFirstDisk}
 use Rattle.scenario.specs.Played.{Outcome, StopsAlive, StopComesTo, MomentComesTo, NumberComesTo, plan_after, outcome_events, printed, next_pid, Plays, PlaysAll}
 use Rattle.scenario.specs.Traced.{traced_after, traced_text}
-use Rattle.scenario.specs.Text.{IsPlayed, Prints, IsBegun, BeginsToPrint, IsPrefix}
+use Rattle.scenario.specs.Text.{HasFewDeeds, HaveFewDeeds, IsPlayed, Prints, IsBegun, BeginsToPrint, IsPrefix}
 use Rattle.scenario.specs.Turns.{events_of, text_of, events_in}
 use Rattle.scenario.proofs.OneStep.{one_step, one_start, one_run}
 use Rattle.scenario.proofs.OneTurn.{one_turn, one_settled}
@@ -154,7 +155,17 @@ pub one_list : (opening : List Entry) (lines : List Line) (t u : List ℕ) (p : 
 one_list opening lines t u p q =
     one_end q.disk [] no_plan false lines p.deeds q.deeds p.left q.left t u (all_from opening p.disk q.disk lines p.deeds p.left t p.is_first q.is_first p.plays) q.plays
 
+-- so if one play of them has few deeds each has
+pub few_played : (opening : List Entry) (lines : List Line) (text : List ℕ) (played : IsPlayed opening lines text) → length played.deeds < 2 ^ 63 → HaveFewDeeds opening lines
+few_played opening lines text played few other again = subst (λ (l : List Deed). length l < 2 ^ 63) (one_list opening lines text other played again) few
+
 -- Scripts
+
+pub few_printed : (script : List ℕ) (content : Content) → IsScript script content → HaveFewDeeds content.opening content.lines → HasFewDeeds script
+few_printed script content says few text prints =
+    let same = one_script script content prints.content says prints.says in
+    let these : HaveFewDeeds prints.content.opening prints.content.lines = subst (λ (c : Content). HaveFewDeeds c.opening c.lines) same few in
+    these text prints.played
 
 pub one_text : (script a b : List ℕ) → Prints script a → Prints script b → a ≡ b
 one_text script a b p q =

@@ -27,7 +27,7 @@ use Rattle.scenario.proofs.LastingFiles.{AreLasting, lasting_empty, lasting_put}
 -- Paths
 
 -- the first byte of a path
-abbrev first : List ℕ → ℕ
+abbrev pub first : List ℕ → ℕ
 first [] = 0
 first (b ∷ text) = b
 
@@ -45,7 +45,7 @@ entry_first text is =
     subst (λ t. (first t ≡ 99) ⊎ ((first t ≡ 117) ⊎ ((first t ≡ 104) ⊎ (first t ≡ 112)))) (sym is.path_is)
     (first_of_dir is.dir (47 ∷ is.below) (contains_among entry_dirs is.dir is.is_dir))
 
-none_of : (b : ℕ) (text : List ℕ) → first text ≡ b → b ≢ 99 → b ≢ 117 → b ≢ 104 → b ≢ 112 → ¬ (IsEntryPath text)
+pub none_of : (b : ℕ) (text : List ℕ) → first text ≡ b → b ≢ 99 → b ≢ 117 → b ≢ 104 → b ≢ 112 → ¬ (IsEntryPath text)
 none_of b text is c u h p entry =
     ⊎_elim (λ e. c (sym is ∙ e)) (λ more. ⊎_elim (λ e. u (sym is ∙ e)) (λ more. ⊎_elim (λ e. h (sym is ∙ e)) (λ e. p (sym is ∙ e)) more) more) (entry_first text entry)
 

@@ -1,5 +1,5 @@
 -- The parts of a turn and the rounds of `settle`, one after the other.
-use Rattle.std.proofs.Common.{◌≡◌, ◌≢◌, ◌⊎◌, inl, inr, ⊎_elim, ℕ, ◌+◌, ◌<◌, List, [], ◌∷◌, ◌++◌, length, Bool, true, false, ◌&&◌, ◌||◌, Some, None, refl, sym, ap, ◌∙◌, subst, arith, append_assoc}
+use Rattle.std.proofs.Common.{◌≡◌, ◌≢◌, ◌⊎◌, inl, inr, ⊎_elim, ℕ, ◌+◌, ◌<◌, ◌≤◌, List, [], ◌∷◌, ◌++◌, length, Bool, true, false, ◌&&◌, ◌||◌, Some, None, refl, sym, ap, ◌∙◌, subst, arith, append_assoc}
 use Rattle.std.specs.Prelude.{codes}
 use Rattle.std.proofs.lemmas.List.{append-nil}
 use Rattle.call_fs.specs.Disk.{Disk}
@@ -15,11 +15,11 @@ use Rattle.scenario.specs.Chains.{EachFollows}
 use Rattle.scenario.specs.Deeds.{Deed, event_in, after}
 use Rattle.scenario.specs.Steps.{plan_through, plan_by, idles, has_idled, refusal_line}
 use Rattle.scenario.specs.Steps.Refusal.{Rounds}
-use Rattle.scenario.specs.Turns.{next_living, NoneBefore, Part, events_of, text_of, place_after, AreParts, Round, reports_of, slot_after, ReportsOn, AreReported, AreReportsAfter, round_events, are_searches, is_idle, has_bytes, events_in, is_last, most_rounds, SettlesOn}
+use Rattle.scenario.specs.Turns.{next_living, NoneBetween, Part, events_of, text_of, place_after, AreParts, Round, reports_of, slot_after, ReportsOn, AreReported, AreReportsAfter, round_events, are_searches, is_idle, has_bytes, events_in, is_last, most_rounds, SettlesOn}
 use Rattle.scenario.specs.Turns.Settles.{Rests, Full}
-use Rattle.scenario.proofs.DeadStarts.{none_skipped, none_stays}
+use Rattle.scenario.proofs.DeadStarts.{none_skipped, passed_stays}
 use Rattle.scenario.specs.Playing.{IsPlaying, HasRun, HasPlayed}
-use Rattle.scenario.specs.inside.Playing.{HasParted, HasTurned, HasReported, HasRounded}
+use Rattle.scenario.specs.inside.Playing.{HasParted, HasTurned, HasReported, HasRounded, NonePassed}
 
 -- What events leave of a plan, in two steps
 pub plan_through-append : (plan : Plan) (later before : List Deed) → plan_through plan (later ++ before) ≡ plan_through (plan_through plan before) later
@@ -35,17 +35,26 @@ playing_on d w plan later before h playing =
 
 -- Parts
 
--- So many parts were run, which printed nothing; the next one is the first from this place on.
-pub record HasTurnedOn (d : Disk) (h : List Deed) (plan : Plan) (w : Seen Crash) (idle : Bool) (from : ℕ) : Type 0 where
+-- So many parts were run, which printed nothing; the next one is the first from this place on. None lives where the turn doesn't look.
+pub record HasTurnedOn (d : Disk) (h : List Deed) (plan : Plan) (w : Seen Crash) (first later : ℕ) (idle : Bool) (from : ℕ) : Type 0 where
   pub parts : List Part
   pub are : AreParts d h plan parts
   pub quiet : text_of parts ≡ []
   pub idled : idle ≡ has_idled d h (events_of parts)
   pub next_is : next_living d (events_of parts ++ h) (place_after parts) ≡ next_living d (events_of parts ++ h) from
+  pub none : NonePassed d (events_of parts ++ h) first later
   pub playing : IsPlaying d w (plan_through plan (events_of parts)) (events_of parts ++ h)
 
-abbrev pub turn_begins : (d : Disk) (h : List Deed) (plan : Plan) (w : Seen Crash) (first : ℕ) → IsPlaying d w plan h → NoneBefore d h first → HasTurnedOn d h plan w false first
-turn_begins d h plan w first playing none = record { parts = []; are = tt; quiet = refl; idled = refl; next_is = none_skipped d h first none; playing = playing }
+abbrev pub turn_begins : (d : Disk) (h : List Deed) (plan : Plan) (w : Seen Crash) (first later : ℕ) → IsPlaying d w plan h → NonePassed d h first later → HasTurnedOn d h plan w first later false first
+turn_begins d h plan w first later playing none = record {
+  parts = [];
+  are = tt;
+  quiet = refl;
+  idled = refl;
+  next_is = none_skipped d h 0 first (omega arith) none.0;
+  none = none;
+  playing = playing;
+}
 
 -- the newest event of a turn is that of the part, if it has one
 pub idled_on : (d : Disk) (h : List Deed) (events before : List Deed) (was now : Bool) → was ≡ has_idled d h before
@@ -59,18 +68,19 @@ abbrev part_of : List ℕ → ℕ → List Deed → List ℕ → Part
 part_of a place events text = record { actor = a; place = place; events = events; text = text }
 
 -- one part more
-pub record OnePart (d : Disk) (h : List Deed) (plan : Plan) (v : Seen Crash) (now : Bool) (place : ℕ) (own : List ℕ) : Type 0 where
+pub record OnePart (d : Disk) (h : List Deed) (plan : Plan) (v : Seen Crash) (first later : ℕ) (now : Bool) (place : ℕ) (own : List ℕ) : Type 0 where
   pub parts : List Part
   pub are : AreParts d h plan parts
   pub printed : text_of parts ≡ own
   pub idled : now ≡ has_idled d h (events_of parts)
   pub place_is : place + 1 ≡ place_after parts
+  pub none : NonePassed d (events_of parts ++ h) first later
   pub playing : IsPlaying d v (plan_through plan (events_of parts)) (events_of parts ++ h)
 
-abbrev pub one_part : (d : Disk) (h : List Deed) (plan : Plan) (w v : Seen Crash) (was now : Bool) (from place : ℕ) (a before after_text : List ℕ) (turn : HasTurnedOn d h plan w was from)
+abbrev pub one_part : (d : Disk) (h : List Deed) (plan : Plan) (w v : Seen Crash) (was now : Bool) (first later from place : ℕ) (a before after_text : List ℕ) (turn : HasTurnedOn d h plan w first later was from)
     → next_living d (events_of turn.parts ++ h) from ≡ Some (a, place) → (part : HasParted d v a was now before after_text (plan_through plan (events_of turn.parts)) (events_of turn.parts ++ h))
-    → OnePart d h plan v now place part.own
-one_part d h plan w v was now from place a before after_text turn next part = record {
+    → OnePart d h plan v first later now place part.own
+one_part d h plan w v was now first later from place a before after_text turn next part = record {
   parts = part_of a place part.events part.own ∷ turn.parts;
   are = (
     turn.are,
@@ -83,37 +93,45 @@ one_part d h plan w v was now from place a before after_text turn next part = re
   printed = refl;
   idled = idled_on d h part.events (events_of turn.parts) was now turn.idled part.idled;
   place_is = refl;
+  none = subst (λ (l : List Deed). NonePassed d l first later) (sym (append_assoc part.events (events_of turn.parts) h))
+      (passed_stays d w v (plan_through plan (events_of turn.parts)) (plan_through (plan_through plan (events_of turn.parts)) part.events) part.events (events_of turn.parts ++ h) first later
+      turn.playing part.playing turn.none);
   playing = playing_on d v plan part.events (events_of turn.parts) h part.playing;
 }
 
-abbrev pub part_goes_on : (d : Disk) (h : List Deed) (plan : Plan) (v : Seen Crash) (now : Bool) (place from : ℕ) (own : List ℕ) → (part : OnePart d h plan v now place own) → own ≡ [] → from ≡ place + 1
-    → HasTurnedOn d h plan v now from
-part_goes_on d h plan v now place from own part none next = record {
+-- the turn goes on from a place: from the next one to it none lives
+abbrev pub part_goes_on : (d : Disk) (h : List Deed) (plan : Plan) (v : Seen Crash) (now : Bool) (first later more place next from : ℕ) (own : List ℕ) (part : OnePart d h plan v first later now place own)
+    → own ≡ [] → next ≡ place + 1 → next ≤ from → NonePassed d (events_of part.parts ++ h) first more × NoneBetween d (events_of part.parts ++ h) next from
+    → HasTurnedOn d h plan v first more now from
+part_goes_on d h plan v now first later more place next from own part quiet is rises none = record {
   parts = part.parts;
   are = part.are;
-  quiet = part.printed ∙ none;
+  quiet = part.printed ∙ quiet;
   idled = part.idled;
-  next_is = ap (next_living d (events_of part.parts ++ h)) (sym (next ∙ part.place_is));
+  next_is = ap (next_living d (events_of part.parts ++ h)) (sym (is ∙ part.place_is)) ∙ none_skipped d (events_of part.parts ++ h) next from rises none.1;
+  none = none.0;
   playing = part.playing;
 }
 
 -- the turn is over: a part printed something, or no living actor is left
-abbrev pub turn_printed : (d : Disk) (h : List Deed) (plan : Plan) (v : Seen Crash) (now : Bool) (place : ℕ) (own before after_text : List ℕ) → (part : OnePart d h plan v now place own) → own ≢ []
-    → after_text ≡ before ++ own → HasTurned d v now before after_text plan h
-turn_printed d h plan v now place own before after_text part some text = record {
+abbrev pub turn_printed : (d : Disk) (h : List Deed) (plan : Plan) (v : Seen Crash) (now : Bool) (first later place : ℕ) (own before after_text : List ℕ) → (part : OnePart d h plan v first later now place own) → own ≢ []
+    → after_text ≡ before ++ own → HasTurned d v first later now before after_text plan h
+turn_printed d h plan v now first later place own before after_text part some text = record {
   parts = part.parts;
   turn = record { are = part.are; over = inl (λ e. some (sym part.printed ∙ e)) };
   idled = part.idled;
+  none = part.none;
   playing = part.playing;
   text = text ∙ ap (λ t. before ++ t) (sym part.printed);
 }
 
-abbrev pub turn_rests : (d : Disk) (h : List Deed) (plan : Plan) (w : Seen Crash) (idle : Bool) (from : ℕ) (text : List ℕ) (turn : HasTurnedOn d h plan w idle from)
-    → next_living d (events_of turn.parts ++ h) from ≡ None → HasTurned d w idle text text plan h
-turn_rests d h plan w idle from text turn none = record {
+abbrev pub turn_rests : (d : Disk) (h : List Deed) (plan : Plan) (w : Seen Crash) (idle : Bool) (first later from : ℕ) (text : List ℕ) (turn : HasTurnedOn d h plan w first later idle from)
+    → next_living d (events_of turn.parts ++ h) from ≡ None → HasTurned d w first later idle text text plan h
+turn_rests d h plan w idle first later from text turn none = record {
   parts = turn.parts;
   turn = record { are = turn.are; over = inr (turn.next_is ∙ none) };
   idled = turn.idled;
+  none = turn.none;
   playing = turn.playing;
   text = sym (append-nil text) ∙ ap (λ t. text ++ t) (sym turn.quiet);
 }
@@ -131,9 +149,9 @@ run_parted d w a was idle now before after_text plan h run which = record {
 }
 
 -- a turn as a line
-abbrev pub turn_played : (d : Disk) (w : Seen Crash) (plan : Plan) (idle : Bool) (before after_text : List ℕ) (h : List Deed) → HasTurned d w idle before after_text plan h
+abbrev pub turn_played : (d : Disk) (w : Seen Crash) (plan : Plan) (first later : ℕ) (idle : Bool) (before after_text : List ℕ) (h : List Deed) → HasTurned d w first later idle before after_text plan h
     → HasPlayed d w (line.Alone alone.Turn) before after_text plan h
-turn_played d w plan idle before after_text h turn = record {
+turn_played d w plan first later idle before after_text h turn = record {
   events = events_of turn.parts;
   own = text_of turn.parts;
   plays = (turn.parts, turn.turn, refl, refl);
@@ -186,14 +204,15 @@ pub bytes_some : (text : List ℕ) → text ≢ [] → has_bytes text ≡ true
 bytes_some [] some = absurd (some refl)
 bytes_some (b ∷ text) some = refl
 
-abbrev pub round_printed : (d : Disk) (w : Seen Crash) (letter : Letter) (idle : Bool) (before after_text : List ℕ) (plan : Plan) (h : List Deed) (turn : HasTurned d w idle before after_text plan h)
-    → text_of turn.parts ≢ [] → HasRounded d w letter true before after_text plan h
-round_printed d w letter idle before after_text plan h turn some =
+abbrev pub round_printed : (d : Disk) (w : Seen Crash) (first later : ℕ) (letter : Letter) (idle : Bool) (before after_text : List ℕ) (plan : Plan) (h : List Deed) (turn : HasTurned d w first later idle before after_text plan h)
+    → text_of turn.parts ≢ [] → HasRounded d w first later letter true before after_text plan h
+round_printed d w first later letter idle before after_text plan h turn some =
     let round : Round = record { parts = turn.parts; slots = [] } in
     record {
       round = round;
       is = record { turn = turn.turn; reports = reports_none d (events_of turn.parts ++ h) letter (text_of turn.parts) some };
       is_last = sym (ap (λ t. t || is_idle d h letter round) (bytes_some (text_of turn.parts) some));
+      none = turn.none;
       playing = turn.playing;
       text = turn.text;
     }
@@ -218,50 +237,54 @@ pub reports_after : (d : Disk) (h : List Deed) (letter : Letter) (text slots : L
 reports_after d h letter [] slots none reported = reported
 reports_after d h letter (b ∷ text) slots none reported = absurd (cc)
 
-abbrev pub round_reported : (d : Disk) (w v : Seen Crash) (letter : Letter) (idle searches : Bool) (before after_text : List ℕ) (plan : Plan) (h : List Deed) (turn : HasTurned d w idle before after_text plan h)
+abbrev pub round_reported : (d : Disk) (w v : Seen Crash) (first later : ℕ) (letter : Letter) (idle searches : Bool) (before after_text : List ℕ) (plan : Plan) (h : List Deed) (turn : HasTurned d w first later idle before after_text plan h)
     → text_of turn.parts ≡ [] → (told : HasReported d v letter (plan_through plan (events_of turn.parts)) (events_of turn.parts ++ h))
-    → searches ≡ are_searches (reports_of letter told.slots ++ events_of turn.parts) → HasRounded d v letter (idle && searches) before after_text plan h
-round_reported d w v letter idle searches before after_text plan h turn quiet told all =
+    → searches ≡ are_searches (reports_of letter told.slots ++ events_of turn.parts) → HasRounded d v first later letter (idle && searches) before after_text plan h
+round_reported d w v first later letter idle searches before after_text plan h turn quiet told all =
     let round : Round = record { parts = turn.parts; slots = told.slots } in
     record {
       round = round;
       is = record { turn = turn.turn; reports = reports_after d (events_of turn.parts ++ h) letter (text_of turn.parts) told.slots quiet told.reported };
       is_last = round_idle d h letter idle searches turn.parts told.slots turn.idled all ∙ sym (ap (λ t. has_bytes t || is_idle d h letter round) quiet);
+      none = subst (λ (l : List Deed). NonePassed d l first later) (sym (append_assoc (reports_of letter told.slots) (events_of turn.parts) h))
+          (passed_stays d w v (plan_through plan (events_of turn.parts)) (plan_through plan (events_of turn.parts)) (reports_of letter told.slots) (events_of turn.parts ++ h) first later
+          turn.playing told.playing turn.none);
       playing = playing_on d v plan (reports_of letter told.slots) (events_of turn.parts) h
           (subst (λ (p : Plan). IsPlaying d v p (reports_of letter told.slots ++ (events_of turn.parts ++ h))) (sym (plan_reports (plan_through plan (events_of turn.parts)) letter told.slots)) told.playing);
       text = turn.text;
     }
 
--- So many rounds were made, none of which was the last one; no actor that lives started before that first place.
-pub record HasSettledOn (d : Disk) (h : List Deed) (plan : Plan) (letter : Letter) (w : Seen Crash) (made first : ℕ) : Type 0 where
+-- So many rounds were made, none of which was the last one; none lives where the next one's turn doesn't look.
+pub record HasSettledOn (d : Disk) (h : List Deed) (plan : Plan) (letter : Letter) (w : Seen Crash) (made first later : ℕ) : Type 0 where
   pub rounds : List Round
   pub are : EachFollows (SettlesOn d h plan letter) rounds
   pub more : is_last d h letter rounds ≡ false
   pub count : length rounds ≡ made
-  pub none : NoneBefore d (events_in letter rounds ++ h) first
+  pub none : NonePassed d (events_in letter rounds ++ h) first later
   pub playing : IsPlaying d w (plan_through plan (events_in letter rounds)) (events_in letter rounds ++ h)
 
-abbrev pub settle_begins : (d : Disk) (h : List Deed) (plan : Plan) (letter : Letter) (w : Seen Crash) → IsPlaying d w plan h → HasSettledOn d h plan letter w 0 0
-settle_begins d h plan letter w playing = record { rounds = []; are = tt; more = refl; count = refl; none = tt; playing = playing }
+pub none_yet : (d : Disk) (h : List Deed) → NonePassed d h 0 0
+none_yet d h = (λ n low less. absurd (omega arith), λ n low less. absurd (omega arith))
+
+abbrev pub settle_begins : (d : Disk) (h : List Deed) (plan : Plan) (letter : Letter) (w : Seen Crash) → IsPlaying d w plan h → HasSettledOn d h plan letter w 0 0 0
+settle_begins d h plan letter w playing = record { rounds = []; are = tt; more = refl; count = refl; none = none_yet d h; playing = playing }
 
 -- one round more
-abbrev pub settle_goes_on : (d : Disk) (h : List Deed) (plan : Plan) (letter : Letter) (w v : Seen Crash) (made was first : ℕ) (before after_text : List ℕ) (so : HasSettledOn d h plan letter w made was) → made < most_rounds d h
-    → NoneBefore d (events_in letter so.rounds ++ h) first
-    → HasRounded d v letter false before after_text (plan_through plan (events_in letter so.rounds)) (events_in letter so.rounds ++ h) → HasSettledOn d h plan letter v (made + 1) first
-settle_goes_on d h plan letter w v made was first before after_text so low none round = record {
+abbrev pub settle_goes_on : (d : Disk) (h : List Deed) (plan : Plan) (letter : Letter) (w v : Seen Crash) (made was had first later : ℕ) (before after_text : List ℕ) (so : HasSettledOn d h plan letter w made was had)
+    → made < most_rounds d h → HasRounded d v first later letter false before after_text (plan_through plan (events_in letter so.rounds)) (events_in letter so.rounds ++ h)
+    → HasSettledOn d h plan letter v (made + 1) first later
+settle_goes_on d h plan letter w v made was had first later before after_text so low round = record {
   rounds = round.round ∷ so.rounds;
   are = (so.are, record { few = let same = so.count in omega arith; more = so.more; is = round.is });
   more = sym round.is_last;
   count = let same = so.count in omega arith;
-  none = subst (λ (l : List Deed). NoneBefore d l first) (sym (append_assoc (round_events letter round.round) (events_in letter so.rounds) h))
-      (none_stays d w v (plan_through plan (events_in letter so.rounds)) (plan_through (plan_through plan (events_in letter so.rounds)) (round_events letter round.round)) (round_events letter round.round)
-      (events_in letter so.rounds ++ h) first so.playing round.playing none);
+  none = subst (λ (l : List Deed). NonePassed d l first later) (sym (append_assoc (round_events letter round.round) (events_in letter so.rounds) h)) round.none;
   playing = playing_on d v plan (round_events letter round.round) (events_in letter so.rounds) h round.playing;
 }
 
-abbrev pub settle_rests : (d : Disk) (h : List Deed) (plan : Plan) (letter : Letter) (w v : Seen Crash) (made was : ℕ) (before after_text : List ℕ) (so : HasSettledOn d h plan letter w made was) → made < most_rounds d h
-    → HasRounded d v letter true before after_text (plan_through plan (events_in letter so.rounds)) (events_in letter so.rounds ++ h) → HasPlayed d v (line.Letter of_letter.Settle letter) before after_text plan h
-settle_rests d h plan letter w v made was before after_text so low round = record {
+abbrev pub settle_rests : (d : Disk) (h : List Deed) (plan : Plan) (letter : Letter) (w v : Seen Crash) (made was had first later : ℕ) (before after_text : List ℕ) (so : HasSettledOn d h plan letter w made was had)
+    → made < most_rounds d h → HasRounded d v first later letter true before after_text (plan_through plan (events_in letter so.rounds)) (events_in letter so.rounds ++ h) → HasPlayed d v (line.Letter of_letter.Settle letter) before after_text plan h
+settle_rests d h plan letter w v made was had first later before after_text so low round = record {
   events = events_in letter (round.round ∷ so.rounds);
   own = text_of round.round.parts;
   plays = (
@@ -276,9 +299,9 @@ settle_rests d h plan letter w v made was before after_text so low round = recor
   text = round.text;
 }
 
-abbrev pub settle_full : (d : Disk) (h : List Deed) (plan : Plan) (letter : Letter) (w : Seen Crash) (made was : ℕ) (text : List ℕ) (so : HasSettledOn d h plan letter w made was) → made ≡ most_rounds d h
+abbrev pub settle_full : (d : Disk) (h : List Deed) (plan : Plan) (letter : Letter) (w : Seen Crash) (made was had : ℕ) (text : List ℕ) (so : HasSettledOn d h plan letter w made was had) → made ≡ most_rounds d h
     → HasPlayed d w (line.Letter of_letter.Settle letter) text (text ++ refusal_line Rounds (codes "settle")) plan h
-settle_full d h plan letter w made was text so full = record {
+settle_full d h plan letter w made was had text so full = record {
   events = events_in letter so.rounds;
   own = refusal_line Rounds (codes "settle");
   plays = (so.rounds, record { are = so.are; stops = Full so.more (so.count ∙ full) refl }, refl);

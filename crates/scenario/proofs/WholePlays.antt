@@ -206,7 +206,7 @@ moment_kept d h m outcome so moment comes = ⊎_elim
     comes
 
 -- the number of a line that sets the moment is one
-abbrev HasMoment : Line → Type 0
+abbrev pub HasMoment : Line → Type 0
 HasMoment (line.Mail name message envelope) = Unit {0}
 HasMoment (line.Alone first) = Unit {0}
 HasMoment (line.Actor first a) = Unit {0}
@@ -217,7 +217,7 @@ HasMoment (line.Word first read) = Unit {0}
 HasMoment (line.Letter first letter) = Unit {0}
 HasMoment (line.Report slot letter text) = Unit {0}
 
-abbrev HaveMoments : List Line → Type 0
+abbrev pub HaveMoments : List Line → Type 0
 HaveMoments [] = Unit {0}
 HaveMoments (one ∷ lines) = HasMoment one × HaveMoments lines
 
@@ -238,11 +238,11 @@ have_moments [] (one ∷ lines) are = absurd are
 have_moments (text ∷ texts) [] are = tt
 have_moments (text ∷ texts) (one ∷ lines) are = (has_moment text one are.0, have_moments texts lines are.1)
 
-moments_in : (first later : List Line) → HaveMoments (first ++ later) → HaveMoments first × HaveMoments later
+pub moments_in : (first later : List Line) → HaveMoments (first ++ later) → HaveMoments first × HaveMoments later
 moments_in [] later have = (tt, have)
 moments_in (one ∷ first) later have = let rest = moments_in first later have.1 in ((have.0, rest.0), rest.1)
 
-line_kept : (d : Disk) (h : List Deed) (plan : Plan) (one : Line) (events : List Deed) (text : List ℕ) → Goes d h → HasMoment one
+pub line_kept : (d : Disk) (h : List Deed) (plan : Plan) (one : Line) (events : List Deed) (text : List ℕ) → Goes d h → HasMoment one
     → Plays d h plan one events text → Goes d (events ++ h)
 line_kept d h plan (line.Mail name message envelope) events text so fits plays =
     same_events d h events (outcome_events plays.0) plays.2 (start_kept d h name message envelope plays.0 so plays.1)
@@ -290,7 +290,7 @@ plays_on d h plan traced (first ∷ lines) so fit =
       plays = (one.0, one.1, rest.text, one.2, rest.plays, refl);
     }
 
-all_kept : (d : Disk) (h : List Deed) (plan : Plan) (traced : Bool) (lines : List Line) (end : List Deed) (left : Plan) (text : List ℕ) → Goes d h
+pub all_kept : (d : Disk) (h : List Deed) (plan : Plan) (traced : Bool) (lines : List Line) (end : List Deed) (left : Plan) (text : List ℕ) → Goes d h
     → HaveMoments lines → PlaysAll d h plan traced lines end left text → Goes d end
 all_kept d h plan traced [] end left text so fit plays = subst (λ (l : List Deed). Goes d l) (sym plays.0) so
 all_kept d h plan traced (first ∷ lines) end left text so fit plays =
@@ -318,7 +318,7 @@ one_after_other d h plan traced (one ∷ first) later mid end left last text mor
   ap (λ (t : List ℕ). t ++ more) before.5 ∙ append_assoc (traced_text traced before.0 ++ before.1) before.2 more,
 )
 
-goes_first : (opening : List Entry) (d : Disk) → HaveEntryPaths opening → IsFirstDisk opening d → Goes d []
+pub goes_first : (opening : List Entry) (d : Disk) → HaveEntryPaths opening → IsFirstDisk opening d → Goes d []
 goes_first opening d paths first =
     let ready = is_ready opening d paths first in
     record {
@@ -382,7 +382,7 @@ has_whole_play opening lines begun paths have cut =
       (cut.rest ++ more.text, ap (λ (t : List ℕ). t ++ more.text) cut.text_is ∙ append_assoc begun cut.rest more.text),
     )
 
-said_moments : (script : List ℕ) (content : Content) → IsScript script content → HaveMoments content.lines
+pub said_moments : (script : List ℕ) (content : Content) → IsScript script content → HaveMoments content.lines
 said_moments script content says = have_moments says.are.later content.lines says.are.are_lines
 
 -- each script has a text

@@ -1,5 +1,5 @@
 -- What a script prints.
-use Rattle.std.specs.Prelude.{◌≡◌, ◌⊎◌, ℕ, List, [], ◌++◌, false, codes}
+use Rattle.std.specs.Prelude.{◌≡◌, ◌⊎◌, ℕ, ◌<◌, ◌^◌, List, [], ◌++◌, length, false, codes}
 use Rattle.mail_bytes.specs.Decimal.{digits}
 use Rattle.call_fs.specs.Disk.{Disk}
 use Rattle.call_fs.specs.Plan.{Plan, no_plan}
@@ -27,6 +27,13 @@ pub record Prints (script text : List ℕ) : Type 0 where
   pub content : Content
   pub says : IsScript script content
   pub played : IsPlayed content.opening content.lines text
+
+-- However these lines are played from the disk with these entries, or the script with these bytes, fewer than 2^63 deeds are done.
+abbrev pub HaveFewDeeds : List Entry → List Line → Type 0
+HaveFewDeeds opening lines = (text : List ℕ) (played : IsPlayed opening lines text) → length played.deeds < 2 ^ 63
+
+abbrev pub HasFewDeeds : List ℕ → Type 0
+HasFewDeeds script = (text : List ℕ) (prints : Prints script text) → length prints.played.deeds < 2 ^ 63
 
 -- a text begins with this prefix
 abbrev pub IsPrefix : List ℕ → List ℕ → Type 0

@@ -1,5 +1,5 @@
 -- Generations, and what runs more than one actor: a turn, and the rounds of `settle`.
-use Rattle.std.specs.Prelude.{◌≡◌, ◌≢◌, ◌⊎◌, ℕ, zero, suc, ◌+◌, ◌*◌, ◌<◌, List, [], ◌∷◌, ◌++◌, length, map, Bool, true, false, not, ◌&&◌, ◌||◌, Option, Some, None, if◌then◌else◌, bytes_eq, codes, nat_lt}
+use Rattle.std.specs.Prelude.{◌≡◌, ◌≢◌, ◌⊎◌, ℕ, zero, suc, ◌+◌, ◌*◌, ◌<◌, ◌≤◌, List, [], ◌∷◌, ◌++◌, length, map, Bool, true, false, not, ◌&&◌, ◌||◌, Option, Some, None, if◌then◌else◌, bytes_eq, codes, nat_lt}
 use Rattle.std.specs.List.{count_by, sum_by, list_any, list_all}
 use Rattle.call_fs.specs.Disk.{Disk}
 use Rattle.call_fs.specs.Plan.{Plan}
@@ -82,15 +82,15 @@ next_in s from at (a ∷ later) = if is_next s from at a later then Some (a, at)
 abbrev pub next_living : Disk → List Deed → ℕ → Option (List ℕ × ℕ)
 next_living d h from = next_in (after d h) from 0 (starts_of h)
 
--- none of the first so many of these starts is the newest of an actor that lives
-abbrev pub NoneAmong : State → ℕ → List (List ℕ) → Type 0
-NoneAmong s zero starts = Unit {0}
-NoneAmong s (suc n) [] = ⊥
-NoneAmong s (suc n) (a ∷ later) = ((not (list_any (bytes_eq a) later) && lives_in (s.actors a)) ≡ false) × NoneAmong s n later
+-- one of these starts has this place, and isn't the newest of an actor that lives
+abbrev pub IsDeadAt : State → ℕ → List (List ℕ) → Type 0
+IsDeadAt s n [] = ⊥
+IsDeadAt s zero (a ∷ later) = (not (list_any (bytes_eq a) later) && lives_in (s.actors a)) ≡ false
+IsDeadAt s (suc n) (a ∷ later) = IsDeadAt s n later
 
--- no actor that lives started at a place before this one, which is a place of a start or the next one
-abbrev pub NoneBefore : Disk → List Deed → ℕ → Type 0
-NoneBefore d h place = NoneAmong (after d h) place (starts_of h)
+-- no actor that lives started at a place from `low` on before `high`
+abbrev pub NoneBetween : Disk → List Deed → ℕ → ℕ → Type 0
+NoneBetween d h low high = (n : ℕ) → low ≤ n → n < high → IsDeadAt (after d h) n (starts_of h)
 
 -- a part of a turn: the run of that actor, which has that place in the order of starts; its deeds, newest first, and what it prints
 pub record Part : Type 0 where

@@ -1,6 +1,5 @@
 // Playing a script.
 ghost use Rattle.std.specs.Prelude.{◌≡◌, ◌≢◌, ◌++◌, [], List, ℕ, take, IsOk, IfOk, IfErr, OnOk, OnErr, Err};
-ghost use Rattle.mail_bytes.specs.Decimal.{digits};
 ghost use Rattle.call_fs.specs.Disk.{Disk};
 ghost use Rattle.call_fs.specs.Plan.{Plan};
 ghost use Rattle.mail_bytes.specs.Told.{Rose, Meets};
@@ -10,13 +9,12 @@ ghost use Rattle.script_lines.specs.declared.keyword.OfActor.TheVariants as OfAc
 ghost use Rattle.script_lines.specs.declared.keyword.OfCount.TheVariants as OfCountOf;
 ghost use Rattle.script_lines.specs.declared.keyword.OfMoment.TheVariants as OfMomentOf;
 ghost use Rattle.script_lines.specs.declared.keyword.OfSurvival.TheVariants as OfSurvivalOf;
-ghost use Rattle.scenario.specs.Played.{Refusal, refusal_line};
 ghost use Rattle.scenario.specs.inside.Playing.{IsPlaying, HasPlayed, HasPrinted};
-ghost use Rattle.scenario.specs.Text.{IsPlayed, IsBegun};
+ghost use Rattle.scenario.specs.Text.{HaveFewDeeds, IsPlayed, IsBegun};
 
 use crate::generating::{begin, report};
 use crate::opening_disk::first_disk;
-use crate::refusing::refuse;
+use crate::refusing::{refuse, refuse_number};
 use crate::showing::{cat, show};
 use crate::stepping::{run, step};
 use crate::summing::sum;
@@ -29,9 +27,11 @@ use mail_bytes::{ByteText, Memory};
 use mail_world::{ActorName, World, WorldError};
 use outside::{Gave, Sink};
 use script_lines::{Alone, Line, OfActor, OfCount, OfLetter, OfMoment, OfSurvival, OfWord};
-use script_traces::put_number;
 use script_words::{Count, Moment};
 use std::alloc::{AllocError, Global};
+
+/// With so many events a play is out of memory: none holds them. So it ends with fewer, and each file that it made has a number below 2^64.
+const TOO_MANY: usize = 0x8000_0000_0000_0000;
 
 /// Plays a script over a new disk in memory that holds its entries, and gives the sink what its lines print, one line
 /// after the other; a line that prints nothing gives it nothing. `Failed` only if the sink's count of failures rose; it
@@ -40,10 +40,9 @@ pub fn play<O: Sink>(alloc: Global, script: Script, out: &mut O) -> Result<(), P
     ensures cause { IfErr result (λ why. why ≡ PlayError.Failed → Rose (O.faults out.old) (O.faults out.new)) }
     ensures unfailed { result ≢ Err PlayError.Failed → O.faults out.new ≡ O.faults out.old }
     ensures silent { OnOk result ((text : List ℕ) × IsPlayed script.opening script.lines text × (text ≡ [] → out.new ≡ out.old)) }
-    ensures played { OnOk result (Meets (O.taken out.old) (O.taken out.new)
-        (λ before after. (text : List ℕ) × IsPlayed script.opening script.lines text × (after ≡ before ++ text))) }
-    ensures begun { OnErr result (Meets (O.taken out.old) (O.taken out.new)
-        (λ before after. (text : List ℕ) × IsBegun script.opening script.lines text × (after ≡ before ++ text))) }
+    ensures played { OnOk result (Meets (O.taken out.old) (O.taken out.new) (λ before after. (text : List ℕ) × IsPlayed script.opening script.lines text × (after ≡ before ++ text))) }
+    ensures begun { OnErr result (Meets (O.taken out.old) (O.taken out.new) (λ before after. (text : List ℕ) × IsBegun script.opening script.lines text × (after ≡ before ++ text))) }
+    ensures few { OnOk result (HaveFewDeeds script.opening script.lines) }
 {
     let mut world = World::new(alloc, first_disk(alloc, script.opening())?)?;
     let mut traced = false;
@@ -51,6 +50,9 @@ pub fn play<O: Sink>(alloc: Global, script: Script, out: &mut O) -> Result<(), P
         let text = printed(alloc, &mut world, traced, line)?;
         give(out, &text)?;
         traced = traced_after(traced, line);
+    }
+    if world.history().len() >= TOO_MANY {
+        return Err(PlayError::Memory);
     }
     Ok(())
 }
@@ -231,18 +233,8 @@ fn pick(world: &mut World<CrashDisk>, number: Count, text: &mut Vec<u8>) -> Resu
 {
     match world.pick(number.number()) {
         Ok(()) => Ok(()),
-        Err(Taken) => put_taken(text, number.number()),
+        Err(Taken) => refuse_number(text, b"taken", number.number()),
     }
-}
-
-/// Puts the line of a number that is in use at the end of a text.
-fn put_taken(text: &mut Vec<u8>, number: u64) -> Result<(), Memory>
-    ensures { OnOk result (text.new.items ≡ text.old.items ++ refusal_line Refusal.Taken (digits number)) }
-{
-    text.extend_from_slice(b"refused taken ")?;
-    put_number(text, number)?;
-    text.push(b'\n')?;
-    Ok(())
 }
 
 /// Sets the moment, or puts the line of its refusal at the end of a text.
@@ -256,18 +248,8 @@ fn set_moment(
 {
     match world.moment(moment.seconds()) {
         Ok(()) => Ok(()),
-        Err(WorldError::Past(present)) => put_past(text, present),
+        Err(WorldError::Past(present)) => refuse_number(text, b"past", present),
         // out of memory, and no other
         Err(_) => Err(AllocError),
     }
-}
-
-/// Puts the line of a moment that lies before the present one at the end of a text.
-fn put_past(text: &mut Vec<u8>, present: u64) -> Result<(), Memory>
-    ensures { OnOk result (text.new.items ≡ text.old.items ++ refusal_line Refusal.Past (digits present)) }
-{
-    text.extend_from_slice(b"refused past ")?;
-    put_number(text, present)?;
-    text.push(b'\n')?;
-    Ok(())
 }

@@ -1,9 +1,10 @@
 // The lines of refusals.
 ghost use Rattle.std.specs.Prelude.{◌≡◌, ◌++◌, OnOk, codes};
+ghost use Rattle.mail_bytes.specs.Decimal.{digits};
 ghost use Rattle.scenario.specs.Steps.{Refusal, IsRefusalOf, refusal_line};
 ghost use Rattle.scenario.specs.Shown.{line_of};
 
-use mail_bytes::Memory;
+use mail_bytes::{Memory, dec};
 use mail_world::{ActorName, WorldError};
 use queue_states::put_line;
 use std::alloc::AllocError;
@@ -29,4 +30,13 @@ pub fn put_refusal(text: &mut Vec<u8>, word: &[u8], name: &[u8]) -> Result<(), M
 {
     text.extend_from_slice(b"refused ")?;
     put_line(text, word, name)
+}
+
+/// The same, with a number for a name.
+pub fn refuse_number(text: &mut Vec<u8>, word: &[u8], number: u64) -> Result<(), Memory>
+    ensures { OnOk result (text.new.items ≡ text.old.items ++ (codes "refused " ++ line_of word.now (digits number))) }
+{
+    let mut digits = [0; 20];
+    let len = dec(number, &mut digits);
+    put_refusal(text, word, &digits[..len])
 }

@@ -1,5 +1,5 @@
 // Turns, and the rounds of `settle`.
-ghost use Rattle.std.specs.Prelude.{◌≡◌, ◌+◌, ◌*◌, List, drop, length, IfOk, OnOk};
+ghost use Rattle.std.specs.Prelude.{◌≡◌, ◌≤◌, ◌+◌, ◌*◌, List, drop, IfOk, OnOk};
 ghost use Rattle.std.specs.List.{sum_by};
 ghost use Rattle.call_fs.specs.Disk.{Disk};
 ghost use Rattle.call_fs.specs.Plan.{Plan};
@@ -8,8 +8,8 @@ ghost use Rattle.scenario.specs.Deeds.{Deed};
 ghost use Rattle.script_lines.specs.declared.line.Line.TheVariants as LineOf;
 ghost use Rattle.script_lines.specs.declared.keyword.Alone.TheVariants as AloneOf;
 ghost use Rattle.script_lines.specs.declared.keyword.OfLetter.TheVariants as OfLetterOf;
-ghost use Rattle.scenario.specs.inside.Playing.{IsPlaying, HasPlayed, HasTurned, HasParted, HasRounded, HasReported, are_searches_kept, is_first_kept, is_search_kept};
-ghost use Rattle.scenario.specs.Turns.{counted, is_first_call, is_search_call, NoneBefore};
+ghost use Rattle.scenario.specs.inside.Playing.{IsPlaying, HasPlayed, HasTurned, HasParted, HasRounded, HasReported, NonePassed, are_searches_kept, is_first_kept, is_search_kept};
+ghost use Rattle.scenario.specs.Turns.{counted, is_first_call, is_search_call, NoneBetween};
 
 use crate::refusing::put_refusal;
 use crate::stepping::run;
@@ -26,6 +26,9 @@ const FIRST_ROUNDS: u64 = 100;
 
 const MORE_ROUNDS: u64 = 40;
 
+/// How many actors a generation starts, one after the other.
+const CREW: u64 = 4;
+
 /// Plays a turn: each living actor runs once, in order of start.
 pub fn play_turn(
     alloc: Global,
@@ -35,13 +38,14 @@ pub fn play_turn(
     ensures { OnOk result ((d : Disk) (plan : Plan) (h : List Deed) → IsPlaying d world.old plan h
         → HasPlayed d world.new (LineOf.Alone AloneOf.Turn) text.old.items text.new.items plan h) }
 {
-    turn(alloc, world, 0, text)?;
+    turn(alloc, world, 0, &mut 0, text)?;
     Ok(())
 }
 
 /// Where the first living actor from this place on in the order of starts started; the place itself if none did.
 fn first_place(world: &World<CrashDisk>, from: u64) -> u64
-    ensures { (d : Disk) (plan : Plan) (h : List Deed) → IsPlaying d world.now plan h → NoneBefore d h from → NoneBefore d h result }
+    ensures none { (d : Disk) (plan : Plan) (h : List Deed) → IsPlaying d world.now plan h → NoneBetween d h from result }
+    ensures rises { from ≤ result }
 {
     match world.next_living(from) {
         Some((_, place)) => place,
@@ -49,16 +53,18 @@ fn first_place(world: &World<CrashDisk>, from: u64) -> u64
     }
 }
 
-/// Each living actor runs once, in order of start, until one has made the most steps. None of them started before that first place. Tells
-/// whether the newest event of the turn ended an idle turn of a sender.
+/// Each living actor runs once, in order of start, until one has made the most steps. None of them started before that first place, or
+/// after the generation there and before that later place, which the turn moves on. Tells whether the newest event of the turn ended an
+/// idle turn of a sender.
 fn turn(
     alloc: Global,
     world: &mut World<CrashDisk>,
     first: u64,
+    later: &mut u64,
     text: &mut Vec<u8>,
 ) -> Result<bool, Memory>
-    ensures { IfOk result (λ idle. (d : Disk) (plan : Plan) (h : List Deed) → IsPlaying d world.old plan h → NoneBefore d h first
-        → HasTurned d world.new idle text.old.items text.new.items plan h) }
+    ensures { IfOk result (λ idle. (d : Disk) (plan : Plan) (h : List Deed) → IsPlaying d world.old plan h → NonePassed d h first later.old
+        → HasTurned d world.new first later.new idle text.old.items text.new.items plan h) }
 {
     let start = text.len();
     let mut idle = false;
@@ -71,11 +77,23 @@ fn turn(
         if text.len() > start {
             return Ok(idle);
         }
-        let Some(next) = place.checked_add(1) else {
-            return Err(AllocError);
-        };
-        from = next;
+        let next = place.checked_add(1).ok_or(AllocError)?;
+        from = past(world, first, later, next);
     }
+}
+
+/// The place to go on from: this one; if it is where the generation's last actor has just run, that later place, which first moves on to the
+/// next living actor.
+fn past(world: &World<CrashDisk>, first: u64, later: &mut u64, next: u64) -> u64
+    ensures none { (d : Disk) (plan : Plan) (h : List Deed) → IsPlaying d world.now plan h → NonePassed d h first later.old
+        → NonePassed d h first later.new × NoneBetween d h next result }
+    ensures rises { next ≤ result }
+{
+    if next.saturating_sub(first) != CREW {
+        return next;
+    }
+    *later = first_place(world, next.max(*later));
+    *later
 }
 
 /// The next living actor in order of start, from a place on, and its place.
@@ -97,19 +115,12 @@ fn run_part(
     ensures { IfOk result (λ now. (d : Disk) (plan : Plan) (h : List Deed) → IsPlaying d world.old plan h
         → HasParted d world.new actor.now idle now text.old.items text.new.items plan h) }
 {
-    let before = kept_in(world);
+    let before = world.history().len();
     let ran = run(alloc, world, actor, text)?;
-    if kept_in(world) == before {
+    if world.history().len() == before {
         return Ok(idle);
     }
     Ok(ran)
-}
-
-/// How many events a world keeps.
-fn kept_in(world: &World<CrashDisk>) -> usize
-    ensures { result ≡ length world.now.events }
-{
-    world.history().len()
 }
 
 /// Plays `settle`: rounds of a turn and of reports with this letter, until one makes only an idle turn of the sender.
@@ -123,9 +134,10 @@ pub fn settle(
         → HasPlayed d world.new (LineOf.Letter OfLetterOf.Settle letter) text.old.items text.new.items plan h) }
 {
     let mut first = 0;
+    let mut later = 0;
     for _ in 0..most_rounds(world.books().entries())? {
         first = first_place(world, first);
-        if round(alloc, world, first, letter, text)? {
+        if round(alloc, world, first, &mut later, letter, text)? {
             return Ok(());
         }
     }
@@ -155,22 +167,23 @@ fn with_entry(count: u64, entry: &Entry) -> Result<u64, Memory>
     count.checked_add(more).ok_or(AllocError)
 }
 
-/// One round: a turn, in which no actor runs that started before that first place, and then a report for each program of the remote spawner
-/// that has none. Tells whether it is the last one: something was printed, or nothing happened but an idle turn of the sender, or what was
-/// left of one.
+/// One round: a turn, which passes over the actors that started before that first place, and those after the generation there and before
+/// that later place, and then a report for each program of the remote spawner that has none. Tells whether it is the last one: something
+/// was printed, or nothing happened but an idle turn of the sender, or what was left of one.
 fn round(
     alloc: Global,
     world: &mut World<CrashDisk>,
     first: u64,
+    later: &mut u64,
     letter: Letter,
     text: &mut Vec<u8>,
 ) -> Result<bool, Memory>
-    ensures { IfOk result (λ last. (d : Disk) (plan : Plan) (h : List Deed) → IsPlaying d world.old plan h → NoneBefore d h first
-        → HasRounded d world.new letter last text.old.items text.new.items plan h) }
+    ensures { IfOk result (λ last. (d : Disk) (plan : Plan) (h : List Deed) → IsPlaying d world.old plan h → NonePassed d h first later.old
+        → HasRounded d world.new first later.new letter last text.old.items text.new.items plan h) }
 {
     let start = text.len();
     let before = world.history().len();
-    let idle = turn(alloc, world, first, text)?;
+    let idle = turn(alloc, world, first, later, text)?;
     if text.len() > start {
         return Ok(true);
     }

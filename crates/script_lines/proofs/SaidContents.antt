@@ -54,13 +54,19 @@ length_completed (b ∷ bytes) = by (last_of b bytes == 10)
     by true = let e = length-append (b ∷ bytes) [] in omega arith
     by false = let e = length-append (b ∷ bytes) (10 ∷ []) in omega arith
 
-pub said_few : (script : List ℕ) (content : Content) → IsScript script content → length content.opening < 2 ^ 64
-said_few script content says =
+-- so there are no more entries than bytes, and one
+pub said_short : (script : List ℕ) (content : Content) → IsScript script content → length content.opening ≤ length script + 1
+said_short script content says =
     let entries = AllZip-long IsEntryLine says.are.first content.opening says.are.are_entries in
     let split = ap length says.are.split ∙ length-append says.are.first says.are.later in
     let some = length_kept says.texts in
     let texts = length_ended says.texts in
     let whole = ap length says.whole in
     let bytes = length_completed script in
+    omega arith
+
+pub said_few : (script : List ℕ) (content : Content) → IsScript script content → length content.opening < 2 ^ 64
+said_few script content says =
+    let entries = said_short script content says in
     let short = says.short in
     omega arith

@@ -386,17 +386,29 @@ module _ (c : Channel) (past mine : List Own) (told asks : List ℕ) (P : Posts 
             (same_heard a b P.requests P.given told heard (kept_limit it a (untaken it is)) (kept_flights it a is) a.heard P.heard));
       }
 
-  pub sent_posts : (own : Own) (wrote : ℕ) → IsRunBy (Next None) (own ∷ past) → came_well own.came ≡ true
-      → (own.due ≡ needs.Take (port_of c) → (bytes : List ℕ) → own.came ≡ came.Took bytes → IsTaken told bytes)
-      → ((text : List ℕ) → own.due ≡ needs.Give (port_of c) text → AsksFor c (desk_of past) text) → ((text : List ℕ) → own.due ≡ needs.Give (port_of c) text → IsShort text)
-      → Posts c (own ∷ past) mine (told_on c own.due own.came told) (asked_on c own.due own.came wrote asks)
-  sent_posts own wrote run well takes gives shorts = by (turned c own.due own.came)
-    where
-      by : Turned c own.due own.came → Posts c (own ∷ past) mine (told_on c own.due own.came told) (asked_on c own.due own.came wrote asks)
-      by (Hears bytes due got) = hears own wrote bytes due got (takes due bytes got)
-      by (Asks text due got) = asks_one own wrote text due got run (gives text due) (shorts text due)
-      by (Fails got) = absurd (false≢true (ap came_well (sym got) ∙ well))
-      by (Aside still same none) = aside own wrote still (same told) (none wrote asks)
+  module _ (own : Own) (wrote : ℕ) (run : IsRunBy (Next None) (own ∷ past)) (well : came_well own.came ≡ true)
+      (takes : own.due ≡ needs.Take (port_of c) → (bytes : List ℕ) → own.came ≡ came.Took bytes → IsTaken told bytes)
+      (gives : (text : List ℕ) → own.due ≡ needs.Give (port_of c) text → AsksFor c (desk_of past) text) (shorts : (text : List ℕ) → own.due ≡ needs.Give (port_of c) text → IsShort text) where
+    posts_by : Turned c own.due own.came → Posts c (own ∷ past) mine (told_on c own.due own.came told) (asked_on c own.due own.came wrote asks)
+    posts_by (Hears bytes due got) = hears own wrote bytes due got (takes due bytes got)
+    posts_by (Asks text due got) = asks_one own wrote text due got run (gives text due) (shorts text due)
+    posts_by (Fails got) = absurd (false≢true (ap came_well (sym got) ∙ well))
+    posts_by (Aside still same none) = aside own wrote still (same told) (none wrote asks)
+
+    pub sent_posts : Posts c (own ∷ past) mine (told_on c own.due own.came told) (asked_on c own.due own.came wrote asks)
+    sent_posts = posts_by (turned c own.due own.came)
+
+    given_by : (t : Turned c own.due own.came) → (posts_by t).given ≡ P.given
+    unfolding posts_by hears asks_one aside
+    given_by (Hears bytes due got) = refl
+    given_by (Asks text due got) = refl
+    given_by (Fails got) = absurd (false≢true (ap came_well (sym got) ∙ well))
+    given_by (Aside still same none) = refl
+
+    -- by it the spawner gave nothing
+    pub sent_given : sent_posts.given ≡ P.given
+    unfolding sent_posts posts_by
+    sent_given = given_by (turned c own.due own.came)
 
   -- An event of the spawner
 
@@ -433,3 +445,9 @@ module _ (c : Channel) (past mine : List Own) (told asks : List ℕ) (P : Posts 
     says = says;
     heard = heard_more own wrote (account c past).heard P.heard;
   }
+
+  pub served_given : (own : Own) (wrote : ℕ) (tells : Tells (own ∷ mine) (stands_after c (own ∷ mine))) (offered : own.due ≡ needs.Take port.Input → IsOffered asks own.came)
+      (says : Says (stands_after c (own ∷ mine)).row (stands_after c (own ∷ mine)) (told_by own.due own.came wrote P.given) (reported (own ∷ mine)))
+      → (served_posts own wrote tells offered says).given ≡ told_by own.due own.came wrote P.given
+  unfolding served_posts
+  served_given own wrote tells offered says = refl

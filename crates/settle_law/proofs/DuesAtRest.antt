@@ -64,17 +64,17 @@ module _ (past : List Own) (event : Own) (run : IsRunBy (Next None) (event ∷ p
       let found : (s : Search) × (row_now d event.read event.ready ≡ at.FindTodo s) = search_at (row_now d event.read event.ready) search in
       (search_words found.0 d, sym run.1.0 ∙ ap (λ (r : Row). due_at r d) found.1)
 
-  unlinks_none : (c : Channel) (n : ℕ) → unlinks c n (has_unlinked past) event.due ≡ false
+  pub unlinks_none : (c : Channel) (n : ℕ) → unlinks c n (has_unlinked past) event.due ≡ false
   unlinks_none c n = ap (λ (due : NeedData). unlinks c n (has_unlinked past) due) searches.1
 
-  keeps : Keeps d (moved d event)
+  pub keeps : Keeps d (moved d event)
   keeps = ends_keep d event ends
 
   module _ (slots : (c : Channel) → 0 < length (lane c d.slots).slots) (free : (c : Channel) (slot : ℕ) → attempt_in (lane c d.slots).slots slot ≡ None) where
     rests : IsAtRest d event.read event.ready
     rests = (idle d event begins ends).rests
 
-    clear_at : (c : Channel) → IsClear (lane c d.slots)
+    pub clear_at : (c : Channel) → IsClear (lane c d.slots)
     clear_at c = record { given = (rests_free d event.read event.ready c rests (slots c) (free c)).0; flies = free c; marks = rests.marks c }
 
     due_so : All TellsMoments past → All (λ (e : Own). e.read ≤ event.read) past → (c : Channel) (k : Known) → IsKnown (event ∷ past) k → has_file c k ≡ true → ArePlain c k.n past

@@ -48,9 +48,14 @@ abbrev pub Post : Channel → Option (List Own) → Option (List Own) → (told 
 Post c (Some past) (Some mine) told asks = Posts c past mine told asks
 Post c sends spawns told asks = Unit {0}
 
-first : (c : Channel) → Posts c [] [] [] []
+pub first : (c : Channel) → Posts c [] [] [] []
 first Local = record { requests = []; plain = tt; whole = All-nil IsRequest; are = refl; given = []; tells = tells_first; says = (refl, refl); heard = (refl, refl, refl, λ slot. refl) }
 first Remote = record { requests = []; plain = tt; whole = All-nil IsRequest; are = refl; given = []; tells = tells_first; says = (refl, refl); heard = (refl, refl, refl, λ slot. refl) }
+
+pub first_given : (c : Channel) → (first c).given ≡ []
+unfolding first
+first_given Local = refl
+first_given Remote = refl
 
 sends : (c : Channel) (past : List Own) (spawns : Option (List Own)) (told asks : List ℕ) (own : Own) (wrote : ℕ) → IsSent c past told own → Post c (Some past) spawns told asks
     → Post c (Some (own ∷ past)) spawns (told_on c own.due own.came told) (asked_on c own.due own.came wrote asks)

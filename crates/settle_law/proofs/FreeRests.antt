@@ -80,7 +80,7 @@ use Rattle.settle_law.proofs.Unqueued.{Searched, searched}
 
 -- Pipes
 
-length_none : (bytes : List ℕ) → length bytes ≡ 0 → bytes ≡ []
+pub length_none : (bytes : List ℕ) → length bytes ≡ 0 → bytes ≡ []
 length_none [] e = refl
 length_none (b ∷ bytes) e = absurd (cc)
 

@@ -1,4 +1,4 @@
--- The facts of which a settled state comes, by those that aren't proved yet.
+-- At each rest the facts hold of which a settled state comes.
 use Rattle.std.proofs.Common.{◌≡◌, ◌<◌, ℕ, List, [], ◌∷◌, length, true, Option, Some, None, codes, refl, sym, ap, ◌∙◌, subst}
 use Rattle.std.specs.Prelude.{Contains}
 use Rattle.std.specs.List.{list_all}
@@ -12,6 +12,9 @@ use Rattle.queue_law.specs.Routes.{lane_part}
 use Rattle.queue_paths.specs.Names.Name.{Of}
 use Rattle.queue_paths.specs.Names.Part.{Info}
 use Rattle.queue_paths.specs.Names.{path}
+use Rattle.queue_states.specs.States.{state_of}
+use Rattle.queue_states.specs.declared.state.State.TheVariants.{S5}
+use Rattle.retry_law.specs.Left.{NoneLeft}
 use Rattle.send_core.specs.Stands.{ends_idle}
 use Rattle.send_core.specs.Table.{Next, moved}
 use Rattle.send_jobs.specs.Sending.{lane}
@@ -29,8 +32,7 @@ use Rattle.scenario.specs.Deeds.{Deed, after, history_of}
 use Rattle.world_law.proofs.Histories.{safe_always}
 use Rattle.world_law.proofs.Ran.{have_run}
 use Rattle.world_law.proofs.Tenants.{some_actor}
-use Rattle.settle_law.specs.Holds.{IsLeft, RestsHoldBy}
-use Rattle.settle_law.specs.Promised.{IsRest}
+use Rattle.settle_law.specs.Promised.{IsRest, RestsHold}
 use Rattle.settle_law.specs.Rests.{BeginsTurn, IsAtRest}
 use Rattle.settle_law.specs.Suffices.{HasRest, IsDueSo, IsKnown, desk_of}
 use Rattle.settle_law.specs.Well.{GoesWell, goes_well}
@@ -39,7 +41,10 @@ use Rattle.settle_law.proofs.HasSlots.{rests_have_slots}
 use Rattle.settle_law.proofs.KnownBorn.{known_are_born}
 use Rattle.settle_law.proofs.KnownDue.{known_are_due}
 use Rattle.settle_law.proofs.KnownGone.{known_are_gone}
+use Rattle.settle_law.proofs.KnownUndone.{known_are_undone}
+use Rattle.settle_law.proofs.NoneHalfWay.{none_is_half_way}
 use Rattle.settle_law.proofs.Passed.{passes_go_on}
+use Rattle.settle_law.proofs.PreprocessedKnown.{preprocessed_are_known}
 use Rattle.settle_law.proofs.Strays.{rests_begin}
 use Rattle.settle_law.proofs.Staying.{Keeps, ends_keep, rests_stay}
 use Rattle.settle_law.proofs.Unfailing.{known_finish_at_once}
@@ -55,16 +60,16 @@ same_now s a own wrote None = refl
 same_now s a own wrote (Some x) = refl
 
 module _ (controls : Controls) (d : Disk) (deed : Deed) (before : List Deed) (rest : IsRest controls d deed before) where
-  abbrev s : State
+  abbrev pub s : State
   s = after d before
 
-  abbrev now : State
+  abbrev pub now : State
   now = after d (deed ∷ before)
 
-  abbrev own : Own
+  abbrev pub own : Own
   own = rest.idle.own
 
-  abbrev wrote : ℕ
+  abbrev pub wrote : ℕ
   wrote = rest.idle.wrote
 
   whole : GoesWell controls d (Act (codes "sender") own wrote ∷ history_of before)
@@ -79,14 +84,14 @@ module _ (controls : Controls) (d : Disk) (deed : Deed) (before : List Deed) (re
     well = (and_parts (goes_well (Act (codes "sender") own wrote)) (list_all goes_well (history_of before)) whole.well).1;
   }
 
-  may : MayDo s (codes "sender") own wrote
+  pub may : MayDo s (codes "sender") own wrote
   may = whole.legal.1
 
   -- the sender before that event, and after it
-  abbrev x : Actor
+  abbrev pub x : Actor
   x = may.actor
 
-  abbrev y : Actor
+  abbrev pub y : Actor
   y = record { program = x.program; past = own ∷ x.past; life = x.life }
 
   is : s.actors (codes "sender") ≡ Some x
@@ -95,7 +100,7 @@ module _ (controls : Controls) (d : Disk) (deed : Deed) (before : List Deed) (re
   goes : now ≡ acted s (codes "sender") own wrote (s.actors (codes "sender"))
   goes = ap (λ (e : Deed). after d (e ∷ before)) rest.idle.is
 
-  is_now : now.actors (codes "sender") ≡ Some y
+  pub is_now : now.actors (codes "sender") ≡ Some y
   is_now =
       ap (λ (t : State). t.actors (codes "sender")) goes
       ∙ ap (λ (o : Option Actor). (acted s (codes "sender") own wrote o).actors (codes "sender")) is
@@ -104,59 +109,61 @@ module _ (controls : Controls) (d : Disk) (deed : Deed) (before : List Deed) (re
   read_is : own.read ≡ now.now
   read_is = rest.finds.now ∙ sym (ap (λ (t : State). t.now) goes ∙ same_now s (codes "sender") own wrote (s.actors (codes "sender")))
 
-  ended : (start : ℕ) × (x.program ≡ Sender start) × (ends_idle (desk_of x.past) own ≡ true)
+  pub ended : (start : ℕ) × (x.program ≡ Sender start) × (ends_idle (desk_of x.past) own ≡ true)
   ended = idles x.program x.past own (ap (λ (o : Option Actor). idled_by o own) (sym is) ∙ rest.idle.idle)
 
-  module _ (left : IsLeft d deed before y) where
-    run : IsRunBy (Next None) x.past
-    run = subst (λ (p : Program). IsRunBy (next_of p) x.past) ended.1 (have_run d (history_of before) well.legal (codes "sender") x is)
+  run : IsRunBy (Next None) x.past
+  run = subst (λ (p : Program). IsRunBy (next_of p) x.past) ended.1 (have_run d (history_of before) well.legal (codes "sender") x is)
 
-    begins : BeginsTurn (desk_of x.past).row
-    begins = rests_begin controls d deed before rest.well rest.empty rest.idle x is
-        (passes_go_on controls d (history_of before) well (codes "sender") x ended.0 is ended.1 left.hears.0)
+  stays : NoneLeft None x.past
+  stays = passes_go_on controls d (history_of before) well (codes "sender") x ended.0 is ended.1
 
-    it : Searched x.program x.past own
-    it = searched x.program x.past own begins may.due (ap (λ (o : Option Actor). idled_by o own) (sym is) ∙ rest.idle.idle)
+  begins : BeginsTurn (desk_of x.past).row
+  begins = rests_begin controls d deed before rest.well rest.empty rest.idle x is stays
 
-    disk_is : now.disk ≡ s.disk
-    disk_is = ap (λ (t : State). t.disk) goes ∙ acted_leaves s (codes "sender") own wrote (s.actors (codes "sender")) (codes "todo") [] it.due
+  it : Searched x.program x.past own
+  it = searched x.program x.past own begins may.due (ap (λ (o : Option Actor). idled_by o own) (sym is) ∙ rest.idle.idle)
 
-    keeps : Keeps (desk_of x.past) (moved (desk_of x.past) own)
-    keeps = ends_keep (desk_of x.past) own it.ends
+  disk_is : now.disk ≡ s.disk
+  disk_is = ap (λ (t : State). t.disk) goes ∙ acted_leaves s (codes "sender") own wrote (s.actors (codes "sender")) (codes "todo") [] it.due
 
-    slots : (c : Channel) → 0 < length (lane c (desk_of x.past).slots).slots
-    slots c = rests_have_slots controls d (history_of before) well x it.start is may.reads.alive it.program begins c
+  keeps : Keeps (desk_of x.past) (moved (desk_of x.past) own)
+  keeps = ends_keep (desk_of x.past) own it.ends
 
-    free : (c : Channel) (slot : ℕ) → attempt_in (lane c (desk_of x.past).slots).slots slot ≡ None
-    free = rests_free controls d deed before rest x is begins
+  slots : (c : Channel) → 0 < length (lane c (desk_of x.past).slots).slots
+  slots c = rests_have_slots controls d (history_of before) well x it.start is may.reads.alive it.program begins c
 
-    known_before : (k : Known) → IsKnown y.past k → IsKnown x.past k
-    known_before k known = subst (λ (m : Messages). Contains m.known k) keeps.messages known
+  free : (c : Channel) (slot : ℕ) → attempt_in (lane c (desk_of x.past).slots).slots slot ≡ None
+  free = rests_free controls d deed before rest x is begins
 
-    has : HasRest now y.past own.ready
-    has = record {
-      safe = (safe_always controls d (history_of (deed ∷ before)) rest.well.are rest.well.legal).states;
-      no_s2 = left.no_s2;
-      no_s3 = left.no_s3;
-      no_s4 = unqueued controls d deed before rest.well rest.idle x is begins;
-      known = left.known;
-      rests = subst (λ (m : ℕ). IsAtRest (desk_of y.past) m own.ready) read_is (rests_stay (desk_of x.past) own begins it.ends);
-      slots = λ c. subst (λ (l : Slots). 0 < length (lane c l).slots) (sym keeps.slots) (slots c);
-      free = λ c slot. subst (λ (l : Slots). attempt_in (lane c l).slots slot ≡ None) (sym keeps.slots) (free c slot);
-      finish = known_finish_at_once controls d (history_of (deed ∷ before)) rest.well (codes "sender") y it.start is_now it.program left.bounces;
-      dues = λ k c known file. subst (λ (m : ℕ). IsDueSo m y.past c k) read_is
-          (known_are_due controls d (history_of (deed ∷ before)) rest.well (codes "sender") y it.start is_now it.program own x.past refl begins it.ends slots free c k known file);
-      undone = left.undone;
-      gone = λ k c known none. ap (λ (disk : Disk). disk.names (path (Of (lane_part c) k.n))) disk_is
-          ∙ known_are_gone controls d (history_of before) well.are well.legal (codes "sender") x it.start is may.reads.alive it.program begins c k (known_before k known) none;
-      births = λ k info known. subst (λ (disk : Disk). disk.names (path (Of Info k.n)) ≡ Some info → (disk.files info).moment ≡ k.birth) (sym disk_is)
-          (known_are_born controls d (history_of before) well.are well.legal (codes "sender") x it.start is may.reads.alive it.program begins k info (known_before k known));
-    }
+  known_before : (k : Known) → IsKnown y.past k → IsKnown x.past k
+  known_before k known = subst (λ (m : Messages). Contains m.known k) keeps.messages known
 
-pub rests_hold_by : RestsHoldBy
-rests_hold_by facts controls d deed before rest z there =
-    let same : y controls d deed before rest ≡ z = some_actor (y controls d deed before rest) z (sym (is_now controls d deed before rest) ∙ there) in (
-      rest.idle.own.ready,
-      subst (λ (u : Actor). HasRest (after d (deed ∷ before)) u.past rest.idle.own.ready) same
-          (has controls d deed before rest (subst (λ (u : Actor). IsLeft d deed before u) (sym same) (facts controls d deed before rest z there))),
-    )
+  has : HasRest now y.past own.ready
+  has = record {
+    safe = (safe_always controls d (history_of (deed ∷ before)) rest.well.are rest.well.legal).states;
+    no_s2 = λ n. (none_is_half_way controls d deed before rest n).0;
+    no_s3 = λ n. (none_is_half_way controls d deed before rest n).1;
+    no_s4 = unqueued controls d deed before rest.well rest.idle x is begins;
+    known = λ n e.
+        let k = preprocessed_are_known controls d (history_of before) well (codes "sender") x it.start is may.reads.alive it.program stays begins n
+        (subst (λ (disk : Disk). state_of disk n ≡ S5) disk_is e) in
+        (k.0, subst (λ (m : Messages). Contains m.known k.0) (sym keeps.messages) k.1, k.2);
+    rests = subst (λ (m : ℕ). IsAtRest (desk_of y.past) m own.ready) read_is (rests_stay (desk_of x.past) own begins it.ends);
+    slots = λ c. subst (λ (l : Slots). 0 < length (lane c l).slots) (sym keeps.slots) (slots c);
+    free = λ c slot. subst (λ (l : Slots). attempt_in (lane c l).slots slot ≡ None) (sym keeps.slots) (free c slot);
+    finish = known_finish_at_once controls d (history_of (deed ∷ before)) rest.well (codes "sender") y it.start is_now it.program;
+    dues = λ k c known file. subst (λ (m : ℕ). IsDueSo m y.past c k) read_is
+        (known_are_due controls d (history_of (deed ∷ before)) rest.well (codes "sender") y it.start is_now it.program own x.past refl begins it.ends slots free c k known file);
+    undone = λ k c begun known file tried. known_are_undone controls d (history_of (deed ∷ before)) rest.well (codes "sender") y it.start is_now may.reads.alive it.program own x.past refl begins it.ends
+        slots free c k begun known file tried;
+    gone = λ k c known none. ap (λ (disk : Disk). disk.names (path (Of (lane_part c) k.n))) disk_is
+        ∙ known_are_gone controls d (history_of before) well.are well.legal (codes "sender") x it.start is may.reads.alive it.program begins c k (known_before k known) none;
+    births = λ k info known. subst (λ (disk : Disk). disk.names (path (Of Info k.n)) ≡ Some info → (disk.files info).moment ≡ k.birth) (sym disk_is)
+        (known_are_born controls d (history_of before) well.are well.legal (codes "sender") x it.start is may.reads.alive it.program begins k info (known_before k known));
+  }
+
+pub rests_hold : RestsHold
+rests_hold controls d deed before rest z there =
+    let same : y controls d deed before rest ≡ z = some_actor (y controls d deed before rest) z (sym (is_now controls d deed before rest) ∙ there) in
+    (rest.idle.own.ready, subst (λ (u : Actor). HasRest (after d (deed ∷ before)) u.past rest.idle.own.ready) same (has controls d deed before rest))

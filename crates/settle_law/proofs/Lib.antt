@@ -117,3 +117,111 @@ pub mod PartDirs
 pub mod PassRows
 -- what leaves a todo pass
 pub mod Passed
+-- messages that were tried and have their file
+pub mod TriedStay
+-- the channels where each report is of a success
+pub mod SuccessLanes
+-- rows that lead to no mark
+pub mod StillFine
+-- the rows where each report is of a success
+pub mod SuccessRows
+-- what a spawner gives where each report is of a success
+pub mod SuccessPipes
+-- each report that a sender takes then
+pub mod Succeeding
+-- what was tried then is at work
+pub mod TriedWork
+-- a rest has no message then
+pub mod Emptied
+-- so of known ones
+pub mod TriedKnown
+-- what events of a channel leave of places that stay `T`
+pub mod Lefts
+-- so by rows
+pub mod LeftRows
+-- so by any row
+pub mod LeftSteps
+-- channel files as they read
+pub mod LaneTexts
+-- what a sender leaves of them
+pub mod OwnLanes
+-- the write of a mark
+pub mod LaneMarks
+-- what holds of living senders and the disk
+pub mod LivingSenders
+-- a record that reads `T` is left
+pub mod TriedFiles
+-- so at the end of an idle turn
+pub mod KnownUndone
+-- what holds of each injection whose life lasts
+pub mod Injected
+-- injectors have a system's numbers
+pub mod SystemNumbers
+-- that todo files are todo texts
+pub mod Texts
+-- a cleaner is about to answer nothing but `+`
+pub mod CleanAnswers
+-- the answers to `todo/N`
+pub mod TodoAnswers
+-- the scan of a sender's start
+pub mod ScanSteps
+-- a message that was met stays met
+pub mod Meeting
+-- when the cleaner is told to remove a message
+pub mod Removals
+-- which calls leave preprocessed messages as they were
+pub mod FiledCalls
+-- which events of others do
+pub mod OthersFiled
+-- the text of an info file
+pub mod InfoTexts
+-- what an event of a sender shows of preprocessed messages
+pub mod OwnFiled
+-- which messages the sender has met
+pub mod MetAlways
+-- each preprocessed message is known
+pub mod PreprocessedKnown
+-- which calls make a number half-way
+pub mod HalfDisks
+-- at which rows such a call is due
+pub mod HalfRows
+-- each child has its input, or its parent lives
+pub mod FedSlots
+-- the pipe from the cleaner to the sender
+pub mod CleanPipe
+-- injectors at work on numbers that are half-way
+pub mod Injecting
+-- a cleaner that is to remove a message
+pub mod Removing
+-- an event of an actor leaves nobody's number half-way
+pub mod Minding
+-- somebody minds each number that is half-way
+pub mod Minded
+-- so none is half-way at a rest
+pub mod NoneHalfWay
+-- names of the files that an injector makes
+pub mod MessageDirs
+-- what an injector does at each row where nothing fails
+pub mod InjectorRows
+-- with what it ends
+pub mod InjectorsEnd
+-- what a bounce's injector is given
+pub mod BounceInputs
+-- which rows of a sender take a status
+pub mod StatusRows
+-- each bounce whose status was taken was accepted
+pub mod BouncesTaken
+-- how `settle` ends
+pub mod Settling
+-- which numbers of files are in use
+pub mod UsedNumbers
+-- the users of deliveries
+pub mod UserNumbers
+-- how each deed of a play came
+pub mod PlayedDeeds
+-- which numbers are in a play
+pub mod PlayedNumbers
+-- the disk that a script begins with
+pub mod FirstNumbers
+-- the `settle` lines of a script
+pub mod PlayedLines

@@ -131,7 +131,7 @@ among (Spawns Remote) = member_contained (codes "rspawn") refl
 
 -- Its input stays open
 
-put_keeps : (pipes : List ℕ → Port → Pipe) (to : Option Mouth) (change : Pipe → Pipe) → ((pipe : Pipe) → (change pipe).shut ≡ pipe.shut) → (b : List ℕ) (p : Port) → (put_pipe pipes to change b p).shut ≡ (pipes b p).shut
+pub put_keeps : (pipes : List ℕ → Port → Pipe) (to : Option Mouth) (change : Pipe → Pipe) → ((pipe : Pipe) → (change pipe).shut ≡ pipe.shut) → (b : List ℕ) (p : Port) → (put_pipe pipes to change b p).shut ≡ (pipes b p).shut
 put_keeps pipes None change keeps b p = refl
 put_keeps pipes (Some to) change keeps b p = by (bytes_eq b to.actor && is_port p to.port)
   where
@@ -252,11 +252,11 @@ module _ (m : Servant) (s : State) (L : LivesIn m s) (a : List ℕ) (program : P
       both : (y : Actor) → ◌≡◌ {A = Option Actor} None (Some y) → ⊥
       both y e = cc
 
-no_sender_alone : (program : Program) → MayRun program → IsSender program → ⊥
+pub no_sender_alone : (program : Program) → MayRun program → IsSender program → ⊥
 no_sender_alone (Injector args) runs sends = sends
 no_sender_alone program runs sends = absurd runs
 
-no_sender_child : (asked : ChildData) (pid : ℕ) (program : Program) → IsProgramOf asked pid program → IsSender program → ⊥
+pub no_sender_child : (asked : ChildData) (pid : ℕ) (program : Program) → IsProgramOf asked pid program → IsSender program → ⊥
 no_sender_child (child.Bounce room) pid (Injector args) it sends = sends
 no_sender_child (child.Forward uid room) pid (Injector args) it sends = sends
 no_sender_child (child.Local slot words uid) pid (Delivery start args) it sends = sends

@@ -1,5 +1,5 @@
--- An event of an actor that is no sender leaves all info files.
-use Rattle.std.proofs.Common.{◌≡◌, ℕ, List, refl}
+-- An event of an actor that is no sender leaves each file that preprocessing made.
+use Rattle.std.proofs.Common.{◌≡◌, ℕ, List, true, refl}
 use Rattle.address_rules.specs.declared.controls.Controls.{Controls}
 use Rattle.call_fs.specs.Disk.{Disk}
 use Rattle.call_fs.specs.declared.past.GotData.TheVariants as came
@@ -14,9 +14,10 @@ use Rattle.program_law.proofs.Sender.Spares.{others_spare}
 use Rattle.queue_inject.specs.declared.injection.Arguments.{Arguments}
 use Rattle.queue_law.proofs.Injectors.{injector_calls}
 use Rattle.queue_law.proofs.Sends.{reads_keep}
-use Rattle.queue_law.specs.Numbers.{Queue, find}
+use Rattle.queue_law.specs.Numbers.{Queue, find, is_later}
 use Rattle.queue_paths.specs.Names.Name.{Of}
 use Rattle.queue_paths.specs.Names.Part.{Info}
+use Rattle.queue_paths.specs.Names.{Part}
 use Rattle.remote_spawn.specs.Table.{place_after as remote_after, program_of as remote_asks}
 use Rattle.spawner_parts.specs.Table.{row_now as remote_now}
 use Rattle.world_events.specs.declared.event.Program.TheVariants.{Injector, Cleaner, Sender, LocalSpawner, RemoteSpawner, Delivery}
@@ -41,41 +42,41 @@ module _ (controls : Controls) (s : State) (I : Inv controls s) (a : List ℕ) (
   Runs program past = MayRead s a (actor program past) own.read
 
   abbrev Left : NeedData → GotData → Type 0
-  Left due got = let e : Disk = disk_after s.disk own.read due got wrote in (n : ℕ) → find e.names e.files (Of Info n) ≡ find s.disk.names s.disk.files (Of Info n)
+  Left due got = let e : Disk = disk_after s.disk own.read due got wrote in (part : Part) (n : ℕ) → is_later part ≡ true → find e.names e.files (Of part n) ≡ find s.disk.names s.disk.files (Of part n)
 
   injector_left : (args : Arguments) (past : List Own) → Runs (Injector args) past → (due : NeedData) (got : GotData) → next_of (Injector args) past own.read own.ready ≡ due → ComesOf s a due got wrote → Left due got
-  injector_left args past may (needs.File c) (came.Answered told) next comes n =
+  injector_left args past may (needs.File c) (came.Answered told) next comes part n later =
       let w = injector_calls controls s.now q a args past own.read own.ready c told wrote I.sound (I.fares a (actor (Injector args) past) may.is) may.no_earlier may.no_stall next comes.0 in
-      (others_spare.injectors controls s.now q a args past own.read own.ready c told wrote w).later Info n refl
-  injector_left args past may due got next comes n = refl
+      (others_spare.injectors controls s.now q a args past own.read own.ready c told wrote w).later part n later
+  injector_left args past may due got next comes part n later = refl
 
   cleaner_left : (since : ℕ) (past : List Own) → Runs (Cleaner since) past → (due : NeedData) (got : GotData) → next_of (Cleaner since) past own.read own.ready ≡ due → ComesOf s a due got wrote → Left due got
-  cleaner_left since past may (needs.File c) (came.Answered told) next comes n =
-      (others_spare.cleaners controls s.now q a past own.read own.ready c told wrote I.sound (I.fares a (actor (Cleaner since) past) may.is) may.no_later next comes.0).later Info n refl
-  cleaner_left since past may due got next comes n = refl
+  cleaner_left since past may (needs.File c) (came.Answered told) next comes part n later =
+      (others_spare.cleaners controls s.now q a past own.read own.ready c told wrote I.sound (I.fares a (actor (Cleaner since) past) may.is) may.no_later next comes.0).later part n later
+  cleaner_left since past may due got next comes part n later = refl
 
   local_left : (since : ℕ) (past : List Own) → Runs (LocalSpawner since) past → (due : NeedData) (got : GotData) → next_of (LocalSpawner since) past own.read own.ready ≡ due → ComesOf s a due got wrote → Left due got
-  local_left since past may (needs.File c) (came.Answered told) next comes n =
+  local_left since past may (needs.File c) (came.Answered told) next comes part n later =
       let reads = local_reads q a (local_after past) own.ready c (I.fares a (actor (LocalSpawner since) past) may.is) next in
       let w = reads_keep controls s.now q a I.sound own.read c told.answer wrote reads comes.0 in
-      (others_spare.reads s.now a q _ w.elsewhere).later Info n refl
-  local_left since past may due got next comes n = refl
+      (others_spare.reads s.now a q _ w.elsewhere).later part n later
+  local_left since past may due got next comes part n later = refl
 
   remote_left : (since : ℕ) (past : List Own) → Runs (RemoteSpawner since) past → (due : NeedData) (got : GotData) → next_of (RemoteSpawner since) past own.read own.ready ≡ due → ComesOf s a due got wrote → Left due got
-  remote_left since past may (needs.File c) (came.Answered told) next comes n =
+  remote_left since past may (needs.File c) (came.Answered told) next comes part n later =
       let p = remote_after past in
       let holds = arrive_holds q a p.row p own.ready (I.fares a (actor (RemoteSpawner since) past) may.is) in
       let w = reads_keep controls s.now q a I.sound own.read c told.answer wrote (only_reads q a (remote_asks p.request) (remote_now p own.ready) p c holds next) comes.0 in
-      (others_spare.reads s.now a q _ w.elsewhere).later Info n refl
-  remote_left since past may due got next comes n = refl
+      (others_spare.reads s.now a q _ w.elsewhere).later part n later
+  remote_left since past may due got next comes part n later = refl
 
   delivery_left : (since : ℕ) (args : LocalArgs) (past : List Own) → Runs (Delivery since args) past → (due : NeedData) (got : GotData) → next_of (Delivery since args) past own.read own.ready ≡ due → ComesOf s a due got wrote
       → Left due got
-  delivery_left since args past may (needs.File c) (came.Answered told) next comes n =
+  delivery_left since args past may (needs.File c) (came.Answered told) next comes part n later =
       let F : DeliveryFares q a args past Alive = I.fares a (actor (Delivery since args) past) may.is in
       let l = deliveries_keep.calls q a args past own.read own.ready c told wrote I.sound.suits F.rests (next, may_come s a (needs.File c) (came.Answered told) wrote comes) comes.0 comes.1 in
-      (others_spare.foreigners a q _ l.1.foreign).later Info n refl
-  delivery_left since args past may due got next comes n = refl
+      (others_spare.foreigners a q _ l.1.foreign).later part n later
+  delivery_left since args past may due got next comes part n later = refl
 
   by_program : (program : Program) (past : List Own) → (IsSender program → ⊥) → Runs program past → next_of program past own.read own.ready ≡ own.due → ComesOf s a own.due own.came wrote → Left own.due own.came
   by_program (Injector args) past other may next comes = injector_left args past may own.due own.came next comes
@@ -91,5 +92,10 @@ module _ (controls : Controls) (s : State) (I : Inv controls s) (a : List ℕ) (
   by_life program past (Over status) alive other may next comes = absurd (cc)
   by_life program past Stopped alive other may next comes = absurd (cc)
 
-  pub other_left : (may : MayDo s a own wrote) → (IsSender may.actor.program → ⊥) → Left own.due own.came
-  other_left may other = by_life may.actor.program may.actor.past may.actor.life may.reads.alive other may.reads may.due may.came
+  pub later_left : (may : MayDo s a own wrote) → (IsSender may.actor.program → ⊥) → Left own.due own.came
+  later_left may other = by_life may.actor.program may.actor.past may.actor.life may.reads.alive other may.reads may.due may.came
+
+  -- so each info file
+  pub other_left : (may : MayDo s a own wrote) → (IsSender may.actor.program → ⊥) → (n : ℕ)
+      → let e : Disk = disk_after s.disk own.read own.due own.came wrote in find e.names e.files (Of Info n) ≡ find s.disk.names s.disk.files (Of Info n)
+  other_left may other n = later_left may other Info n refl

@@ -76,7 +76,7 @@ use Rattle.settle_law.proofs.SenderRows.{comes as comes_there, due, stands}
 
 -- A known message whose finish hasn't begun to remove it is preprocessed
 
-known_with : (P : Known → Type 0) (n : ℕ) (ks : List Known) → All P ks → is_known n ks ≡ true → (k : Known) × (k.n ≡ n) × P k
+pub known_with : (P : Known → Type 0) (n : ℕ) (ks : List Known) → All P ks → is_known n ks ≡ true → (k : Known) × (k.n ≡ n) × P k
 known_with P n [] all e = absurd (cc)
 known_with P n (k ∷ ks) all e = by (k.n == n) refl (known_with P n ks (All-tail P k ks all)) where
   by : (b : Bool) → (k.n == n) ≡ b → (is_known n ks ≡ true → (x : Known) × (x.n ≡ n) × P x) → (x : Known) × (x.n ≡ n) × P x
@@ -84,14 +84,14 @@ known_with P n (k ∷ ks) all e = by (k.n == n) refl (known_with P n ks (All-tai
   by false other rest = rest (sym (ap (λ (b : Bool). b || is_known n ks) other) ∙ e)
 
 -- at a file call none is removed
-none_leaves : (row : Row) (d : Desk) (n : ℕ) (c : CallData) → due_at row d ≡ needs.File c → IsLeaving row n → ⊥
+pub none_leaves : (row : Row) (d : Desk) (n : ℕ) (c : CallData) → due_at row d ≡ needs.File c → IsLeaving row n → ⊥
 none_leaves (at.Finish finish.Give m) d n c e h = absurd (cc)
 none_leaves (at.Finish finish.Take m) d n c e h = absurd (cc)
 none_leaves (at.Finish row m) d n c e h = h.0
 none_leaves (at.Ended status) d n c e h = absurd (cc)
 none_leaves row d n c e h = h
 
-settled_of : (row : Row) (w : About) (k : Known) → (IsLeaving row k.n → ⊥) → Knows row w k → IsSettledIn w
+pub settled_of : (row : Row) (w : About) (k : Known) → (IsLeaving row k.n → ⊥) → Knows row w k → IsSettledIn w
 settled_of row w k stays (Stays known) = known.sorted
 settled_of row w k stays (Leaves leaves) = absurd (stays leaves)
 

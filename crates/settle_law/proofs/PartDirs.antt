@@ -15,7 +15,7 @@ use Rattle.mail_bytes.specs.Decimal.{IsDigit, digits}
 use Rattle.queue_paths.specs.Dirs.{queue_dirs}
 use Rattle.queue_paths.specs.Names.{Part, path, split}
 use Rattle.queue_paths.specs.Names.Name.{Of}
-use Rattle.queue_paths.specs.Names.Part.{Info, Local, Remote}
+use Rattle.queue_paths.specs.Names.Part.{Info, Local, Remote, Todo}
 use Rattle.queue_states.proofs.MessageFiles.{is_part, lies_in}
 use Rattle.todo_pass.specs.declared.part.Target.{Target}
 use Rattle.todo_pass.specs.declared.part.Target.TheVariants as target
@@ -26,10 +26,10 @@ use Rattle.todo_pass.specs.Parts.{part_of, path_in}
 no_slash : (b : ℕ) → IsDigit b → (b == 47) ≡ false
 no_slash b digit = ⊎_elim (λ w. let is = w.1 in absurd (omega (arith, is, digit))) (λ w. w.0) (eqb_tells b 47)
 
-plain : (n : ℕ) → All (λ b. (b == 47) ≡ false) (digits n)
+pub plain : (n : ℕ) → All (λ b. (b == 47) ≡ false) (digits n)
 plain n = All-weaker IsDigit (λ b. (b == 47) ≡ false) no_slash (digits n) (digits_all n)
 
-number_part : (n : ℕ) → n < 2 ^ 64 → IsPart (digits n)
+pub number_part : (n : ℕ) → n < 2 ^ 64 → IsPart (digits n)
 number_part n small = record {
   positive = (number-digits n small).some;
   short = (is_part n small).short;
@@ -61,14 +61,14 @@ before_slash front rest none =
 
 -- Three parts
 
-word_part : (word : List ℕ) → 1 ≤ length word → length word ≤ 255 → All (λ b. 0 < b) word → IsPart word
+pub word_part : (word : List ℕ) → 1 ≤ length word → length word ≤ 255 → All (λ b. 0 < b) word → IsPart word
 word_part word some short above = record {
   positive = some;
   short = short;
   no_nul = λ here. let low = All-contains (λ b. 0 < b) word 0 above here in absurd (omega (arith, low));
 }
 
-three_parts : (word : List ℕ) (n : ℕ) → n < 2 ^ 64 → IsPart word → All (λ b. (b == 47) ≡ false) word → All IsPart (slice_split (λ b. b == 47) (word ++ 47 ∷ (digits (split n) ++ 47 ∷ digits n)))
+pub three_parts : (word : List ℕ) (n : ℕ) → n < 2 ^ 64 → IsPart word → All (λ b. (b == 47) ≡ false) word → All IsPart (slice_split (λ b. b == 47) (word ++ 47 ∷ (digits (split n) ++ 47 ∷ digits n)))
 three_parts word n small part none =
     let s : List ℕ = digits (split n) in
     let parts : slice_split (λ b. b == 47) (word ++ 47 ∷ (s ++ 47 ∷ digits n)) ≡ word ∷ (s ∷ (digits n ∷ [])) =
@@ -99,7 +99,7 @@ remote_name n small = three_parts (codes "remote") n small
 
 -- The directory of a part
 
-lies_there : (d : Disk) (part : Part) (n : ℕ) → ((dir : List ℕ) → Contains queue_dirs dir → Contains d.dirs dir) → IsName (path (Of part n)) → HasDir d (path (Of part n))
+pub lies_there : (d : Disk) (part : Part) (n : ℕ) → ((dir : List ℕ) → Contains queue_dirs dir → Contains d.dirs dir) → IsName (path (Of part n)) → HasDir d (path (Of part n))
 lies_there d part n dirs name =
     let w = lies_in part n in
     let dir : dir_of (path (Of part n)) ≡ w.dir = ap dir_of w.path_is ∙ before_slash w.dir (digits n) (plain n) in
@@ -109,3 +109,20 @@ pub has_dir : (d : Disk) (t : Target) (n : ℕ) → ((dir : List ℕ) → Contai
 has_dir d target.Info n dirs small = lies_there d Info n dirs (info_name n small)
 has_dir d target.Local n dirs small = lies_there d Local n dirs (local_name n small)
 has_dir d target.Remote n dirs small = lies_there d Remote n dirs (remote_name n small)
+
+-- The todo file has two parts
+
+todo_name : (n : ℕ) → n < 2 ^ 64 → IsName (path (Of Todo n))
+unfolding path
+todo_name n small =
+    let word : List ℕ = codes "todo" in
+    let none : All (λ b. (b == 47) ≡ false) word = All-from_recursion (λ b. (b == 47) ≡ false) word (refl, (refl, (refl, (refl, tt)))) in
+    let parts : slice_split (λ b. b == 47) (word ++ 47 ∷ digits n) ≡ word ∷ (digits n ∷ []) =
+    slice_split_at (λ b. b == 47) word 47 (digits n) none refl ∙ ap (λ (last : List (List ℕ)). word ∷ last) (slice_split_none (λ b. b == 47) (digits n) (plain n)) in
+    subst (λ (all : List (List ℕ)). All IsPart all) (sym parts)
+    (All-cons IsPart word (digits n ∷ [])
+    (word_part word (omega arith) (omega arith) (All-from_recursion (λ b. 0 < b) word (omega arith, (omega arith, (omega arith, (omega arith, tt))))))
+    (All-cons IsPart (digits n) [] (number_part n small) (All-nil IsPart)))
+
+pub has_todo_dir : (d : Disk) (n : ℕ) → ((dir : List ℕ) → Contains queue_dirs dir → Contains d.dirs dir) → n < 2 ^ 64 → HasDir d (path (Of Todo n))
+has_todo_dir d n dirs small = lies_there d Todo n dirs (todo_name n small)

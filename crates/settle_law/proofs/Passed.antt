@@ -1,7 +1,6 @@
 -- What leaves a todo pass where nothing fails.
-use Rattle.std.proofs.Common.{◌≡◌, ℕ, ◌+◌, ◌<◌, ◌^◌, List, [], ◌∷◌, length, nat_lt, Bool, true, false, if◌then◌else◌, Option, Some, None, IsSome, refl, sym, ap, ◌∙◌, subst}
-use Rattle.std.specs.Prelude.{Contains, Result, Ok, Err, bytes_eq}
-use Rattle.std.specs.List.{list_all}
+use Rattle.std.proofs.Common.{◌≡◌, ⊎_elim, ℕ, ◌+◌, ◌<◌, ◌^◌, List, [], ◌∷◌, ◌++◌, length, nat_lt, Bool, true, false, if◌then◌else◌, Option, Some, None, IsSome, refl, sym, ap, ◌∙◌, subst, codes}
+use Rattle.std.specs.Prelude.{Contains, Result, Ok, Err}
 use Rattle.std.proofs.lemmas.Bool.{false≢true}
 use Rattle.address_rules.specs.declared.controls.Controls.{Controls}
 use Rattle.call_fs.specs.Apply.{Fits}
@@ -20,8 +19,11 @@ use Rattle.call_fs.specs.declared.past.GotData.TheVariants as came
 use Rattle.call_fs.specs.declared.past.NeedData.{NeedData}
 use Rattle.call_fs.specs.declared.past.NeedData.TheVariants as needs
 use Rattle.call_fs.specs.declared.past.Own.{Own}
+use Rattle.call_fs.specs.declared.program.Port.TheVariants as port
+use Rattle.queue_clean.specs.declared.command.Command.TheVariants as command
+use Rattle.queue_inject.specs.Texts.{intd_text}
 use Rattle.queue_law.proofs.Looks.{found}
-use Rattle.queue_law.specs.Books.{Injection}
+use Rattle.queue_law.specs.Books.{Injection, IsValid}
 use Rattle.queue_law.specs.Numbers.{Entry, IsQueued, Queue, about, look}
 use Rattle.queue_paths.specs.Dirs.{queue_dirs}
 use Rattle.queue_paths.specs.Names.{Part, path}
@@ -39,32 +41,40 @@ use Rattle.todo_pass.specs.declared.part.Target.{Target}
 use Rattle.todo_pass.specs.declared.part.Target.TheVariants as target
 use Rattle.todo_pass.specs.declared.row.Row.{Row as PassRow}
 use Rattle.todo_pass.specs.declared.row.Row.TheVariants as todo
-use Rattle.todo_pass.specs.declared.row.Why.TheVariants.{Unclean}
 use Rattle.todo_pass.specs.declared.sorted.Sorted.{Sorted}
-use Rattle.todo_pass.specs.Disks.{HoldsTodo}
+use Rattle.todo_pass.specs.Disks.{HoldsTodo, HoldsWhatWasRead}
 use Rattle.todo_pass.specs.Parts.{part_of, path_in}
 use Rattle.todo_pass.specs.Sorting.{has, sort_todo, text_of}
 use Rattle.todo_pass.specs.Table.{Pass, answer_row, appended, clear_row, cleared, create_row, give_row, made_row, moved, moved_at, next_piece, open_row, read, read_row, sorted_with, stated, sync_row}
 use Rattle.todo_pass.specs.Table as pass_table
 use Rattle.retry_law.specs.Left.{NoneLeft, is_left, leaves}
+use Rattle.program_law.proofs.Sender.Awaits.{arrives}
+use Rattle.program_law.specs.Errand.Errands.Awaits.{Answer as Awaited}
 use Rattle.program_law.specs.Sender.InTodo.{PassGoesOn, TodoStands}
+use Rattle.program_law.specs.Sender.Waits.{awaits_at, awaits_in as awaits_in_pass}
+use Rattle.world_pipes.specs.Pipework.{Pipe, Yields}
 use Rattle.world_events.specs.declared.event.Program.{Program}
 use Rattle.world_events.specs.declared.event.Program.TheVariants.{Sender}
 use Rattle.mail_world.proofs.Coming.{may_come}
 use Rattle.mail_world.proofs.Histories.{legal_opens}
 use Rattle.mail_world.specs.History.Event.{Act}
-use Rattle.mail_world.specs.History.{ComesOf, Event, Legal, MayBear, MayDo, State, after, next_of}
+use Rattle.mail_world.specs.History.Life.{Alive}
+use Rattle.mail_world.specs.History.{ComesOf, Event, Life, MayBear, MayDo, State, after, next_of}
 use Rattle.mail_world.specs.Untouched.{queue}
 use Rattle.world_law.proofs.Ran.{born_comes}
+use Rattle.world_law.specs.Crew.{IsNamed, awaits_by, awaits_in, link_in}
 use Rattle.world_law.specs.Inv.{Inv}
 use Rattle.settle_law.proofs.Dirs.{same_dirs}
 use Rattle.settle_law.proofs.PartDirs.{has_dir}
 use Rattle.settle_law.proofs.PassRows.{GoesAt, IsUnshut, arrives_here, goes_here}
 use Rattle.settle_law.proofs.Pasts.{sender_pasts}
 use Rattle.settle_law.proofs.ServedPasts.{at_row, by_answer, comes_at}
+use Rattle.settle_law.proofs.CleanAnswers.{IsPlus}
 use Rattle.settle_law.proofs.SmallNumbers.{numbers_are_small}
-use Rattle.settle_law.specs.Passed.{AllHearWell, HearsWell, HearsWellAt, PassesGoOn}
-use Rattle.settle_law.specs.Well.{came_well, goes_well, is_well_answered}
+use Rattle.settle_law.proofs.Texts.{todo_texts_are_read}
+use Rattle.settle_law.proofs.TodoAnswers.{todo_answers_are_well}
+use Rattle.settle_law.specs.Passed.{PassesGoOn}
+use Rattle.settle_law.specs.Well.{GoesWell, came_well, goes_well, is_well_answered}
 
 -- A pass goes on: it isn't left, nor about to be.
 
@@ -122,10 +132,6 @@ sorted_goes : (p : Pass) (o : Result Sorted ℕ) → ((place : ℕ) → o ≡ Er
 sorted_goes p (Ok s) fine = (tt, refl)
 sorted_goes p (Err place) fine = absurd (fine place refl)
 
-sorted_unshut : (p : Pass) (o : Result Sorted ℕ) → IsUnshut (sorted_with p o).row
-sorted_unshut p (Ok s) = tt
-sorted_unshut p (Err place) = tt
-
 none_there : (o : Option ℕ) → o ≡ None → IsSome o → ⊥
 none_there None e some = cc
 none_there (Some i) e some = cc
@@ -163,25 +169,34 @@ answer_goes : (got : GotData) → ((bytes : List ℕ) → got ≡ came.Took byte
 answer_goes (came.Took bytes) plus = taken_goes bytes (plus bytes refl)
 answer_goes got plus = (tt, refl)
 
-unshut_if : (b : Bool) (x y : PassRow) → IsUnshut x → IsUnshut y → IsUnshut (if b then x else y)
-unshut_if true x y p q = p
-unshut_if false x y p q = q
-
-answer_unshut : (got : GotData) → IsUnshut (answer_row got)
-answer_unshut (came.Took bytes) = unshut_if (bytes_eq bytes (43 ∷ [])) todo.Done (todo.Left Unclean) tt tt
-answer_unshut got = tt
-
--- What holds of each state: the directories of the queue are there, and messages have numbers that a program can name.
+-- What holds of each state: what is in `todo` reads as a todo text, a sender that waits for the answer to `todo/N` is answered nothing but `+`, the
+-- directories of the queue are there, and messages have numbers that a program can name.
 
 record IsApt (s : State) : Type 0 where
+  texts : (n : ℕ) (i : Injection) → s.books.living n ≡ Some i → IsValid i.args → (controls : Controls) (place : ℕ) → sort_todo controls (intd_text i.args).bytes ≡ Err place → ⊥
+  answers : (n : ℕ) → (link_in s).awaits ≡ Awaited (command.Todo n) → IsPlus (link_in s).answers
   dirs : (dir : List ℕ) → Contains queue_dirs dir → Contains s.disk.dirs dir
   small : (n : ℕ) (i : Injection) → s.books.living n ≡ Some i → n < 2 ^ 64
 
-apt : (d : Disk) (h : List Event) → Legal d h → list_all goes_well h ≡ true → IsApt (after d h)
-apt d h legal well = record {
-  dirs = λ dir here. subst (λ (l : List (List ℕ)). Contains l dir) (sym (same_dirs d h)) ((legal_opens d h legal).dirs dir here);
-  small = λ n i is. (numbers_are_small d h legal well n i is).1;
+apt : (controls : Controls) (d : Disk) (h : List Event) → GoesWell controls d h → IsApt (after d h)
+apt controls d h g = record {
+  texts = todo_texts_are_read d h g.legal g.well;
+  answers = todo_answers_are_well controls d h g;
+  dirs = λ dir here. subst (λ (l : List (List ℕ)). Contains l dir) (sym (same_dirs d h)) ((legal_opens d h g.legal).dirs dir here);
+  small = λ n i is. (numbers_are_small d h g.legal g.well n i is).1;
 }
+
+-- what is taken of it
+plus_taken : (pipe : Pipe) (bytes : List ℕ) → IsPlus pipe.bytes → Yields pipe (came.Took bytes) → bytes ≡ 43 ∷ []
+plus_taken pipe [] plus yields = absurd (yields.0 refl)
+plus_taken pipe (b ∷ []) plus yields = ⊎_elim
+    (λ (none : pipe.bytes ≡ []). let both : b ∷ yields.1.0 ≡ [] = sym yields.1.1 ∙ none in absurd (cc))
+    (λ (one : pipe.bytes ≡ codes "+"). let both : b ∷ yields.1.0 ≡ 43 ∷ [] = sym yields.1.1 ∙ one in cc)
+    plus
+plus_taken pipe (b ∷ (c ∷ bytes)) plus yields = ⊎_elim
+    (λ (none : pipe.bytes ≡ []). let both : b ∷ (c ∷ (bytes ++ yields.1.0)) ≡ [] = sym yields.1.1 ∙ none in absurd (cc))
+    (λ (one : pipe.bytes ≡ codes "+"). let both : b ∷ (c ∷ (bytes ++ yields.1.0)) ≡ 43 ∷ [] = sym yields.1.1 ∙ one in absurd (cc))
+    plus
 
 -- An event of a sender
 
@@ -199,12 +214,8 @@ module _ (controls : Controls) (s : State) (I : Inv controls s) (A : IsApt s) (a
   abbrev Moves : PassRow → GotData → Pass
   Moves r got = moved_at d.book.controls r p own.read got
 
-  -- it goes on, if it hears well
-  abbrev Follows : PassRow → GotData → Type 0
-  Follows r got = IsUnshut (Moves r got).row × (HearsWell r p d.book.controls got → is_left (Moves r got).row ≡ false)
-
-  result : (r : PassRow) (got : GotData) → Goes (Moves r got).row → Follows r got
-  result r got g = (g.0, λ hears. g.1)
+  abbrev row : Row
+  row = row_now d own.read own.ready
 
   queued : PassGoesOn controls s.now q a p → HoldsTodo p.row → IsQueued controls (about q p.n)
   queued h holds = (h.stands.rests holds).rest
@@ -215,66 +226,84 @@ module _ (controls : Controls) (s : State) (I : Inv controls s) (A : IsApt s) (a
   rests : PassGoesOn controls s.now q a p → Rests controls p.row p s.disk
   rests h = subst (λ (z : Pass). Rests controls z.row z s.disk) (sym h.is) (pass_rests controls p.n h.past h.first s.disk h.run h.leads)
 
-  by_row : (r : PassRow) → p.row ≡ r → TodoStands controls s.now q a r p → IsUnshut r → ComesOf s a (pass_table.due_at r p) own.came wrote → Follows r own.came
-  by_row (todo.Clear t) e h unshut comes = result (todo.Clear t) own.came
-      (by_answer s a (λ g. came_well g ≡ true → Goes (Moves (todo.Clear t) g).row) (call.Unlink (path_in (part_of t) p.n)) wrote own.came comes
-      (λ answers bytes fits fine. clear_goes s.disk (path_in (part_of t) p.n) t answers wrote fits fine) well)
-  by_row todo.StatMess e h unshut comes =
+  -- what was read is the message's todo text
+  read_well : (Q : IsQueued controls (about q p.n)) → HoldsWhatWasRead p.n p s.disk → (place : ℕ) → sort_todo d.book.controls p.todo ≡ Err place → ⊥
+  read_well Q held place bad =
+      let w = found q.disk.names q.disk.files (Of Todo p.n) Q.todo Q.todo_there in
+      let number : held.0 ≡ Q.todo.number = (let u = w.0 in let v = held.1 in cc) in
+      let text_is : p.todo ≡ (intd_text Q.taken.injection.args).bytes =
+      sym held.2 ∙ ap (λ (j : ℕ). (s.disk.files j).bytes) number ∙ ap (λ (z : Entry). z.file.bytes) (sym w.1) ∙ Q.text.holds in
+      A.texts p.n Q.taken.injection Q.taken.lives Q.taken.valid d.book.controls place (subst (λ (t : List ℕ). sort_todo d.book.controls t ≡ Err place) text_is bad)
+
+  -- it is the sender that waits for its cleaner
+  named_so : a ≡ codes "sender"
+  named_so = subst (λ (program : Program). IsNamed a program) is (I.crew a may.actor may.reads.is)
+
+  waits_now : row ≡ at.InTodo → p.row ≡ todo.Answer → (link_in s).awaits ≡ Awaited (command.Todo p.n)
+  waits_now at_pass e =
+      let past : List Own = may.actor.past in
+      ap awaits_in (ap s.actors (sym named_so) ∙ may.reads.is) ∙ ap (λ (life : Life). awaits_by life may.actor.program past) may.reads.alive ∙ ap (λ (program : Program). awaits_by Alive program past) is
+      ∙ sym (arrives d.row d own.read own.ready) ∙ ap (λ (z : Row). awaits_at z p) at_pass ∙ ap (λ (z : PassRow). awaits_in_pass z p.n) e
+
+  answered_well : row ≡ at.InTodo → p.row ≡ todo.Answer → ComesOf s a (needs.Take port.Clean) own.came wrote → (bytes : List ℕ) → own.came ≡ came.Took bytes → bytes ≡ 43 ∷ []
+  answered_well at_pass e comes bytes took =
+      plus_taken (s.pipework.pipes (codes "sender") port.Clean) bytes (A.answers p.n (waits_now at_pass e))
+      (subst (λ (b : List ℕ). Yields (s.pipework.pipes b port.Clean) (came.Took bytes)) named_so (subst (λ (g : GotData). ComesOf s a (needs.Take port.Clean) g wrote) took comes))
+
+  by_row : (r : PassRow) → p.row ≡ r → row ≡ at.InTodo → TodoStands controls s.now q a r p → IsUnshut r → ComesOf s a (pass_table.due_at r p) own.came wrote → Goes (Moves r own.came).row
+  by_row (todo.Clear t) e at_pass h unshut comes =
+      by_answer s a (λ g. came_well g ≡ true → Goes (Moves (todo.Clear t) g).row) (call.Unlink (path_in (part_of t) p.n)) wrote own.came comes
+      (λ answers bytes fits fine. clear_goes s.disk (path_in (part_of t) p.n) t answers wrote fits fine) well
+  by_row todo.StatMess e at_pass h unshut comes =
       let Q = queued h (subst HoldsTodo (sym e) tt) in
-      result todo.StatMess own.came
-      (by_answer s a (λ g. came_well g ≡ true → Goes (Moves todo.StatMess g).row) (call.Stat (path_in part.Mess p.n)) wrote own.came comes
-      (λ answers bytes fits fine. stat_goes s.disk (path_in part.Mess p.n) Q.taken.mess.number (named Mess p.n Q.taken.mess Q.taken.mess_there) p answers wrote fits fine) well)
-  by_row todo.OpenTodo e h unshut comes =
+      by_answer s a (λ g. came_well g ≡ true → Goes (Moves todo.StatMess g).row) (call.Stat (path_in part.Mess p.n)) wrote own.came comes
+      (λ answers bytes fits fine. stat_goes s.disk (path_in part.Mess p.n) Q.taken.mess.number (named Mess p.n Q.taken.mess Q.taken.mess_there) p answers wrote fits fine) well
+  by_row todo.OpenTodo e at_pass h unshut comes =
       let Q = queued h (subst HoldsTodo (sym e) tt) in
-      result todo.OpenTodo own.came
-      (by_answer s a (λ g. came_well g ≡ true → Goes (Moves todo.OpenTodo g).row) (call.Open (path_in part.Todo p.n) how.Read) wrote own.came comes
-      (λ answers bytes fits fine. open_goes s.disk (path_in part.Todo p.n) Q.todo.number (named Todo p.n Q.todo Q.todo_there) answers wrote fits fine) well)
-  by_row (todo.ReadTodo fd) e h unshut comes = result (todo.ReadTodo fd) own.came
-      (by_answer s a (λ g. came_well g ≡ true → Goes (Moves (todo.ReadTodo fd) g).row) (call.ReadAt fd (length p.todo) 8192) wrote own.came comes
-      (λ answers bytes fits fine. read_goes s.disk fd (length p.todo) 8192 p answers bytes wrote fits fine) well)
-  by_row (todo.CloseTodo fd) e h unshut comes =
-      by_answer s a (Follows (todo.CloseTodo fd)) (call.Close fd) wrote own.came comes
-      (λ answers bytes fits. (sorted_unshut p (sort_todo d.book.controls p.todo), λ hears. (sorted_goes p (sort_todo d.book.controls p.todo) hears).1))
-  by_row (todo.Create t) e h unshut comes =
+      by_answer s a (λ g. came_well g ≡ true → Goes (Moves todo.OpenTodo g).row) (call.Open (path_in part.Todo p.n) how.Read) wrote own.came comes
+      (λ answers bytes fits fine. open_goes s.disk (path_in part.Todo p.n) Q.todo.number (named Todo p.n Q.todo Q.todo_there) answers wrote fits fine) well
+  by_row (todo.ReadTodo fd) e at_pass h unshut comes =
+      by_answer s a (λ g. came_well g ≡ true → Goes (Moves (todo.ReadTodo fd) g).row) (call.ReadAt fd (length p.todo) 8192) wrote own.came comes
+      (λ answers bytes fits fine. read_goes s.disk fd (length p.todo) 8192 p answers bytes wrote fits fine) well
+  by_row (todo.CloseTodo fd) e at_pass h unshut comes =
+      let Q = queued h (subst HoldsTodo (sym e) tt) in
+      let stood : Rests controls (todo.CloseTodo fd) p s.disk = subst (λ (r : PassRow). Rests controls r p s.disk) e (rests h) in
+      by_answer s a (λ g. Goes (Moves (todo.CloseTodo fd) g).row) (call.Close fd) wrote own.came comes
+      (λ answers bytes fits. sorted_goes p (sort_todo d.book.controls p.todo) (read_well Q stood.todo))
+  by_row (todo.Create t) e at_pass h unshut comes =
       let Q = queued h (subst HoldsTodo (sym e) tt) in
       let stood : Rests controls (todo.Create t) p s.disk = subst (λ (r : PassRow). Rests controls r p s.disk) e (rests h) in
       let none : s.disk.names (path_in (part_of t) p.n) ≡ None = its_own t Gone p.sorted p.n s.disk stood.files in
       let dir : HasDir s.disk (path_in (part_of t) p.n) = has_dir s.disk t p.n A.dirs (A.small p.n Q.taken.injection Q.taken.lives) in
-      result (todo.Create t) own.came
-      (by_answer s a (λ g. came_well g ≡ true → Goes (Moves (todo.Create t) g).row) (call.CreateExcl (path_in (part_of t) p.n)) wrote own.came comes
-      (λ answers bytes fits fine. create_goes s.disk (path_in (part_of t) p.n) none dir t answers wrote fits fine) well)
-  by_row (todo.Append t fd done) e h unshut comes =
+      by_answer s a (λ g. came_well g ≡ true → Goes (Moves (todo.Create t) g).row) (call.CreateExcl (path_in (part_of t) p.n)) wrote own.came comes
+      (λ answers bytes fits fine. create_goes s.disk (path_in (part_of t) p.n) none dir t answers wrote fits fine) well
+  by_row (todo.Append t fd done) e at_pass h unshut comes =
       let bytes_are : List ℕ = pass_table.piece (text_of p.sorted t) done in
-      result (todo.Append t fd done) own.came
-      (by_answer s a (λ g. came_well g ≡ true → Goes (Moves (todo.Append t fd done) g).row) (call.Append fd bytes_are) wrote own.came comes
-      (λ answers bytes fits fine. append_goes s.disk bytes_are p t fd done own.read answers wrote fits fine) well)
-  by_row (todo.Sync t fd) e h unshut comes = result (todo.Sync t fd) own.came
-      (by_answer s a (λ g. came_well g ≡ true → Goes (Moves (todo.Sync t fd) g).row) (call.Sync fd) wrote own.came comes
-      (λ answers bytes fits fine. sync_goes s.disk t fd answers wrote fits fine) well)
-  by_row (todo.Close t fd) e h unshut comes = result (todo.Close t fd) own.came
-      (by_answer s a (λ g. Goes (Moves (todo.Close t fd) g).row) (call.Close fd) wrote own.came comes (λ answers bytes fits. made_goes t p.sorted))
-  by_row (todo.Shut fd reason) e h unshut comes = absurd unshut
-  by_row todo.Give e h unshut comes = result todo.Give own.came (give_goes own.came)
-  by_row todo.Answer e h unshut comes = (answer_unshut own.came, λ hears. (answer_goes own.came hears).1)
-  by_row todo.Done e h unshut comes = absurd comes
-  by_row (todo.Left reason) e h unshut comes = absurd comes
-  by_row todo.Lost e h unshut comes = absurd comes
+      by_answer s a (λ g. came_well g ≡ true → Goes (Moves (todo.Append t fd done) g).row) (call.Append fd bytes_are) wrote own.came comes
+      (λ answers bytes fits fine. append_goes s.disk bytes_are p t fd done own.read answers wrote fits fine) well
+  by_row (todo.Sync t fd) e at_pass h unshut comes =
+      by_answer s a (λ g. came_well g ≡ true → Goes (Moves (todo.Sync t fd) g).row) (call.Sync fd) wrote own.came comes
+      (λ answers bytes fits fine. sync_goes s.disk t fd answers wrote fits fine) well
+  by_row (todo.Close t fd) e at_pass h unshut comes =
+      by_answer s a (λ g. Goes (Moves (todo.Close t fd) g).row) (call.Close fd) wrote own.came comes (λ answers bytes fits. made_goes t p.sorted)
+  by_row (todo.Shut fd reason) e at_pass h unshut comes = absurd unshut
+  by_row todo.Give e at_pass h unshut comes = give_goes own.came
+  by_row todo.Answer e at_pass h unshut comes = answer_goes own.came (answered_well at_pass e comes)
+  by_row todo.Done e at_pass h unshut comes = absurd comes
+  by_row (todo.Left reason) e at_pass h unshut comes = absurd comes
+  by_row todo.Lost e at_pass h unshut comes = absurd comes
 
-  abbrev row : Row
-  row = row_now d own.read own.ready
-
-  in_pass : row ≡ at.InTodo → IsUnshut p.row → Follows p.row own.came
-  in_pass e unshut = by_row p.row refl (at_row controls s I a own wrote may start is well at.InTodo e).rests.1.1 unshut (comes_at controls s I a own wrote may start is well at.InTodo e)
+  in_pass : row ≡ at.InTodo → IsUnshut p.row → Goes (Moves p.row own.came).row
+  in_pass e unshut = by_row p.row refl e (at_row controls s I a own wrote may start is well at.InTodo e).rests.1.1 unshut (comes_at controls s I a own wrote may start is well at.InTodo e)
 
 -- Each past
 
 abbrev Held : List Own → Type 0
-Held past = let d : Desk = place_after None past in GoesAt d.row d.pass × (AllHearWell past → NoneLeft None past)
+Held past = let d : Desk = place_after None past in GoesAt d.row d.pass × NoneLeft None past
 
-not_in : (r : Row) (d : Desk) (own : Own) → (r ≡ at.InTodo → HearsWell d.pass.row d.pass d.book.controls own.came → is_left (moved d.book.controls d.pass own.read own.came).row ≡ false)
-    → HearsWellAt r d own.came → leaves r d own ≡ false
-not_in at.InTodo d own fine hears = fine refl hears
-not_in r d own fine hears = refl
+not_in : (r : Row) (d : Desk) (own : Own) → (r ≡ at.InTodo → is_left (moved d.book.controls d.pass own.read own.came).row ≡ false) → leaves r d own ≡ false
+not_in at.InTodo d own fine = fine refl
+not_in r d own fine = refl
 
 module _ (past : List Own) (own : Own) (run : IsRunBy (Next None) (own ∷ past)) (held : Held past) where
   abbrev e : Desk
@@ -289,12 +318,8 @@ module _ (past : List Own) (own : Own) (run : IsRunBy (Next None) (own ∷ past)
   unshut_at : r ≡ at.InTodo → IsUnshut e.pass.row
   unshut_at is = subst (λ (x : Row). GoesAt x e.pass) is (arrives_here e.row e own.read own.ready held.0)
 
-  holds_on : (r ≡ at.InTodo → IsUnshut (moved e.book.controls e.pass own.read own.came).row × (HearsWell e.pass.row e.pass e.book.controls own.came
-      → is_left (moved e.book.controls e.pass own.read own.came).row ≡ false)) → Held (own ∷ past)
-  holds_on fine = (
-    goes_here r own.read own.came e comes_there (λ is. (fine is).0),
-    λ hears. (held.1 hears.0, not_in r e own (λ is. (fine is).1) hears.1),
-  )
+  holds_on : (r ≡ at.InTodo → Goes (moved e.book.controls e.pass own.read own.came).row) → Held (own ∷ past)
+  holds_on fine = (goes_here r own.read own.came e comes_there (λ is. (fine is).0), (held.1, not_in r e own (λ is. (fine is).1)))
 
 acts : (controls : Controls) (s : State) (I : Inv controls s) → IsApt s → (a : List ℕ) (own : Own) (wrote : ℕ) (may : MayDo s a own wrote) (start : ℕ) → may.actor.program ≡ Sender start → goes_well (Act a own wrote) ≡ true
     → IsRunBy (Next None) may.actor.past → Held may.actor.past → Held (own ∷ may.actor.past)
@@ -331,5 +356,6 @@ bears s a own b program may start is ran held =
     holds_on past own run held (λ e. absurd (starts_none d.pass.row d.pass may.asked (ap (λ (r : Row). due_at r d) (sym e) ∙ due ∙ may.starts)))
 
 pub passes_go_on : PassesGoOn
-passes_go_on controls d h g a x start is program hears =
-    (sender_pasts controls goes_well IsApt Held (tt, λ none. tt) (λ s I A. acts controls s I A) (λ s I A. bears s) d g.are (apt d) h g.legal g.well a x is start program).1 hears
+passes_go_on controls d h g a x start is program =
+    (sender_pasts controls goes_well IsApt Held (tt, tt) (λ s I A. acts controls s I A) (λ s I A. bears s) d g.are
+    (λ k legal well. apt controls d k (record { are = g.are; local = g.local; remote = g.remote; legal = legal; well = well })) h g.legal g.well a x is start program).1

@@ -144,7 +144,7 @@ spawner_apart Local program it sends = it
 spawner_apart Remote program it sends = it
 
 -- what comes of a taking of the sender
-takes_some : (s : State) (a : List ℕ) (own : Own) (wrote : ℕ) → ComesOf s a own.due own.came wrote → (c : Channel) → own.due ≡ needs.Take (port_of c) → (bytes : List ℕ)
+pub takes_some : (s : State) (a : List ℕ) (own : Own) (wrote : ℕ) → ComesOf s a own.due own.came wrote → (c : Channel) → own.due ≡ needs.Take (port_of c) → (bytes : List ℕ)
     → own.came ≡ came.Took bytes → IsTaken (s.pipework.pipes a (port_of c)).bytes bytes
 takes_some s a own wrote comes c due bytes got =
     by c (subst (λ (g : GotData). ComesOf s a (needs.Take (port_of c)) g wrote) got (subst (λ (n : NeedData). ComesOf s a n own.came wrote) due comes))

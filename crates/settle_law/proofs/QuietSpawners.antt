@@ -137,7 +137,7 @@ module _ (s : State) (a : List ℕ) where
       (subst (λ (b : Bool). CanNot s a (in_time b (is_late args now) (call_at work.pid work.start (next_piece work row) row))) has can)
 
 -- its input is found, if the pipe is shut
-input_found : (s : State) (a : List ℕ) (args : Arguments) → (s.pipework.pipes a port.Input).shut ≡ true → has_input (found_by s a (Injector args)) ≡ true
+pub input_found : (s : State) (a : List ℕ) (args : Arguments) → (s.pipework.pipes a port.Input).shut ≡ true → has_input (found_by s a (Injector args)) ≡ true
 input_found s a args shut =
     let none : is_awaiting s a ≡ false = ap (λ (b : Bool). is_some (s.pipework.slots a) && not b) (ready_shut (s.pipework.pipes a port.Input) shut) ∙ off (is_some (s.pipework.slots a)) in
     ap (λ (b : Bool). has_input (if b then input_alone false else INPUT_READY)) none

@@ -170,7 +170,7 @@ module _ (kind : Kind) (unstarted : HasNoNul kind.unstarted) (ended : (status : 
   step (at.Ended code) got h may well = absurd may
 
 -- between two steps nothing is given
-comes : (row : Row) (p : Place) (ready : Ready) (given told : List ℕ) → Says row p given told → Says (arrive row p ready) p given told
+pub comes : (row : Row) (p : Place) (ready : Ready) (given told : List ℕ) → Says row p given told → Says (arrive row p ready) p given told
 comes at.Idle p ready given told h = arrives (λ (row : Row). Says row p given told) p h h (λ code. h) (λ slot run. h) ready
 comes at.Greet p ready given told h = h
 comes at.TakeInput p ready given told h = h

@@ -168,7 +168,7 @@ module _ (controls : Controls) (s : State) (I : Inv controls s) (a : List ℕ) (
   pub comes_at : (r : Row) → row ≡ r → ComesOf s a (due_at r d) own.came wrote
   comes_at r e = subst (λ (x : Row). ComesOf s a (due_at x d) own.came wrote) e (comes controls s I a own wrote may start is)
 
-  there : (c : Channel) (n : ℕ) → Serves (about q n) c → (i : ℕ) × (s.disk.names (path (name_of (file_of c n))) ≡ Some i)
+  pub there : (c : Channel) (n : ℕ) → Serves (about q n) c → (i : ℕ) × (s.disk.names (path (name_of (file_of c n))) ≡ Some i)
   there c n h = (h.file.number, ap (λ x. s.disk.names (path x)) (lane_named c n) ∙ (found q.disk.names q.disk.files (Of (lane_part c) n) h.file h.there).0)
 
   opened : (c : Channel) (n begun : ℕ) → row ≡ at.ReadFile c n begun Opening → is_fine (said own.came).way ≡ true

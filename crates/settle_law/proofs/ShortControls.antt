@@ -8,7 +8,7 @@ use Rattle.std.proofs.lemmas.List.{length-append}
 use Rattle.std.proofs.lemmas.List.Elements.{All-nil, All-head, All-from_get_or}
 use Rattle.std.proofs.lemmas.Option.{slice_get-get_or}
 use Rattle.address_rules.specs.declared.control_file.ControlFile.{ControlFile}
-use Rattle.address_rules.specs.declared.control_file.ControlFile.TheVariants.{Me, VirtualDomains, EnvNoAtHost, QueueLifetime}
+use Rattle.address_rules.specs.declared.control_file.ControlFile.TheVariants.{Me, VirtualDomains, EnvNoAtHost, DoubleBounceTo, DoubleBounceHost, QueueLifetime}
 use Rattle.address_rules.specs.declared.controls.Controls.{Controls}
 use Rattle.address_rules.specs.declared.virtual_domains.VirtualDomain.{VirtualDomain}
 use Rattle.address_rules.specs.Cuts.{Parts, first_cut}
@@ -35,12 +35,14 @@ use Rattle.mail_bytes.specs.Texts.{is_blank, trimmed}
 use Rattle.send_core.specs.Papers.{Paper, Papers, closed_paper, control_named, filed, filed_if, filed_last, judged, opened_file, opened_paper, papers, papers_by, papers_on}
 use Rattle.send_core.specs.Papers.Papers.{Reads, Told}
 
--- at most 400 bytes of a host, and 1,000 of a prefix
+-- at most 400 bytes of a name or a host, and 1,000 of a prefix
 abbrev pub HasShortPrefix : VirtualDomain → Type 0
 HasShortPrefix line = length line.prefix ≤ 1000
 
 pub record AreShort (controls : Controls) : Type 0 where
   pub host : length controls.env_no_at_host ≤ 400
+  pub double_to : length controls.double_bounce_to ≤ 400
+  pub double_host : length controls.double_bounce_host ≤ 400
   pub prefixes : All HasShortPrefix controls.virtual_domains
 
 -- Lines
@@ -116,6 +118,8 @@ controls_short files e =
     let sound = none_to files e in
     record {
       host = host_by files sound EnvNoAtHost (me_of files) refl (me_short files sound) (content files EnvNoAtHost) refl;
+      double_to = host_by files sound DoubleBounceTo (codes "postmaster") refl (leb-true (length (codes "postmaster")) 400 refl) (content files DoubleBounceTo) refl;
+      double_host = host_by files sound DoubleBounceHost (me_of files) refl (me_short files sound) (content files DoubleBounceHost) refl;
       prefixes = domains_by files sound (content files VirtualDomains) refl;
     }
 

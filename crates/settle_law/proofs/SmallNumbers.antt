@@ -1,13 +1,13 @@
 -- Where nothing fails the numbers of messages are below 2^64.
 use Rattle.std.proofs.Common.{◌≡◌, ◌≢◌, ⊎_elim, ℕ, ◌+◌, ◌<◌, ◌≤◌, ◌^◌, List, [], ◌∷◌, length, Bool, true, false, ◌&&◌, if◌then◌else◌, Option, Some, None, refl, sym, ap, ◌∙◌, subst}
-use Rattle.std.specs.Prelude.{bytes_eq, is_some, nat_le, nat_lt, option_map}
+use Rattle.std.specs.Prelude.{nat_le, nat_lt, option_map}
 use Rattle.std.specs.List.{list_all}
 use Rattle.std.proofs.lemmas.Bool.{and_parts, le-leb, leb-true, ltb-true}
 use Rattle.call_fs.specs.Apply.{Fits}
 use Rattle.call_fs.specs.Disk.{Disk}
-use Rattle.call_fs.specs.Maps.{put, put_at}
+use Rattle.call_fs.specs.Maps.{put_at}
 use Rattle.call_fs.specs.Program.{IsTaken, MayCome}
-use Rattle.call_fs.proofs.Maps.{put_at_cases, put_cases}
+use Rattle.call_fs.proofs.Maps.{put_at_cases}
 use Rattle.call_fs.specs.declared.calls.Answer.{Answer}
 use Rattle.call_fs.specs.declared.calls.Answer.TheVariants.{Created, Done, Refused}
 use Rattle.call_fs.specs.declared.calls.CallData.{CallData}
@@ -27,28 +27,22 @@ use Rattle.queue_inject.specs.declared.injection.Arguments.{Arguments}
 use Rattle.queue_inject.specs.declared.row.Row.{Row}
 use Rattle.queue_inject.specs.declared.row.Row.TheVariants as at
 use Rattle.queue_inject.specs.Table.{Work, after_came, due_by, goes_to, has_input, in_time, is_late, past_bytes, past_piece, piece_size, place_after, work_of}
-use Rattle.queue_law.specs.Books.{Books, Child as Bouncer, Injection, accept, begun, booked, booked_all, booked_on, entered_in, line_said, linked, notes_read, with_line}
-use Rattle.queue_law.specs.Ledgers.{Line}
-use Rattle.queue_law.specs.Ledgers.Line.{Drops, Notes, Reads, Returns}
+use Rattle.queue_law.specs.Books.{Injection}
 use Rattle.queue_paths.specs.Names.{Name, parse, path}
 use Rattle.queue_paths.specs.Names.Name.{Of}
-use Rattle.queue_paths.specs.Names.Part.{Intd, Mess, Todo}
+use Rattle.queue_paths.specs.Names.Part.{Mess, Todo}
 use Rattle.queue_paths.proofs.Paths.{parse-path}
-use Rattle.send_core.specs.Booked.{booked_at}
-use Rattle.send_core.specs.Table.{place_after as sender_after, row_now}
-use Rattle.send_jobs.specs.Bookings.{Booking}
-use Rattle.send_jobs.specs.Bookings.Booking.{Dropped, Noted, ReadNotes, Reported, Returned}
 use Rattle.world_events.specs.declared.event.Program.{Program}
-use Rattle.world_events.specs.declared.event.Program.TheVariants.{Injector, Cleaner, Sender, LocalSpawner, RemoteSpawner, Delivery}
-use Rattle.mail_world.specs.History.{Actor, Allowed, ComesOf, Event, Legal, Life, State, acted, after, booked_by, books_after, bouncer_of, finished, happens, newborn, next_of, stopped, told_by}
+use Rattle.mail_world.specs.History.{Actor, Allowed, ComesOf, Event, Legal, Life, State, acted, after, finished, happens, newborn, next_of, stopped}
 use Rattle.mail_world.specs.History.Event.{Start, Act, Child, Generation, Report, End, Stop, Moment, Halt}
 use Rattle.mail_world.specs.History.Life.{Over, Stopped}
 use Rattle.mail_world.proofs.Coming.{may_come}
 use Rattle.settle_law.specs.Numbers.{NumbersAreSmall}
+use Rattle.settle_law.proofs.Injected.{Links, OfAll, OfOne, happens_of}
 use Rattle.settle_law.specs.Well.{came_well, goes_well, is_well_answered}
 
 -- a number that a program can name
-abbrev IsSmall : ℕ → Type 0
+abbrev pub IsSmall : ℕ → Type 0
 IsSmall n = (1 ≤ n) × (n < 2 ^ 64)
 
 -- Nothing failed in the past of any actor.
@@ -73,7 +67,7 @@ fits_counted d (CreateExcl name) (Created fd n) wrote fits = le-leb 1 n fits.pos
 fits_counted d c (Created fd n) wrote fits = absurd fits
 fits_counted d c told wrote fits = refl
 
-not_taken : (p : Port) (told : Told) → IsTaken p (Answered told) → ⊥
+pub not_taken : (p : Port) (told : Told) → IsTaken p (Answered told) → ⊥
 not_taken (port.Status d) told may = may
 not_taken p told may = may
 
@@ -86,7 +80,7 @@ comes_counted s a due came wrote comes may = refl
 abbrev pub PastsWell : (List ℕ → Option Actor) → Type 0
 PastsWell actors = (a : List ℕ) (x : Actor) → actors a ≡ Some x → list_all is_well x.past ≡ true
 
-both_true : (p q : Bool) → p ≡ true → q ≡ true → (p && q) ≡ true
+pub both_true : (p q : Bool) → p ≡ true → q ≡ true → (p && q) ≡ true
 both_true true true one two = refl
 both_true true false one two = absurd (cc)
 both_true false q one two = absurd (cc)
@@ -137,7 +131,7 @@ pasts_well d (e ∷ h) legal well =
 
 -- So an injector that is to link its message has a number below 2^64.
 
-abbrev IsSmallAt : Row → Type 0
+abbrev pub IsSmallAt : Row → Type 0
 IsSmallAt (at.LinkMess seq n fd) = IsSmall n
 IsSmallAt row = Unit {0}
 
@@ -190,7 +184,7 @@ came_small : (args : Arguments) (row : Row) (came : GotData) → (came_well came
 came_small args row (Answered told) well h = past_small (work_of args) (goes_to row told.answer) (goes_small row told.answer well)
 came_small args row came well h = h
 
-small_row : (args : Arguments) (past : List Own) → list_all is_well past ≡ true → IsSmallAt (place_after args past)
+pub small_row : (args : Arguments) (past : List Own) → list_all is_well past ≡ true → IsSmallAt (place_after args past)
 small_row args [] well = tt
 small_row args (own ∷ past) well =
     let parts = and_parts (is_well own) (list_all is_well past) well in
@@ -218,118 +212,21 @@ link_small args row old new n due is small = absurd (cc)
 
 -- The books
 
-abbrev AreSmall : Books → Type 0
-AreSmall b = (n : ℕ) → is_some (b.living n) ≡ true → IsSmall n
+abbrev Small : ℕ → Arguments → Type 0
+Small n args = IsSmall n
 
-put_small : (living : ℕ → Option Injection) (n : ℕ) (o : Option Injection) → ((m : ℕ) → is_some (living m) ≡ true → IsSmall m) → (is_some o ≡ true → IsSmall n)
-    → (m : ℕ) → is_some (put living n o m) ≡ true → IsSmall m
-put_small living n o S here m there = ⊎_elim
-    (λ (c : (m ≡ n) × (put living n o m ≡ o)). subst (λ (k : ℕ). IsSmall k) (sym c.0) (here (sym (ap is_some c.1) ∙ there)))
-    (λ (c : (m ≢ n) × (put living n o m ≡ living m)). S m (sym (ap is_some c.1) ∙ there))
-    (put_cases living n o m)
+links_small : (s : State) → PastsWell s.actors → (a : List ℕ) (x : Actor) → s.actors a ≡ Some x → (read : ℕ) (ready : Ready) → Links Small x.program x.past read ready
+links_small s W a x is read ready args old new n program next name =
+    let row = place_after args x.past in
+    let mine : in_time (has_input ready) (is_late args read) (due_by args row) ≡ needs.File (Link old new) = subst (λ (p : Program). next_of p x.past read ready ≡ needs.File (Link old new)) program next in
+    let due = call_due (has_input ready) (is_late args read) (due_by args row) (Link old new) mine in
+    link_small args row old new n due name (small_row args x.past (W a x is))
 
-mapped_there : (f : Injection → Injection) (o : Option Injection) → is_some (option_map f o) ≡ is_some o
-mapped_there f None = refl
-mapped_there f (Some i) = refl
-
-accepted_there : (a : List ℕ) (o : Option Injection) → is_some (accept a o) ≡ is_some o
-accepted_there a None = refl
-accepted_there a (Some i) = by (bytes_eq i.actor a)
-  where
-    by : (b : Bool) → is_some (if b then Some (record i { accepted = true }) else Some i) ≡ true
-    by true = refl
-    by false = refl
-
-entered_small : (b : Books) (n : ℕ) (line : Line) → AreSmall b → AreSmall (entered_in b n line)
-entered_small b n line S = put_small b.living n (option_map (with_line line) (b.living n)) S (λ there. S n (sym (mapped_there (with_line line) (b.living n)) ∙ there))
-
-booked_on_small : (child : Option Bouncer) (e : Booking) (b : Books) → AreSmall b → AreSmall (booked_on child e b)
-booked_on_small child (Reported delivered c n place) b S = entered_small b n (line_said delivered (record { channel = c; place = place })) S
-booked_on_small child (Noted c n place) b S = entered_small b n (Notes (record { channel = c; place = place })) S
-booked_on_small child (ReadNotes n notes) b S = entered_small b n (Reads notes) S
-booked_on_small None (Returned n) b S = S
-booked_on_small (Some bouncer) (Returned n) b S = entered_small b n (Returns (record { actor = bouncer.actor; args = bouncer.args; notes = notes_read (b.living n) })) S
-booked_on_small child (Dropped n) b S = entered_small b n Drops S
-
-booked_all_small : (child : Option Bouncer) (es : List Booking) (b : Books) → AreSmall b → AreSmall (booked_all child es b)
-booked_all_small child [] b S = S
-booked_all_small child (e ∷ es) b S = booked_all_small child es (booked_on child e b) (booked_on_small child e b S)
-
-told_small : (child : Option Bouncer) (b : Books) (program : Program) (past : List Own) (read : ℕ) (ready : Ready) (came : GotData) → AreSmall b → AreSmall (told_by child b program past read ready came)
-told_small child b (Injector args) past read ready came S = S
-told_small child b (Cleaner start) past read ready came S = S
-told_small child b (Sender start) past read ready came S =
-    let d = sender_after None past in booked_all_small child (booked_at (row_now d read ready) came d) b S
-told_small child b (LocalSpawner start) past read ready came S = S
-told_small child b (RemoteSpawner start) past read ready came S = S
-told_small child b (Delivery start args) past read ready came S = S
-
-linked_small : (b : Books) (a : List ℕ) (args : Arguments) (old : List ℕ) (name : Option Name) → ((n : ℕ) → name ≡ Some (Of Mess n) → IsSmall n) → AreSmall b → AreSmall (linked b a args old name)
-linked_small b a args old (Some (Of Mess n)) small S = put_small b.living n (Some (begun a args n)) S (λ there. small n refl)
-linked_small b a args old (Some (Of Todo n)) small S = by (bytes_eq old (path (Of Intd n)))
-  where
-    by : (t : Bool) → AreSmall (if t then record { living = put b.living n (accept a (b.living n)); over = b.over } else b)
-    by true = put_small b.living n (accept a (b.living n)) S (λ there. S n (sym (accepted_there a (b.living n)) ∙ there))
-    by false = S
-linked_small b a args old name small S = S
-
-booked_small : (b : Books) (a : List ℕ) (args : Arguments) (c : CallData) (told : Answer) → ((old new : List ℕ) (n : ℕ) → c ≡ Link old new → parse new ≡ Some (Of Mess n) → IsSmall n) → AreSmall b
-    → AreSmall (booked b a args c told)
-booked_small b a args (Link old new) Done small S = linked_small b a args old (parse new) (λ n is. small old new n refl is) S
-booked_small b a args c told small S = S
-
--- An event
-
-module _ (program : Program) (past : List Own) (read : ℕ) (ready : Ready) (well : list_all is_well past ≡ true) where
-  links_small : (args : Arguments) (c : CallData) (old new : List ℕ) (n : ℕ) → program ≡ Injector args → next_of program past read ready ≡ needs.File c → c ≡ Link old new → parse new ≡ Some (Of Mess n)
-      → IsSmall n
-  links_small args c old new n is next link name =
-      let row = place_after args past in
-      let mine : in_time (has_input ready) (is_late args read) (due_by args row) ≡ needs.File c = subst (λ (p : Program). next_of p past read ready ≡ needs.File c) is next in
-      let due = call_due (has_input ready) (is_late args read) (due_by args row) c mine in
-      link_small args row old new n (due ∙ ap (λ (d : CallData). needs.File d) link) name (small_row args past well)
-
-  by_program_small : (b : Books) (a : List ℕ) (c : CallData) (told : Answer) (p : Program) → program ≡ p → next_of program past read ready ≡ needs.File c → AreSmall b → AreSmall (booked_by b a p c told)
-  by_program_small b a c told (Injector args) is next S = booked_small b a args c told (λ old new n link name. links_small args c old new n is next link name) S
-  by_program_small b a c told (Cleaner start) is next S = S
-  by_program_small b a c told (Sender start) is next S = S
-  by_program_small b a c told (LocalSpawner start) is next S = S
-  by_program_small b a c told (RemoteSpawner start) is next S = S
-  by_program_small b a c told (Delivery start args) is next S = S
-
-  books_small : (child : Option Bouncer) (b : Books) (a : List ℕ) (due : NeedData) (came : GotData) → next_of program past read ready ≡ due → AreSmall b
-      → AreSmall (books_after child b a program past read ready due came)
-  books_small child b a (needs.File c) (Answered told) next S =
-      told_small child (booked_by b a program c told.answer) program past read ready (Answered told) (by_program_small b a c told.answer program refl next S)
-  books_small child b a (needs.Take port) came next S = told_small child b program past read ready came S
-  books_small child b a due came next S = S
-
-acted_small : (s : State) → PastsWell s.actors → (a : List ℕ) (own : Own) (wrote : ℕ) (x : Actor) → s.actors a ≡ Some x → next_of x.program x.past own.read own.ready ≡ own.due → AreSmall s.books
-    → AreSmall (acted s a own wrote (Some x)).books
-acted_small s W a own wrote x is next S = books_small x.program x.past own.read own.ready (W a x is) (bouncer_of s a) s.books a own.due own.came next S
-
-finished_small : (s : State) (a : List ℕ) (life : Life) (o : Option Actor) → AreSmall s.books → AreSmall (finished s a life o).books
-finished_small s a life None S = S
-finished_small s a life (Some x) S = S
-
-event_small : (e : Event) (s : State) → PastsWell s.actors → Allowed s e → AreSmall s.books → AreSmall (happens s e).books
-event_small (Start a program) s W may S = S
-event_small (Act a own wrote) s W may S =
-    subst (λ (o : Option Actor). AreSmall (acted s a own wrote o).books) (sym may.reads.is) (acted_small s W a own wrote may.actor may.reads.is may.due S)
-event_small (Child parent own a program) s W may S =
-    subst (λ (o : Option Actor). AreSmall (acted s parent own 0 o).books) (sym may.reads.is) (acted_small s W parent own 0 may.actor may.reads.is may.due S)
-event_small (Generation sender clean lspawn rspawn) s W may S = S
-event_small (Report slot output) s W may S = S
-event_small (End a read ready status) s W may S = finished_small s a (Over status) (s.actors a) S
-event_small (Stop a) s W may S = finished_small s a Stopped (s.actors a) S
-event_small (Moment m) s W may S = S
-event_small (Halt how contents) s W may S = S
-
-books_are_small : (d : Disk) (h : List Event) → Legal d h → list_all goes_well h ≡ true → AreSmall (after d h).books
-books_are_small d [] legal well = λ n there. absurd (cc)
+books_are_small : (d : Disk) (h : List Event) → Legal d h → list_all goes_well h ≡ true → OfAll Small (after d h).books
+books_are_small d [] legal well = λ n. tt
 books_are_small d (e ∷ h) legal well =
     let parts = and_parts (goes_well e) (list_all goes_well h) well in
-    event_small e (after d h) (pasts_well d h legal.0 parts.1) legal.1 (books_are_small d h legal.0 parts.1)
+    happens_of Small e (after d h) (links_small (after d h) (pasts_well d h legal.0 parts.1)) legal.1 (books_are_small d h legal.0 parts.1)
 
 pub numbers_are_small : NumbersAreSmall
-numbers_are_small d h legal well n i is = books_are_small d h legal well n (ap is_some is)
+numbers_are_small d h legal well n i is = subst (λ (o : Option Injection). OfOne Small n o) is (books_are_small d h legal well n)

@@ -73,7 +73,7 @@ pub record Tended (actors : List ℕ → Option Actor) (w : Pipework) : Type 0 w
 abbrev Shuts : (Pipe → Pipe) → Type 0
 Shuts change = (pipe : Pipe) → pipe.shut ≡ true → (change pipe).shut ≡ true
 
-shut_if : (t : Bool) (x y : Pipe) → x.shut ≡ true → y.shut ≡ true → (if t then x else y).shut ≡ true
+pub shut_if : (t : Bool) (x y : Pipe) → x.shut ≡ true → y.shut ≡ true → (if t then x else y).shut ≡ true
 shut_if true x y h k = h
 shut_if false x y h k = k
 
@@ -86,7 +86,7 @@ gives_shut w a (port.Program d) bytes b p h = put_shut w.pipes (input_of (w.prog
 gives_shut w a to bytes b p h = put_shut w.pipes (far_end w a to) (given bytes) (λ pipe k. k) b p h
 
 -- an event of an actor leaves an input shut
-input_shut : (w : Pipework) (a : List ℕ) (due : NeedData) (got : GotData) (wrote : ℕ) (b : List ℕ) → (w.pipes b port.Input).shut ≡ true → (pipes_after w a due got wrote b port.Input).shut ≡ true
+pub input_shut : (w : Pipework) (a : List ℕ) (due : NeedData) (got : GotData) (wrote : ℕ) (b : List ℕ) → (w.pipes b port.Input).shut ≡ true → (pipes_after w a due got wrote b port.Input).shut ≡ true
 input_shut w a (needs.Give to bytes) came.Gave wrote b h = gives_shut w a to bytes b port.Input h
 input_shut w a (needs.Give to bytes) came.Failed wrote b h = gives_shut w a to (take wrote bytes) b port.Input h
 input_shut w a (needs.Take p) (came.Took bytes) wrote b h = put_shut w.pipes (Some (mouth a p)) (taken bytes) (λ pipe k. k) b port.Input h
@@ -131,7 +131,7 @@ and_true true true one two = refl
 and_true true false one two = absurd (cc)
 and_true false u one two = absurd (cc)
 
-fed_now : (w : Pipework) (a : List ℕ) (d : ℕ) (text : List ℕ) (b : List ℕ) (o : Option Tenant) → o ≡ Some (Runs b) → (put_pipe w.pipes (input_of o) (λ pipe. closed (given text pipe)) b port.Input).shut ≡ true
+pub fed_now : (w : Pipework) (a : List ℕ) (d : ℕ) (text : List ℕ) (b : List ℕ) (o : Option Tenant) → o ≡ Some (Runs b) → (put_pipe w.pipes (input_of o) (λ pipe. closed (given text pipe)) b port.Input).shut ≡ true
 fed_now w a d text b None is = absurd (cc)
 fed_now w a d text b (Some (Remote told)) is = absurd (cc)
 fed_now w a d text b (Some (Runs c)) is =
@@ -176,7 +176,7 @@ module _ (p : LocalPlace) (ready next : Ready) (asked : ChildData) (pid : ℕ) w
   local_feeds due = local_by p.row refl due
 
 -- by any table but the sender's
-feeds_after : (program : Program) (past : List Own) (own : Own) (other : Program) (asked : ChildData) (pid : ℕ) (life : Life) → Bears program other → (IsSender program → ⊥) → IsRunBy (next_of program) (own ∷ past)
+pub feeds_after : (program : Program) (past : List Own) (own : Own) (other : Program) (asked : ChildData) (pid : ℕ) (life : Life) → Bears program other → (IsSender program → ⊥) → IsRunBy (next_of program) (own ∷ past)
     → own.due ≡ needs.Start asked → own.came ≡ came.Started pid → FeedsNow (record { program = program; past = own ∷ past; life = life }) (slot_of asked)
 feeds_after (LocalSpawner since) past own (Delivery start args) asked pid life bears apart run due got now ready =
     let p = local_after past in
@@ -352,7 +352,7 @@ unless_first : (t u : Bool) (x y : Option Tenant) → t ≡ false → (if t && u
 unless_first true u x y e = absurd (cc)
 unless_first false u x y e = refl
 
-put_left : (programs : List ℕ → ℕ → Option Tenant) (a : List ℕ) (d : ℕ) (t : Option Tenant) (e : List ℕ) (k : ℕ) → e ≢ a → put_program programs a d t e k ≡ programs e k
+pub put_left : (programs : List ℕ → ℕ → Option Tenant) (a : List ℕ) (d : ℕ) (t : Option Tenant) (e : List ℕ) (k : ℕ) → e ≢ a → put_program programs a d t e k ≡ programs e k
 put_left programs a d t e k apart = unless_first (bytes_eq e a) (k == d) t (programs e k) (other_text e a apart)
 
 module _ (controls : Controls) (s : State) (I : Inv controls s) (T : Tended s.actors s.pipework) (parent : List ℕ) (own : Own) (a : List ℕ) (program : Program) (may : MayBear s parent own a program)
@@ -492,11 +492,11 @@ if_none : (t : Bool) (o : Option Tenant) (u : Tenant) → (if t then None else o
 if_none true o u is = absurd (cc)
 if_none false o u is = (refl, is)
 
-same_if : {V : Type 0} (t : Bool) (x y : V) → t ≡ false → (if t then x else y) ≡ y
+pub same_if : {V : Type 0} (t : Bool) (x y : V) → t ≡ false → (if t then x else y) ≡ y
 same_if true x y e = absurd (cc)
 same_if false x y e = refl
 
-no_member : (t : Bool) (n : List ℕ) → is_member n ≡ t → (Contains members n → ⊥) → is_member n ≡ false
+pub no_member : (t : Bool) (n : List ℕ) → is_member n ≡ t → (Contains members n → ⊥) → is_member n ≡ false
 no_member true n is apart = absurd (apart (member_contained n is))
 no_member false n is apart = is
 

@@ -56,6 +56,7 @@ use Rattle.world_law.proofs.Ran.{have_run}
 use Rattle.world_law.specs.Inv.{Inv}
 use Rattle.settle_law.specs.Finishes.{BouncesEnd, KnownFinishAtOnce}
 use Rattle.settle_law.specs.Well.{came_well, goes_well, is_well_answered}
+use Rattle.settle_law.proofs.BouncesTaken.{bounces_end}
 use Rattle.settle_law.proofs.Pasts.{sender_pasts}
 use Rattle.settle_law.proofs.ServedPasts.{at_row, by_answer, comes_at, sorted}
 
@@ -259,6 +260,6 @@ bears s a own b program may start is ran held =
     )
 
 pub known_finish_at_once : KnownFinishAtOnce
-known_finish_at_once controls d h g a x start is program bounces k there =
+known_finish_at_once controls d h g a x start is program k there =
     let goes = sender_pasts controls goes_well (λ s. Unit {0}) Goes (refl, λ none n. tt) (λ s I w. acts controls s I) (λ s I w. bears s) d g.are (λ h legal well. tt) h g.legal g.well a x is start program in
-    finishes_at_once None x.past (subst (λ (p : Program). IsRunBy (next_of p) x.past) program (have_run d h g.legal a x is)) k there (goes.1 bounces k.n)
+    finishes_at_once None x.past (subst (λ (p : Program). IsRunBy (next_of p) x.past) program (have_run d h g.legal a x is)) k there (goes.1 (bounces_end controls d h g a x start is program) k.n)

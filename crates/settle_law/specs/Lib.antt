@@ -40,11 +40,25 @@ pub mod Moments
 pub mod Strays
 -- which births it keeps
 pub mod Births
--- what is still to be proved of a rest
-pub mod Holds
 -- that no pass is begun while one is open
 pub mod Alone
 -- what a cleaner answers
 pub mod Cleaned
 -- what leaves a todo pass
 pub mod Passed
+-- messages that were tried and have their file
+pub mod TriedStay
+-- where each report is of a success
+pub mod Succeeded
+-- jobs that left a place `T`
+pub mod Lefts
+-- which messages still have something to do
+pub mod Undone
+-- that todo files are todo texts
+pub mod Texts
+-- that each preprocessed message is known
+pub mod Met
+-- numbers whose message file is there, but neither todo nor info
+pub mod HalfWay
+-- what each `settle` line of a script leads to
+pub mod Lines

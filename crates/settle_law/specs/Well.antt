@@ -12,6 +12,8 @@ use Rattle.call_fs.specs.declared.past.NeedData.{NeedData}
 use Rattle.call_fs.specs.declared.past.NeedData.TheVariants as needs
 use Rattle.call_fs.specs.declared.program.Port.TheVariants.{Output}
 use Rattle.program_law.specs.Sender.Control.{AreControls}
+use Rattle.world_events.specs.declared.event.Program.{Program}
+use Rattle.world_events.specs.declared.event.Program.TheVariants.{Injector}
 use Rattle.mail_world.specs.History.{Event, Legal}
 use Rattle.mail_world.specs.History.Event.{Start, Act, Child, Generation, Report, End, Stop, Moment, Halt}
 
@@ -34,10 +36,16 @@ came_well got = true
 abbrev pub is_well_ended : ℕ → Bool
 is_well_ended status = not (status == 31) && (not (status == 52) && not (status == 63))
 
+-- The user's and the process's number that an injector is started with are u32, as a system's are: it writes both into `todo`. The disk relation and
+-- the events have no bound on them.
+abbrev pub has_system_numbers : Program → Bool
+has_system_numbers (Injector args) = nat_lt args.uid (2 ^ 32) && nat_lt args.pid (2 ^ 32)
+has_system_numbers program = true
+
 abbrev pub goes_well : Event → Bool
-goes_well (Start a program) = true
+goes_well (Start a program) = has_system_numbers program
 goes_well (Act a own wrote) = came_well own.came
-goes_well (Child parent own a program) = true
+goes_well (Child parent own a program) = has_system_numbers program
 goes_well (Generation sender clean lspawn rspawn) = true
 goes_well (Report slot output) = true
 goes_well (End a read ready status) = is_well_ended status
@@ -45,8 +53,8 @@ goes_well (Stop a) = false
 goes_well (Moment m) = true
 goes_well (Halt how contents) = false
 
--- No call fails, nothing is refused for memory, nothing is stopped, and no injector ends so. The control files say these, by which both channels
--- may run a delivery.
+-- No call fails, nothing is refused for memory, nothing is stopped, no injector ends so, and each has a system's numbers. The control files say
+-- these, by which both channels may run a delivery.
 pub record GoesWell (controls : Controls) (d : Disk) (h : List Event) : Type 0 where
   pub are : AreControls controls d
   pub local : 0 < controls.concurrency_local

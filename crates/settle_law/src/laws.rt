@@ -2,25 +2,32 @@
 ghost use Rattle.settle_law.specs.Alone.{PassesBeginAlone};
 ghost use Rattle.settle_law.specs.Begins.{SearchesBegin};
 ghost use Rattle.settle_law.specs.Births.{KnownAreBorn};
-ghost use Rattle.settle_law.specs.Cleaned.{CleanersAnswerWell};
+ghost use Rattle.settle_law.specs.Cleaned.{CleanersAnswerWell, TodoAnswersAreWell};
 ghost use Rattle.settle_law.specs.Dues.{KnownAreDue, RestsAreDue};
 ghost use Rattle.settle_law.specs.Ends.{SettleStops};
-ghost use Rattle.settle_law.specs.Finishes.{KnownFinishAtOnce};
+ghost use Rattle.settle_law.specs.Finishes.{BouncesAreTaken, InjectorsEnd, KnownFinishAtOnce};
 ghost use Rattle.settle_law.specs.Free.{OthersEnd, OthersRunNone, RestsFree};
 ghost use Rattle.settle_law.specs.Gone.{KnownAreGone};
-ghost use Rattle.settle_law.specs.Holds.{RestsHoldBy};
+ghost use Rattle.settle_law.specs.HalfWay.{HalfWaysAreMinded, NoneIsHalfWay};
 ghost use Rattle.settle_law.specs.InHand.{FlightsAreInHand};
+ghost use Rattle.settle_law.specs.Lefts.{LeftsKeep, RowsHoldTried};
+ghost use Rattle.settle_law.specs.Lines.{LinesSettle};
 ghost use Rattle.settle_law.specs.Living.{ServantsLive};
+ghost use Rattle.settle_law.specs.Met.{PreprocessedAreKnown, StaysMet};
 ghost use Rattle.settle_law.specs.Moments.{PastsTellMoments};
 ghost use Rattle.settle_law.specs.Numbers.{NumbersAreSmall};
 ghost use Rattle.settle_law.specs.Passed.{PassesGoOn};
-ghost use Rattle.settle_law.specs.Promised.{IdleRoundsRest, RestsEnd};
+ghost use Rattle.settle_law.specs.Promised.{IdleRoundsRest, RestsEnd, RestsHold, SettlesEnd, SuccessesEnd};
 ghost use Rattle.settle_law.specs.Queued.{NoneIsQueued, RestsUnqueued};
 ghost use Rattle.settle_law.specs.Rests.{FreeChannelsRest, IdleTurnsRest, RestsStay};
 ghost use Rattle.settle_law.specs.Served.{PastsAreServed};
 ghost use Rattle.settle_law.specs.Slots.{RestsHaveSlots, SlotsAreAllowed};
 ghost use Rattle.settle_law.specs.Strays.{RestsBegin, TodoHasNumbers};
+ghost use Rattle.settle_law.specs.Succeeded.{ReportsSucceed, RestsAreEmptyBy, TriedAreAtWork};
 ghost use Rattle.settle_law.specs.Suffices.{RestsSuffice};
+ghost use Rattle.settle_law.specs.TriedStay.{TriedStay};
+ghost use Rattle.settle_law.specs.Undone.{KnownAreUndone};
+ghost use Rattle.settle_law.specs.Texts.{TodoTextsAreRead};
 ghost use Rattle.settle_law.specs.Waiting.{SpawnersWait};
 
 /// At an event of the sender that is an idle turn by itself nothing was to be done.
@@ -114,7 +121,17 @@ pub fn cleaners_answer_well()
     ensures { CleanersAnswerWell }
 {}
 
-/// Where nothing fails no todo pass is left, if what it read is a todo text and the cleaner answered `+`.
+/// Where nothing fails nothing but `+` lies in a sender's pipe from its cleaner while it waits for the answer to `todo/N`.
+pub fn todo_answers_are_well()
+    ensures { TodoAnswersAreWell }
+{}
+
+/// Where nothing fails what stands in `todo` reads as a todo text.
+pub fn todo_texts_are_read()
+    ensures { TodoTextsAreRead }
+{}
+
+/// Where nothing fails no todo pass is left.
 pub fn passes_go_on()
     ensures { PassesGoOn }
 {}
@@ -166,7 +183,17 @@ pub fn known_are_gone()
     ensures { KnownAreGone }
 {}
 
-/// Where nothing fails each known message may be finished at once, if each injector of a bounce whose status was taken had ended with 0.
+/// Where nothing fails an injector that has ended ended with 0, or with the status of the first fault of its input.
+pub fn injectors_end()
+    ensures { InjectorsEnd }
+{}
+
+/// Where nothing fails each injector of a bounce whose status was taken had ended with 0.
+pub fn bounces_end()
+    ensures { BouncesAreTaken }
+{}
+
+/// Where nothing fails each known message may be finished at once.
 pub fn known_finish_at_once()
     ensures { KnownFinishAtOnce }
 {}
@@ -181,7 +208,80 @@ pub fn known_are_due()
     ensures { KnownAreDue }
 {}
 
-/// What is still to be proved of a rest: of these facts come all those of which a settled state comes.
-pub fn rests_hold_by()
-    ensures { RestsHoldBy }
+/// A message that a sender has met it has met still after its next event, by its past, if that event shows so of it and leaves no todo pass.
+pub fn stays_met()
+    ensures { StaysMet }
+{}
+
+/// So each preprocessed message is known where nothing fails, when a turn begins, if no todo pass was left.
+pub fn preprocessed_are_known()
+    ensures { PreprocessedAreKnown }
+{}
+
+/// Where nothing fails each number that has its message file, but neither todo nor info, has somebody who minds it: its injector, or the sender
+/// that finishes it.
+pub fn half_ways_are_minded()
+    ensures { HalfWaysAreMinded }
+{}
+
+/// At a rest no number is in S2 or S3.
+pub fn none_is_half_way()
+    ensures { NoneIsHalfWay }
+{}
+
+/// At each rest the facts hold of which a settled state comes.
+pub fn rests_hold()
+    ensures { RestsHold }
+{}
+
+/// A message that was tried on a channel, has its file and has no job was so before an event too.
+pub fn tried_stay()
+    ensures { TriedStay }
+{}
+
+/// Where nothing fails and each report that a spawner gave was of a success, so was each that the sender took.
+pub fn reports_succeed()
+    ensures { ReportsSucceed }
+{}
+
+/// Then a message that was tried on a channel and has a file there is at work there.
+pub fn tried_are_at_work()
+    ensures { TriedAreAtWork }
+{}
+
+/// So at a rest no message is left, if the facts hold then of which a settled state comes.
+pub fn rests_are_empty_by()
+    ensures { RestsAreEmptyBy }
+{}
+
+/// Each event of a channel keeps a record that reads `T`, without an attempt at it in hand, for each job that left one.
+pub fn lefts_keep()
+    ensures { LeftsKeep }
+{}
+
+/// So do the rows of the sender, and of a message that was tried and has no job a record reads `T` still.
+pub fn rows_hold_tried()
+    ensures { RowsHoldTried }
+{}
+
+/// Where nothing fails, at the end of an idle turn with nothing in flight, a known message that was tried, and has its channel file, has
+/// a record that reads `T`.
+pub fn known_are_undone()
+    ensures { KnownAreUndone }
+{}
+
+/// Where nothing fails the state is settled after `settle` that printed nothing.
+pub fn settles_end()
+    ensures { SettlesEnd }
+{}
+
+/// And if each report was of a success no message is left.
+pub fn successes_end()
+    ensures { SuccessesEnd }
+{}
+
+/// Each `settle` line of a script that is played prints why it stopped, or nothing. If it prints nothing, and nothing troubled the queue until then, it
+/// leads to what `settle` promises.
+pub fn lines_settle()
+    ensures { LinesSettle }
 {}

@@ -47,6 +47,10 @@
 //! - `opening LINE`, `play LINE`: a line of it, as in a file of stops.
 //! - `told LINE`: a line that must be printed. With a trace these are all lines, except for the events that are no end and make no
 //!   name in `home` nor take one away.
+//! - `rests yes` or `rests no`: the lines `told` are all that is printed from the last line `pid` on, and the event before it must be
+//!   the end of an idle turn. Each message that is shown must then be preprocessed, have a record that reads `T`, and wait for its next
+//!   retry on each channel on which one does, as the events say, with nothing in flight; or, after `no`, this must not be so. `cat` of
+//!   both channel files of such a message stands after `show`.
 //!
 //! Pieces and directories are parted by ` | `, and words, numbers and names by spaces. In bytes, `%` and two hexadecimal digits
 //! are one byte, and `%*` is the byte of the line `times`, as often as it says. The line printed of the file says how many rows
@@ -64,7 +68,9 @@ mod crowded_disk;
 mod disks;
 mod fields;
 mod meeting;
+mod passes;
 mod plays;
+mod rests;
 mod rows;
 mod shells;
 mod stages;

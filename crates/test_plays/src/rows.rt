@@ -15,7 +15,7 @@ use std::sync::Wait;
 use std::thread::Threads;
 
 /// The names that lines of a row begin with.
-const NAMES: [&str; 23] = [
+const NAMES: [&str; 24] = [
     "words",
     "pid",
     "moments",
@@ -39,6 +39,7 @@ const NAMES: [&str; 23] = [
     "opening",
     "play",
     "told",
+    "rests",
 ];
 
 /// Makes the call of each row, and prints which rows go otherwise and how many go as they say.

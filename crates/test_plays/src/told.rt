@@ -1,6 +1,8 @@
 // Scripts with the ends of actors, and with what else they print.
 
+use crate::fields::has_field;
 use crate::plays::printed;
+use crate::rests::is_so;
 use crate::stops::whole_script;
 use std::io;
 use std::str::Lines;
@@ -14,11 +16,16 @@ const UNTOLD: [&str; 17] = [
     "next", "give", "take", "report", "stop", "moment", "halt",
 ];
 
-/// Whether the script of a row prints what the row says, except for the events that aren't told.
+/// Whether the script of a row prints what the row says, except for the events that aren't told. If the row says whether messages
+/// rest, what was shown last counts alone.
 pub(crate) fn is_told(rt: &HostRuntime, lines: &str) -> io::Result<bool> {
     let script = whole_script(rt.alloc(), lines)?;
     let text = printed(rt, script)?;
-    let is_right = tells(&text, lines);
+    let is_right = if has_field(lines, "rests") {
+        is_so(&text, lines)
+    } else {
+        tells(&text, lines)
+    };
     drop(text);
     Ok(is_right)
 }
@@ -35,7 +42,7 @@ fn tells(text: &str, lines: &str) -> bool {
 }
 
 /// What the next line says that tells something.
-fn next_told<'a>(lines: &mut Lines<'a>) -> Option<&'a str> {
+pub(crate) fn next_told<'a>(lines: &mut Lines<'a>) -> Option<&'a str> {
     lines.find_map(|line| line.strip_prefix("told "))
 }
 

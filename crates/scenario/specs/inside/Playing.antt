@@ -1,5 +1,5 @@
 -- What one turn, round or line of a play leaves.
-use Rattle.std.specs.Prelude.{◌≡◌, ◌≢◌, ◌⊎◌, ℕ, List, [], ◌++◌, Bool, true, false, ◌||◌, ◌&&◌, Option, Some, None, bytes_eq, codes, nat_lt}
+use Rattle.std.specs.Prelude.{◌≡◌, ◌≢◌, ◌⊎◌, ℕ, ◌+◌, List, [], ◌++◌, Bool, true, false, ◌||◌, ◌&&◌, Option, Some, None, bytes_eq, codes, nat_lt}
 use Rattle.std.specs.List.{count_by, list_all}
 use Rattle.call_fs.specs.declared.calls.Answer.{Answer}
 use Rattle.call_fs.specs.declared.past.GotData.{GotData}
@@ -21,7 +21,7 @@ use Rattle.scenario.specs.declared.stepping.AfterStep.TheVariants as how
 use Rattle.scenario.specs.Deeds.{Deed}
 use Rattle.scenario.specs.Steps.{plan_through, has_idled, IsRunOf}
 use Rattle.scenario.specs.Traced.{traced_text}
-use Rattle.scenario.specs.Turns.{Part, IsTurnOf, events_of, text_of, AreReported, reports_of, Round, IsRound, round_events, has_bytes, is_idle, is_search_call, is_first_call}
+use Rattle.scenario.specs.Turns.{NoneBetween, Part, IsTurnOf, events_of, text_of, AreReported, reports_of, Round, IsRound, round_events, has_bytes, is_idle, is_search_call, is_first_call}
 -- a world in which a script is played, and what a line or a step leaves
 pub use Rattle.scenario.specs.Playing.{IsPlaying, HasPlayed, HasStepped, HasRun, IsRefusedAs}
 
@@ -68,11 +68,16 @@ pub record HasParted (d : Disk) (new : Seen Crash) (a : List ℕ) (was now : Boo
   pub playing : IsPlaying d new (plan_through plan events) (events ++ h)
   pub text : after_text ≡ before ++ own
 
--- what a turn leaves; and whether its newest event ended an idle turn of a sender
-pub record HasTurned (d : Disk) (new : Seen Crash) (idle : Bool) (before after_text : List ℕ) (plan : Plan) (h : List Deed) : Type 0 where
+-- where a turn doesn't look, no actor that lives started: before the place `first`, and from that of the fourth one after it on before `later`
+abbrev pub NonePassed : Disk → List Deed → ℕ → ℕ → Type 0
+NonePassed d h first later = NoneBetween d h 0 first × NoneBetween d h (first + 4) later
+
+-- what a turn leaves; whether its newest event ended an idle turn of a sender; and where the next one need not look
+pub record HasTurned (d : Disk) (new : Seen Crash) (first later : ℕ) (idle : Bool) (before after_text : List ℕ) (plan : Plan) (h : List Deed) : Type 0 where
   pub parts : List Part
   pub turn : IsTurnOf d h plan parts
   pub idled : idle ≡ has_idled d h (events_of parts)
+  pub none : NonePassed d (events_of parts ++ h) first later
   pub playing : IsPlaying d new (plan_through plan (events_of parts)) (events_of parts ++ h)
   pub text : after_text ≡ before ++ text_of parts
 
@@ -82,11 +87,12 @@ pub record HasReported (d : Disk) (new : Seen Crash) (letter : Letter) (plan : P
   pub reported : AreReported d h letter slots
   pub playing : IsPlaying d new plan (reports_of letter slots ++ h)
 
--- what a round leaves; and whether it is the last one
-pub record HasRounded (d : Disk) (new : Seen Crash) (letter : Letter) (last : Bool) (before after_text : List ℕ) (plan : Plan) (h : List Deed) : Type 0 where
+-- what a round leaves; whether it is the last one; and where the next turn need not look
+pub record HasRounded (d : Disk) (new : Seen Crash) (first later : ℕ) (letter : Letter) (last : Bool) (before after_text : List ℕ) (plan : Plan) (h : List Deed) : Type 0 where
   pub round : Round
   pub is : IsRound d h plan letter round
   pub is_last : last ≡ (has_bytes (text_of round.parts) || is_idle d h letter round)
+  pub none : NonePassed d (round_events letter round ++ h) first later
   pub playing : IsPlaying d new (plan_through plan (round_events letter round)) (round_events letter round ++ h)
   pub text : after_text ≡ before ++ text_of round.parts
 

@@ -1,6 +1,6 @@
 use Rattle.std.proofs.Common.{Ok, Err}
 use Rattle.qmail_top.specs.declared.play_command.Failure.TheVariants.{Output}
-use Rattle.qmail_top.proofs.Commands.{checked_script, nothing_reached, bad_line_printed}
+use Rattle.qmail_top.proofs.Commands.{checked_script, few_said, nothing_reached, bad_line_printed}
 use Rattle.qmail_top.proofs.play_command.play_message.Goals as goal
 
 pub returns-in-Ok-play-clause-checked : goal.returns-in-Ok-play-clause-checked
@@ -22,3 +22,8 @@ returns-in-Err-Line-clause-refuses g c =
     let bad = rw c.in-Err-Line.field-0-is at fault in
     bad_line_printed _ (g.M.Source.left c.args.message.now) (g.M.Source.left c.read_whole.new.message) (g.O.Sink.taken c.args.out.now) (g.O.Sink.taken c.refuse.new.out) c.in_ok-bytes.bytes.items c.in-Err-Line.number _
     c.in_ok-bytes.ensures.read bad (rw c.in-Err-Line.number-is at c.refuse.ensures)
+
+pub returns-in-Ok-play-clause-few : goal.returns-in-Ok-play-clause-few
+returns-in-Ok-play-clause-few g c =
+    let script = rw c.deref.ensures.value at c.in-Ok.ensures.ok in
+    few_said (g.M.Source.left c.args.message.now) (g.M.Source.left c.read_whole.new.message) c.in_ok-bytes.bytes.items c.in-Ok.script c.in_ok-bytes.ensures.read script c.in-Ok-play.ensures.few

@@ -18,11 +18,11 @@ returns-in-Ok c = λ d plan h playing.
 
 pub returns-in-Err : goal.returns-in-Err
 returns-in-Err c =
-    on_ok_weaker c.put_taken.result
+    on_ok_weaker c.refuse_number.result
     (λ told d plan h playing.
     let text = told ∙ ap (λ n. c.args.text.now.items ++ refusal_line Refusal.Taken (digits n)) c.number-in-Err.ensures.value in
     rw text
     (number_refused d c.args.world.now c.pick.new.self plan c.args.number c.args.text.now.items h playing c.in-Err.ensures.err.plan_is
     (λ unused. let ok = c.pick.ensures.unused.1 (subst (λ n. IsUnused (crash_disk c.args.world.now.disk) n) (sym c.number.ensures.value) unused) in absurd (cc (rw c.in-Err.is at ok)))
     c.pick.ensures.disk c.pick.ensures.events c.pick.ensures.present))
-    c.put_taken.ensures
+    c.refuse_number.ensures

@@ -1,4 +1,4 @@
-use Rattle.std.proofs.Common.{◌≡◌, ◌+◌, ◌<◌, ◌^◌, length, ◌++◌, ◌∷◌, [], List, reverse, take, drop, refl, sym, ap, ◌∙◌, subst, append_assoc}
+use Rattle.std.proofs.Common.{◌≡◌, ◌+◌, ◌<◌, ◌^◌, length, ◌++◌, ◌∷◌, [], List, reverse, take, drop, refl, sym, ap, ◌∙◌, subst, arith, append_assoc}
 use Rattle.std.specs.List.{AllByRecursion, AllZip}
 use Rattle.std.proofs.lemmas.List.{append-nil, take-append-drop, take_all}
 use Rattle.std.proofs.lemmas.Result.{err_from_is_err_and}
@@ -15,9 +15,11 @@ use Rattle.script_lines.specs.Contents.{HaveEntryPaths}
 use Rattle.scenario.specs.Deeds.{TellsDeed}
 use Rattle.scenario.specs.Fates.{IsFedSo}
 use Rattle.scenario.specs.FirstDisk.{IsFirstDisk}
-use Rattle.scenario.specs.Text.{IsPlayed}
+use Rattle.scenario.specs.Text.{HaveFewDeeds, IsPlayed}
 use Rattle.scenario.specs.Traced.{traced_after}
 use Rattle.scenario.specs.Playing.{IsPlaying}
+use Rattle.scenario.proofs.Deeds.{told_long}
+use Rattle.scenario.proofs.OneText.{few_played}
 use Rattle.scenario.proofs.Openings.{first_opens}
 use Rattle.scenario.proofs.ScriptLines.{nothing_begun, nothing_played, play_goes_on, is_played, is_begun, took_more, took_none, with_next}
 use Rattle.scenario.proofs.TakenLines.{append_empty}
@@ -140,3 +142,32 @@ returns-clause-silent g c =
           (is_played c.args.script.opening (take i items) c.loop-line.world c.loop-line.traced so),
       c.loop-line.invariant.3,
     )
+
+-- with so many events it is out of memory
+pub returns-then-len-ge-TOO_MANY-clause-begun : goal.returns-then-len-ge-TOO_MANY-clause-begun
+returns-then-len-ge-TOO_MANY-clause-begun g c =
+    let so = c.loop-line.invariant.1 in
+    let items = c.lines-line-items.result.now in
+    let i = c.loop-line.line-index in
+    let all = take_all i items c.loop-line-test.false ∙ c.lines-line-items.ensures in
+    told_weaker (g.O.Sink.taken c.args.out.now) (g.O.Sink.taken c.loop-line.out)
+    (λ x y e. (
+      so.text,
+      is_begun c.args.script.opening c.args.script.lines (take i items) [] so.text [] so.text (sym all ∙ sym (append-nil (take i items)))
+          (is_played c.args.script.opening (take i items) c.loop-line.world c.loop-line.traced so) (sym (append-nil so.text)),
+      e,
+    ))
+    c.loop-line.invariant.2
+
+pub returns-clause-few : goal.returns-clause-few
+returns-clause-few g c =
+    let so = c.loop-line.invariant.1 in
+    let items = c.lines-line-items.result.now in
+    let i = c.loop-line.line-index in
+    let long = told_long c.loop-line.world.events so.deeds so.playing.told in
+    let kept = ap length c.history.ensures.events in
+    let count = c.len.ensures in
+    let low = c.if-len-ge-TOO_MANY.false in
+    let few : length so.deeds < 2 ^ 63 = omega (arith, long, kept, count, low) in
+    subst (λ (l : List Line). HaveFewDeeds c.args.script.opening l) (take_all i items c.loop-line-test.false ∙ c.lines-line-items.ensures)
+    (few_played c.args.script.opening (take i items) so.text (is_played c.args.script.opening (take i items) c.loop-line.world c.loop-line.traced so) few)

@@ -13,10 +13,10 @@ returns-in-Ok c = λ d plan h playing.
 
 pub returns-in-Err-Past : goal.returns-in-Err-Past
 returns-in-Err-Past c =
-    on_ok_weaker c.put_past.result
+    on_ok_weaker c.refuse_number.result
     (λ told d plan h playing.
     let late = (c.moment.ensures.past c.in-Err-Past.present).0 (c.in-Err-Past.is ∙ ap Err c.in-Err-Past.field-0-is) in
     let text = told ∙ ap (λ n. c.args.text.now.items ++ refusal_line Refusal.Past (digits n)) late.0 in
     rw (c.in-Err-Past.ensures.err, text)
     (moment_refused d c.args.world.now plan c.args.moment c.args.text.now.items h playing (subst (λ m. m < c.args.world.now.present) c.seconds.ensures.value late.1)))
-    c.put_past.ensures
+    c.refuse_number.ensures
