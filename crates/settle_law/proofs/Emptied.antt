@@ -39,9 +39,8 @@ use Rattle.mail_world.specs.History.{Actor, next_of}
 use Rattle.scenario.specs.Deeds.{Deed, after, history_of}
 use Rattle.scenario.specs.Turns.{is_search_call}
 use Rattle.world_law.proofs.Ran.{have_run}
-use Rattle.settle_law.specs.Promised.{IsRest}
+use Rattle.settle_law.specs.Promised.{IsRest, RestsAreEmpty, RestsHold}
 use Rattle.settle_law.specs.Settled.{AllGone, WaitsForRetry}
-use Rattle.settle_law.specs.Succeeded.{RestsAreEmptyBy}
 use Rattle.settle_law.specs.Suffices.{HasRest, IsKnown, desk_of}
 use Rattle.settle_law.specs.TriedStay.{tried_at}
 use Rattle.settle_law.specs.Well.{AllSucceed}
@@ -137,7 +136,7 @@ module _ (controls : Controls) (d : Disk) (deed : Deed) (before : List Deed) (re
         (λ (w : WaitsForRetry (after d (deed ∷ before)) y.past n). absurd (waits_not n w))
         (suffices (after d (deed ∷ before)) y.past ready h n)
 
-pub rests_are_empty_by : RestsAreEmptyBy
+pub rests_are_empty_by : RestsHold → RestsAreEmpty
 rests_are_empty_by hold controls d deed before rest all =
     let h = hold controls d deed before rest (at_rest.y controls d deed before rest) (at_rest.is_now controls d deed before rest) in
     all_gone controls d deed before rest all h.0 h.1

@@ -14,7 +14,7 @@ use Rattle.scenario.specs.Steps.Refusal.{Rounds, Steps}
 use Rattle.scenario.specs.Turns.{IsSettled, Round, events_in}
 use Rattle.settle_law.specs.Ends.{StopsSo}
 use Rattle.settle_law.specs.Ends.StopsSo.{Rests, TooLong, TooMany}
-use Rattle.settle_law.specs.Promised.{HasSettled, IsRest, OthersWait, RestsAreEmpty, RestsAreSettled, RestsEnd, RestsHold, SettlesEnd, SuccessesEnd}
+use Rattle.settle_law.specs.Promised.{HasSettled, IsRest, OthersWait, RestsAreEmpty, RestsAreSettled, RestsHold, SettlesEnd, SuccessesEnd}
 use Rattle.settle_law.specs.Settled.{AllGone, Settled}
 use Rattle.settle_law.specs.Well.{AllSucceed, GoesWell}
 use Rattle.settle_law.proofs.IdleRounds.{idle_rounds_rest}
@@ -51,12 +51,12 @@ module _ (controls : Controls) (d : Disk) (h : List Deed) (letter : Letter) (rou
   last_rest : Rest controls d (events_in letter rounds ++ h)
   last_rest = rest_of (settle_stops d h so.plan letter rounds [] so.settles)
 
-settled : RestsAreSettled → SettlesEnd
+pub settled : RestsAreSettled → SettlesEnd
 settled are controls d h letter rounds so =
     let it = last_rest controls d h letter rounds so in
     subst (λ (l : List Deed). Settled (after d l)) (sym it.are) (are controls d it.deed it.before it.rest)
 
-gone : RestsAreEmpty → SuccessesEnd
+pub gone : RestsAreEmpty → SuccessesEnd
 gone are controls d h letter rounds so all =
     let it = last_rest controls d h letter rounds so in
     subst (λ (l : List Deed). AllGone (after d l)) (sym it.are)
@@ -79,13 +79,10 @@ rest_lives : (controls : Controls) (d : Disk) (own : Own) (wrote : ℕ) (before 
     → Lives (after d (Came (Act (codes "sender") own wrote) ∷ before))
 rest_lives controls d own wrote before well = let reads = well.legal.1.reads in lives_on (after d before) own wrote well.legal.1.actor reads.is reads.alive
 
-hold : RestsHold → RestsAreSettled
+pub hold : RestsHold → RestsAreSettled
 hold facts controls d deed before rest =
     let idle = rest.idle in
     let well = subst (λ (e : Deed). GoesWell controls d (history_of (e ∷ before))) idle.is rest.well in
     let lives : Lives (after d (deed ∷ before)) = subst (λ (e : Deed). Lives (after d (e ∷ before))) (sym idle.is) (rest_lives controls d idle.own idle.wrote before well) in
     let it = facts controls d deed before rest lives.sender lives.is in
     record { sender = lives.sender; is = lives.is; alive = lives.alive; settled = suffices (after d (deed ∷ before)) lives.sender.past it.0 it.1 }
-
-pub rests_end : RestsEnd
-rests_end = record { hold = hold; settled = settled; gone = gone }

@@ -146,7 +146,7 @@ module _ (controls : Controls) (d : Disk) (deed : Deed) (before : List Deed) (re
     no_s3 = λ n. (none_is_half_way controls d deed before rest n).1;
     no_s4 = unqueued controls d deed before rest.well rest.idle x is begins;
     known = λ n e.
-        let k = preprocessed_are_known controls d (history_of before) well (codes "sender") x it.start is may.reads.alive it.program stays begins n
+        let k = preprocessed_are_known controls d (history_of before) well (codes "sender") x it.start is may.reads.alive it.program begins n
         (subst (λ (disk : Disk). state_of disk n ≡ S5) disk_is e) in
         (k.0, subst (λ (m : Messages). Contains m.known k.0) (sym keeps.messages) k.1, k.2);
     rests = subst (λ (m : ℕ). IsAtRest (desk_of y.past) m own.ready) read_is (rests_stay (desk_of x.past) own begins it.ends);

@@ -29,6 +29,7 @@ use Rattle.world_law.proofs.Ran.{have_run}
 use Rattle.world_law.specs.Inv.{Inv}
 use Rattle.settle_law.proofs.FiledCalls.{some_of}
 use Rattle.settle_law.proofs.MetAlways.{all_met}
+use Rattle.settle_law.proofs.Passed.{passes_go_on}
 use Rattle.settle_law.proofs.SmallNumbers.{numbers_are_small}
 use Rattle.settle_law.specs.Met.{Comes, IsFiled, PreprocessedAreKnown}
 use Rattle.settle_law.specs.Rests.{BeginsTurn}
@@ -77,10 +78,10 @@ begins_none (at.Turn p) d n begins comes = comes
 begins_none row d n begins comes = begins
 
 pub preprocessed_are_known : PreprocessedAreKnown
-preprocessed_are_known controls d h well a x start is alive program stays begins n e = ⊎_elim
+preprocessed_are_known controls d h well a x start is alive program begins n e = ⊎_elim
     (λ (known : known_in x.past n ≡ true). known_one n (desk_of x.past).book.messages.known (known_exactly None x.past run n ∙ known))
     (λ (comes : Comes (desk_of x.past).row (desk_of x.past) n). absurd (begins_none (desk_of x.past).row (desk_of x.past) n begins comes))
-    ((all_met controls d well.are h well.legal a x is start program alive run stays).met n small.0 small.1 filed)
+    ((all_met controls d well.are h well.legal a x is start program alive run (passes_go_on controls d h well a x start is program)).met n small.0 small.1 filed)
   where
     t : State
     t = after d h

@@ -14,7 +14,7 @@ use Rattle.queue_paths.specs.Names.Name.{Of}
 use Rattle.queue_paths.specs.Names.Part.{Info, Todo}
 use Rattle.queue_states.specs.States.{state_of}
 use Rattle.queue_states.specs.declared.state.State.TheVariants.{S5}
-use Rattle.retry_law.specs.Left.{NoneLeft, leaves_at}
+use Rattle.retry_law.specs.Left.{leaves_at}
 use Rattle.send_core.specs.declared.desk.Desk.{Desk}
 use Rattle.send_core.specs.declared.row.Row.{Row}
 use Rattle.send_core.specs.declared.row.Row.TheVariants as at
@@ -110,4 +110,4 @@ pub record AreMet (d : Disk) (past : List Own) : Type 0 where
 -- So each preprocessed message is known where nothing fails, when a turn begins, if no todo pass was left.
 abbrev pub PreprocessedAreKnown : Type 0
 PreprocessedAreKnown = (controls : Controls) (d : Disk) (h : List Event) → GoesWell controls d h → (a : List ℕ) (x : Actor) (start : ℕ) → (after d h).actors a ≡ Some x → x.life ≡ Alive
-    → x.program ≡ Sender start → NoneLeft None x.past → BeginsTurn (desk_of x.past).row → (n : ℕ) → state_of (after d h).disk n ≡ S5 → (k : Known) × IsKnown x.past k × (k.n ≡ n)
+    → x.program ≡ Sender start → BeginsTurn (desk_of x.past).row → (n : ℕ) → state_of (after d h).disk n ≡ S5 → (k : Known) × IsKnown x.past k × (k.n ≡ n)

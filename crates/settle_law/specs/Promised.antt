@@ -70,9 +70,3 @@ RestsAreEmpty = (controls : Controls) (d : Disk) (deed : Deed) (before : List De
 abbrev pub RestsHold : Type 0
 RestsHold = (controls : Controls) (d : Disk) (deed : Deed) (before : List Deed) → IsRest controls d deed before → (x : Actor)
     → (after d (deed ∷ before)).actors (codes "sender") ≡ Some x → (ready : Ready) × HasRest (after d (deed ∷ before)) x.past ready
-
--- What is promised comes of these, and the first of the last.
-pub record RestsEnd : Type 0 where
-  pub hold : RestsHold → RestsAreSettled
-  pub settled : RestsAreSettled → SettlesEnd
-  pub gone : RestsAreEmpty → SuccessesEnd

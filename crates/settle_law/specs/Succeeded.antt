@@ -14,7 +14,6 @@ use Rattle.spawn_protocol.specs.Report.{counted}
 use Rattle.spawn_protocol.specs.declared.report.Report.{Report}
 use Rattle.world_events.specs.declared.event.Program.TheVariants.{Sender}
 use Rattle.mail_world.specs.History.{Actor, Event, after}
-use Rattle.settle_law.specs.Promised.{RestsAreEmpty, RestsHold}
 use Rattle.settle_law.specs.Suffices.{desk_of}
 use Rattle.settle_law.specs.TriedStay.{tried_at}
 use Rattle.settle_law.specs.Well.{AllSucceed, GoesWell}
@@ -37,7 +36,3 @@ ReportsSucceed = (controls : Controls) (d : Disk) (h : List Event) → GoesWell 
 abbrev pub TriedAreAtWork : Type 0
 TriedAreAtWork = (controls : Controls) (d : Disk) (h : List Event) → GoesWell controls d h → (a : List ℕ) (x : Actor) (start : ℕ) → (after d h).actors a ≡ Some x
     → x.program ≡ Sender start → HearsSuccess x.past → (c : Channel) (n : ℕ) → tried_at x.past c n ≡ true → IsSome (job_of n (lane c (desk_of x.past).slots).jobs)
-
--- So at a rest no message is left, if the facts hold then of which a settled state comes.
-abbrev pub RestsAreEmptyBy : Type 0
-RestsAreEmptyBy = RestsHold → RestsAreEmpty

@@ -17,13 +17,13 @@ ghost use Rattle.settle_law.specs.Met.{PreprocessedAreKnown, StaysMet};
 ghost use Rattle.settle_law.specs.Moments.{PastsTellMoments};
 ghost use Rattle.settle_law.specs.Numbers.{NumbersAreSmall};
 ghost use Rattle.settle_law.specs.Passed.{PassesGoOn};
-ghost use Rattle.settle_law.specs.Promised.{IdleRoundsRest, RestsEnd, RestsHold, SettlesEnd, SuccessesEnd};
+ghost use Rattle.settle_law.specs.Promised.{IdleRoundsRest, RestsHold, SettlesEnd, SuccessesEnd};
 ghost use Rattle.settle_law.specs.Queued.{NoneIsQueued, RestsUnqueued};
 ghost use Rattle.settle_law.specs.Rests.{FreeChannelsRest, IdleTurnsRest, RestsStay};
 ghost use Rattle.settle_law.specs.Served.{PastsAreServed};
 ghost use Rattle.settle_law.specs.Slots.{RestsHaveSlots, SlotsAreAllowed};
 ghost use Rattle.settle_law.specs.Strays.{RestsBegin, TodoHasNumbers};
-ghost use Rattle.settle_law.specs.Succeeded.{ReportsSucceed, RestsAreEmptyBy, TriedAreAtWork};
+ghost use Rattle.settle_law.specs.Succeeded.{ReportsSucceed, TriedAreAtWork};
 ghost use Rattle.settle_law.specs.Suffices.{RestsSuffice};
 ghost use Rattle.settle_law.specs.TriedStay.{TriedStay};
 ghost use Rattle.settle_law.specs.Undone.{KnownAreUndone};
@@ -63,12 +63,6 @@ pub fn settle_stops()
 /// After an idle round of `settle` nobody but the sender has anything to do: each other living actor waits, and each remote program has its report.
 pub fn idle_rounds_rest()
     ensures { IdleRoundsRest }
-{}
-
-/// What `settle` promises comes of one fact, which isn't proved here: a history that went well and ends so has left a settled state, without a
-/// message if each report was of a success. It has left such a state if the facts hold then of which one comes.
-pub fn rests_end()
-    ensures { RestsEnd }
 {}
 
 /// When a sender begins a turn a channel has just as many slots as its spawner and its control file allow.
@@ -213,7 +207,7 @@ pub fn stays_met()
     ensures { StaysMet }
 {}
 
-/// So each preprocessed message is known where nothing fails, when a turn begins, if no todo pass was left.
+/// So each preprocessed message is known where nothing fails, when a turn begins.
 pub fn preprocessed_are_known()
     ensures { PreprocessedAreKnown }
 {}
@@ -247,11 +241,6 @@ pub fn reports_succeed()
 /// Then a message that was tried on a channel and has a file there is at work there.
 pub fn tried_are_at_work()
     ensures { TriedAreAtWork }
-{}
-
-/// So at a rest no message is left, if the facts hold then of which a settled state comes.
-pub fn rests_are_empty_by()
-    ensures { RestsAreEmptyBy }
 {}
 
 /// Each event of a channel keeps a record that reads `T`, without an attempt at it in hand, for each job that left one.

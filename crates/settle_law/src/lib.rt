@@ -55,18 +55,16 @@
 //!   `passes_begin_alone` (`specs/Alone.antt`).
 //! - When a sender begins a turn a known message has no channel file but those that it is known to have, and its birth is the moment at which its
 //!   info file was last written, whatever failed before: `known_are_gone` (`specs/Gone.antt`) and `known_are_born` (`specs/Births.antt`).
-//! - Where nothing fails each preprocessed message is known to a sender that begins a turn, if no todo pass was left:
+//! - Where nothing fails each preprocessed message is known to a sender that begins a turn:
 //!   `preprocessed_are_known`. For what a sender has met it has met still after an event that shows so of it, by its past alone: `stays_met`
 //!   (`specs/Met.antt`).
-//! - Where nothing fails no finish is put off, if each bounce whose status was taken was accepted: `known_finish_at_once` (`specs/Finishes.antt`).
 //! - Where nothing fails an injector ends with 0, or with the status of the first fault of its input: `injectors_end`. So each bounce whose status
 //!   was taken was accepted, and no finish is put off: `bounces_end`, `known_finish_at_once` (`specs/Finishes.antt`).
 //! - Where nothing fails each known message is due as a settled state asks, where a turn begins with a slot on each channel and nothing in flight:
 //!   `known_are_due` (`specs/Dues.antt`).
 //! - Where nothing fails and each report that a spawner gave was of a success, so was each that the sender took: `reports_succeed`. Then a message
-//!   that was tried on a channel and has a file there is at work there: `tried_are_at_work`. So no message is left at a rest, if the facts hold
-//!   then of which a settled state comes: `rests_are_empty_by` (`specs/Succeeded.antt`). What was tried and has its file stays so without a job:
-//!   `tried_stay` (`specs/TriedStay.antt`).
+//!   that was tried on a channel and has a file there is at work there: `tried_are_at_work` (`specs/Succeeded.antt`). What was tried and has its
+//!   file stays so without a job: `tried_stay` (`specs/TriedStay.antt`).
 //! - Each event of a channel leaves a record that reads `T`, with no attempt at it in hand, for each job that left one: `lefts_keep`. So do the
 //!   rows of the sender, and for messages that were tried and have no job: `rows_hold_tried` (`specs/Lefts.antt`).
 //! - Where nothing fails a known message that was tried on a channel, and has its file, has a record there that reads `T`, at the end of an idle
@@ -81,9 +79,8 @@ pub use laws::{
     known_are_due, known_are_gone, known_are_undone, known_finish_at_once, lefts_keep,
     lines_settle, none_is_half_way, none_is_queued, numbers_are_small, others_end, others_run_none,
     passes_begin_alone, passes_go_on, pasts_are_served, pasts_tell_moments, preprocessed_are_known,
-    reports_succeed, rests_are_due, rests_are_empty_by, rests_begin, rests_end, rests_free,
-    rests_have_slots, rests_hold, rests_stay, rests_suffice, rests_unqueued, rows_hold_tried,
-    searches_begin, servants_live, settle_stops, settles_end, slots_are_allowed, spawners_wait,
-    stays_met, successes_end, todo_answers_are_well, todo_has_numbers, todo_texts_are_read,
-    tried_are_at_work, tried_stay,
+    reports_succeed, rests_are_due, rests_begin, rests_free, rests_have_slots, rests_hold,
+    rests_stay, rests_suffice, rests_unqueued, rows_hold_tried, searches_begin, servants_live,
+    settle_stops, settles_end, slots_are_allowed, spawners_wait, stays_met, successes_end,
+    todo_answers_are_well, todo_has_numbers, todo_texts_are_read, tried_are_at_work, tried_stay,
 };
