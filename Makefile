@@ -3,9 +3,10 @@
 # make build     leaves the proved program at ./qmail
 # make examples  plays each example with ./qmail and compares what it prints
 # make streams   checks what ./qmail writes to its two streams, and its exit status
+# make host-checks  runs the checks over real processes and directories, as root, with QMAIL (./qmail); they take half an hour
 # make test      runs the gate: every proof, the must-fail edits, the tests and the stored runs
 
-.PHONY: try play build examples streams test
+.PHONY: try play build examples streams host-checks test
 
 try:
 	@echo "Unproved: this only runs the code. 'make play' proves it first."
@@ -30,6 +31,15 @@ examples: build
 
 streams: build
 	bench/streams.sh
+
+# what tells by its exit status alone whether all is well, the short ones first
+host-checks:
+	@bad=; out=$$(mktemp); \
+	for check in streams.sh "queue.sh 20" refused.sh crowd.sh kill.sh clean.sh audit.sh "large.sh 64" msmtp.sh mailfront.sh \
+		deliver.sh send.sh attack.sh host.sh powercut.sh storm.sh; do \
+		if QMAIL=$(abspath $(QMAIL)) bench/$$check > $$out 2>&1; then echo "well: $$check"; \
+		else bad=1; tail -n 20 $$out; echo "not well: $$check"; fi; \
+	done; rm $$out; [ -z "$$bad" ]
 
 test:
 	rt ci

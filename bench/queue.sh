@@ -30,10 +30,10 @@ bad=0
 echo
 echo "calls on the files of one injection:"
 strace -f -y -s 40 -e trace=file,desc -o "$work/calls" "$program" queue "$work/envelope" "$queue" < "$work/message"
-grep -F "$queue/" "$work/calls" | grep -v -e 'mkdir' | sed -e 's/^[0-9]* *//' -e "s#$queue/##g" > "$work/listed"
+grep -F "$queue/" "$work/calls" | grep -v -e mkdir -e O_DIRECTORY -e getdents | sed -e 's/^[0-9]* *//' -e "s#$queue/##g" > "$work/listed"
 sed 's/^/  /' "$work/listed"
 echo
-grep -c mkdir "$work/calls" | sed 's/$/ directories were looked for before (mkdir)/'
+grep -c O_DIRECTORY "$work/calls" | sed 's/$/ directories were listed before/'
 # the number of a new file is that of its open file (fstat); closes come with the end
 made=$(sed 's/(.*//' "$work/listed" | grep -vx -e fstat -e newfstatat -e statx -e close | sed 's/at$//' | tr '\n' ' ')
 if [ "$made" = "open open link fsync unlink write fsync open write fsync open link fsync " ]; then

@@ -91,6 +91,7 @@ if [ "$(id -u)" != 0 ] || "${as_nobody[@]}" true 2> "$work/noise"; then
     "${inject[@]}" < "$work/message" # makes all directories
     find "$queue" -type f -delete
     chmod -R 777 "$queue"
+    [ "$(id -u)" != 0 ] || chown 65534 "$queue" # else it would be another user's
     find "$queue/$dir" -type d -exec chmod 555 {} +
     status_found=0
     "${as_nobody[@]}" "${inject[@]}" < "$work/message" > "$work/out" 2>&1 || status_found=$?

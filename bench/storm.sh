@@ -91,7 +91,7 @@ END2
 chmod +x remote
 
 supervise() {
-  export STORM=$work # so that all that it starts is found
+  export QUEUEDIR=$queue # which all that it starts gets, so that it is found
   while :; do
     QMAIL_IDLE_MS=20 "$program" send "$queue" "$work/remote" --turns 1000000 2>> log &
     echo "$!" > sender.new && mv sender.new sender
@@ -126,7 +126,7 @@ message() { # I
 
 inject() { # SHELL: one of four shells' messages
   local i recipient sender
-  export STORM=$work
+  export QUEUEDIR=$queue
   for ((i = $1; i <= count; i += 4)); do
     [ $((RANDOM % 2)) = 0 ] || sleep "0.$((RANDOM % 90 + 10))"
     sender=sender$i@h.example
@@ -139,7 +139,7 @@ inject() { # SHELL: one of four shells' messages
 
 writers() { # all that writes in the file system, also what has lost its sender
   below "$supervisor" $shells
-  marked "STORM=$work"
+  marked "QUEUEDIR=$queue"
 }
 
 copy_image() { # K: what was accepted by now, the image, and what was taken outside

@@ -15,7 +15,7 @@ use Rattle.call_fs.specs.Survival.{halted}
 use Rattle.call_fs.specs.Maps.{put, put_at}
 use Rattle.call_fs.proofs.Maps.{put_cases, put_at_cases, bytes_eq-decides}
 use Rattle.mem_fs.specs.MemDisk.{Held, disk_of}
-use Rattle.mem_fs.proofs.Tables.{place_of_found}
+use Rattle.mem_files.proofs.Tables.{place_of_found}
 use Rattle.crash_fs.specs.Crash.{Crash, crash_disk}
 use Rattle.crash_fs.specs.Answers.{IsFinite}
 

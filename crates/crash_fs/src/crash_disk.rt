@@ -50,6 +50,13 @@ impl CrashDisk {
         }
     }
 
+    /// The disk that it is over.
+    pub fn below(&self) -> &MemFs
+        ensures { result.now ≡ self.now.below }
+    {
+        &self.below
+    }
+
     /// Adds a directory. After `Memory` it is as before.
     pub fn dir(&mut self, alloc: Global, name: &[u8]) -> Result<(), Memory>
         ensures ok { OnOk result (crash_disk self.new ≡ with_dir (crash_disk self.old) name.now) }

@@ -28,13 +28,17 @@ mod entries;
 mod files;
 mod host_fs;
 mod kept;
+mod leaving;
 mod listing;
 mod open_file;
 mod paths;
+mod queue_files;
 mod refusals;
 mod system;
 mod table;
 mod transfers;
 
 pub use host_fs::HostFs;
+pub use leaving::{Leaving, start_helpers};
+pub use queue_files::QueueFiles;
 pub use system::{Facts, System};

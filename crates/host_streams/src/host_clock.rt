@@ -3,17 +3,29 @@ ghost use Rattle.std.specs.Prelude.{◌≡◌, ◌≤◌};
 ghost use Rattle.mail_bytes.specs.Moments.{IsMoment};
 ghost use Rattle.host_streams.specs.Clock.{next_moment};
 
+use crate::pace::Pace;
+use crate::writer_sink::WriterSink;
 use mail_bytes::LAST_MOMENT;
-use outside::Clock;
+use outside::{Clock, Sink};
 use std::marker::Model;
-use std::process;
-use std::time::{SystemTime, UNIX_EPOCH};
+use std::time::{Clock as Clocks, Duration};
+use std::{io, process};
 
-/// The clock of the system, and the number of this process; it doesn't tell its calls. If the system's clock falls,
-/// or can't be read, or stands before 1970, it tells the moment that it told last, 0 at first.
+/// How many microseconds a second has.
+const SECOND: u64 = 1_000_000;
+
+/// What standard error gets when the system's clock is ahead.
+const AHEAD: &[u8] =
+    b"clock: over a minute ahead; followed at twice the pace until it is right, or until a new start\n";
+
+/// The clock of the system, and the number of this process; it doesn't tell its calls. It never falls, and goes at the pace of the
+/// monotonic clock (`Pace`) while the system's clock is behind, can't be read, or is ahead by over a minute, which standard error
+/// is told once. It tells 0 until the system's clock can be read.
 #[derive(Drop)]
 pub struct HostClock {
     rt: HostRuntime,
+    pace: Pace,
+    is_ahead: bool,
     last: u64,
     pid: u32,
 }
@@ -36,26 +48,39 @@ impl HostClock {
     {
         HostClock {
             rt: *rt,
+            pace: Pace::new(),
+            is_ahead: false,
             last: 0,
             pid: process::id(rt.process()),
         }
     }
 
-    /// The seconds since 1970 by the system's clock; None if it can't be read, or stands before 1970.
-    fn seconds(&self) -> Option<u64> {
-        let now = SystemTime::now(&self.rt).ok()?;
-        Some(now.duration_since(UNIX_EPOCH).ok()?.as_secs())
+    /// The seconds since 1970 that follow by the clocks of the system.
+    fn seconds(&mut self) -> u64
+        ensures last { self.new.last ≡ self.old.last }
+        ensures pid { self.new.pid ≡ self.old.pid }
+    {
+        let system = micros(self.rt.since_1970());
+        let monotonic = micros(self.rt.monotonic());
+        let is_ahead = self.pace.is_ahead(system, monotonic);
+        if is_ahead && !self.is_ahead {
+            let _given = WriterSink::new(self.rt.stderr()).give(AHEAD);
+        }
+        self.is_ahead = is_ahead;
+        self.pace.next(system, monotonic) / SECOND
     }
 }
 
-/// The moment to be told if the system tells these seconds and this moment was told last.
-fn next_moment(last: u64, seconds: Option<u64>) -> u64
+/// A time in microseconds, if it was told.
+fn micros(told: io::Result<Duration>) -> Option<u64> {
+    Some(u64::try_from(told.ok()?.as_micros()).unwrap_or(u64::MAX))
+}
+
+/// The moment to be told if these seconds follow and this moment was told last.
+fn next_moment(last: u64, seconds: u64) -> u64
     ensures { result ≡ next_moment last seconds }
 {
-    match seconds {
-        Some(seconds) => last.max(seconds.min(LAST_MOMENT)),
-        None => last,
-    }
+    last.max(seconds.min(LAST_MOMENT))
 }
 
 impl Clock for HostClock {

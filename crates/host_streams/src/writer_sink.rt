@@ -5,7 +5,7 @@ ghost use Rattle.outside.specs.Streams.{CountsFailures};
 ghost use Rattle.host_streams.specs.Written.{AppendsPrefix};
 
 use outside::{Gave, Sink};
-use std::io::Write;
+use std::io::{ErrorKind, Write};
 
 /// A sink over a writer; it doesn't tell what was taken. A writer that tells what it holds has taken what the sink was
 /// given.
@@ -23,20 +23,25 @@ impl<W: Write + Drop> WriterSink<W> {
         WriterSink { output, faults: 0 }
     }
 
-    /// Writes all of these bytes, and answers whether it could. A write that takes none of what is left fails.
+    /// Writes all of these bytes, and answers whether it could. A write that takes none of what is left fails; one that was
+    /// interrupted is tried again.
     fn writes_all(&mut self, bytes: &[u8]) -> bool
         ensures faults { self.new.faults ≡ self.old.faults }
         ensures all { IsTrue result → Appends (W.contents self.old.output) (W.contents self.new.output) bytes.now }
         ensures some { AppendsPrefix (W.contents self.old.output) (W.contents self.new.output) bytes.now }
     {
         let mut left = bytes;
-        while !left.is_empty() {
+        for _ in 0..u64::MAX {
+            if left.is_empty() {
+                return self.output.flush().is_ok();
+            }
             match self.output.write(left) {
                 Ok(count) if count > 0 => left = &left[count..],
+                Err(why) if why.kind() == ErrorKind::Interrupted => {}
                 _ => return false,
             }
         }
-        self.output.flush().is_ok()
+        false
     }
 }
 

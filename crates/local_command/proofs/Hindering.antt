@@ -31,7 +31,7 @@ use Rattle.dot_qmail.specs.declared.line.Line.TheVariants as line
 use Rattle.dot_qmail.specs.Lines.{plan_of}
 use Rattle.local_parts.specs.declared.arguments.LocalArgs.{LocalArgs}
 use Rattle.local_parts.specs.declared.forwarding.Injection.{Injection}
-use Rattle.local_parts.specs.Choosing.{chosen_by}
+use Rattle.local_parts.specs.Choosing.{chosen_by, file_name}
 use Rattle.local_parts.specs.Course.{Work, begun as begun_course, course_of, cut, default_text, lines_of, passed, work_of}
 use Rattle.local_parts.specs.Course.Work.{Nothing, ToCommand, ToMaildir, ToMailbox}
 use Rattle.local_parts.specs.Forwarding.{injection_of}
@@ -61,13 +61,15 @@ use Rattle.local_deliver.specs.declared.row.Row.{Row}
 use Rattle.local_deliver.specs.declared.row.Row.TheVariants as at
 use Rattle.local_deliver.specs.declared.row.Wanted.{Wanted}
 use Rattle.local_deliver.specs.declared.row.Wanted.TheVariants as wanted
-use Rattle.local_deliver.specs.Carried.{instructions, of_choice, of_file}
-use Rattle.local_deliver.specs.Deeds.{bytes_read, host_of, host_read, me_name, told_names}
+use Rattle.local_deliver.specs.Carried.{instructions, of_choice, of_read, plan_by}
+use Rattle.local_deliver.specs.Deeds.{host_of, host_read, me_name, read_of, told_names}
+use Rattle.local_deliver.specs.Deeds.FileText.{Whole}
 use Rattle.local_deliver.specs.Drops.{Drop, drop_arguments, end_drop, moved_drop}
 use Rattle.local_deliver.specs.Failures.{status_of, text_of}
 use Rattle.local_deliver.specs.Table.{Next, act, begins_lines, closed, command_failed, dropped, dropped_by, drops_by, due_at, due_by_drop, file_wanted, follows, forward_failed, forwarded, gave, goes_on, hosted, hosted_by, input_ended, instructed, last_step, line_done, lines_done, looks, named, opened, place_after, read_on, step_of, takes}
 use Rattle.local_deliver.proofs.Carrying.{holds, not_ended_drop}
 use Rattle.local_deliver.proofs.Deeds.{deeds_of}
+use Rattle.local_deliver.proofs.MeNames.{no_me}
 use Rattle.local_deliver.proofs.Underway.{AtSome as AtWork, Inv}
 use Rattle.program_runner.specs.Outside.{FailsToGive, FailsToTake}
 use Rattle.program_runner.specs.Runs.{HasEvent}
@@ -252,15 +254,19 @@ module _ (args : LocalArgs) (now : ℕ) (past : List Own) where
       by None e = NoPlan (told ∙ e)
       by (Some lines) e = goes (record p { course = begun_course lines }) (told ∙ e) known
 
-  follows_so : (p : Place) → told_names past ≡ p.names → KnownSo p → (o : Option Chosen) → chosen_by args p.names ≡ o → Goes (follows args now o p)
-  follows_so p names known None e = NoPlan (ap (λ o. of_choice args o (bytes_read past)) (ap (chosen_by args) names ∙ e))
-  follows_so p names known (Some chosen.Default) e = begins p (default_text args) (ap (λ o. of_choice args o (bytes_read past)) (ap (chosen_by args) names ∙ e)) known
+  -- what was chosen tells the instructions
+  told_by : (p : Place) (o : Option Chosen) → told_names args.home past ≡ p.names → chosen_by args p.names ≡ o → instructions args past ≡ of_choice args p.names o (λ name. read_of name past)
+  told_by p o names e = ap (λ n. plan_by args n (λ name. read_of name past)) names ∙ ap (λ c. of_choice args p.names c (λ name. read_of name past)) e
+
+  follows_so : (p : Place) → told_names args.home past ≡ p.names → KnownSo p → (o : Option Chosen) → chosen_by args p.names ≡ o → Goes (follows args now o p)
+  follows_so p names known None e = NoPlan (told_by p None names e)
+  follows_so p names known (Some chosen.Default) e = begins p (default_text args) (told_by p (Some chosen.Default) names e) known
   follows_so p names known (Some (chosen.File place)) e = tt
 
-  told_lines : (p : Place) (place : ℕ) → chosen_by args (told_names past) ≡ Some (chosen.File place) → bytes_read past ≡ p.read → KnownSo p → (bytes : List ℕ) → p.read ≡ bytes
-      → Goes (instructed args now bytes p)
-  told_lines p place is read known [] e = begins p (default_text args) (ap (λ o. of_choice args o (bytes_read past)) is ∙ ap (of_file args) (read ∙ e)) known
-  told_lines p place is read known (b ∷ bytes) e = begins p (b ∷ bytes) (ap (λ o. of_choice args o (bytes_read past)) is ∙ ap (of_file args) (read ∙ e)) known
+  told_lines : (p : Place) (place : ℕ) → told_names args.home past ≡ p.names → chosen_by args p.names ≡ Some (chosen.File place) → read_of (file_name args p.names place) past ≡ Whole p.read → KnownSo p
+      → (bytes : List ℕ) → p.read ≡ bytes → Goes (instructed args now bytes p)
+  told_lines p place names is read known [] e = begins p (default_text args) (told_by p (Some (chosen.File place)) names is ∙ ap (of_read args) (read ∙ ap Whole e)) known
+  told_lines p place names is read known (b ∷ bytes) e = begins p (b ∷ bytes) (told_by p (Some (chosen.File place)) names is ∙ ap (of_read args) (read ∙ ap Whole e)) known
 
   looked : (p : Place) → Goes (looks args p)
   looked p = by (is_name args.home) refl
@@ -387,7 +393,7 @@ module _ (args : LocalArgs) (now : ℕ) (ready : Ready) (before : List Own) (p :
   at_open what name (answer.Opened fd) bytes same h fit = tt
   at_open wanted.Host name (answer.Refused why.NotThere) bytes same h fit = names_host args now (ev (needs.File (call.Open name how.Read)) (told_of (answer.Refused why.NotThere) bytes) ∷ before) _ p h.input
   at_open wanted.Instructions name (answer.Refused why.NotThere) bytes same h fit =
-      by_trouble args _ (missed now ready before (call.Open name how.Read) bytes (other_name name (ap (λ n. bytes_eq n me_name) (sym same) ∙ h.2)))
+      by_trouble args _ (missed now ready before (call.Open name how.Read) bytes (other_name name (ap (λ n. bytes_eq n me_name) (sym same ∙ h.is) ∙ no_me args p.names h.file.place h.file.chosen)))
   at_open what name (answer.Refused why.Fault) bytes same h fit = by_trouble args _ (faulted now ready before (call.Open name how.Read) bytes)
   at_open what name (answer.Refused why.Memory) bytes same h fit = inr (inl refl)
   at_open what name told bytes same h fit = absurd fit
@@ -405,8 +411,7 @@ module _ (args : LocalArgs) (now : ℕ) (ready : Ready) (before : List Own) (p :
       → FineAt args (ev (needs.File (call.Close fd)) (came.Answered told) ∷ before) (closed args now what went p)
   at_close wanted.Host fd reading.Whole told h w = names_by args now (ev (needs.File (call.Close fd)) (came.Answered told) ∷ before) (host_in p.read) p (ap host_of h.me) h.input
   at_close wanted.Instructions fd reading.Whole told h w =
-      let names : told_names before ≡ p.names = h.file.before.names in
-      told_lines args now (ev (needs.File (call.Close fd)) (came.Answered told) ∷ before) p h.file.place (ap (chosen_by args) names ∙ h.file.chosen) h.bytes
+      told_lines args now (ev (needs.File (call.Close fd)) (came.Answered told) ∷ before) p h.file.place h.file.before.names h.file.chosen h.bytes
       (h.file.before.input, h.file.before.host) p.read refl
   at_close what fd reading.Fault told h w = IsFaulted (inr w)
   at_close what fd reading.Memory told h w = inr (inl refl)

@@ -30,7 +30,7 @@ use Rattle.dot_qmail.specs.declared.line.Line.{Line}
 use Rattle.dot_qmail.specs.Lines.{plan_of}
 use Rattle.local_parts.specs.declared.arguments.LocalArgs.{LocalArgs}
 use Rattle.local_parts.specs.declared.forwarding.Injection.{Injection}
-use Rattle.local_parts.specs.Choosing.{chosen_by}
+use Rattle.local_parts.specs.Choosing.{chosen_by, file_name}
 use Rattle.local_parts.specs.Course.{Work, begun as begun_course, course_of, cut, default_text, lines_of, passed, up_to_work, work_of}
 use Rattle.local_parts.specs.Course.Work.{Nothing, ToCommand, ToMaildir, ToMailbox}
 use Rattle.local_parts.specs.Endings.{command_status, forward_status, is_lasting_command, is_lasting_injection, status_by}
@@ -60,18 +60,19 @@ use Rattle.local_deliver.specs.declared.row.Row.{Row}
 use Rattle.local_deliver.specs.declared.row.Row.TheVariants as at
 use Rattle.local_deliver.specs.declared.row.Wanted.{Wanted}
 use Rattle.local_deliver.specs.declared.row.Wanted.TheVariants as wanted
-use Rattle.local_deliver.specs.Carried.{AreDrops, IsCarried, IsDropLink, IsInjected, Reaches, of_choice, of_file}
+use Rattle.local_deliver.specs.Carried.{AreDrops, IsCarried, IsDropLink, IsInjected, Reaches, of_choice, of_read, plan_by}
 use Rattle.local_deliver.specs.Carried.AreDrops.{NoDrops}
-use Rattle.local_deliver.specs.Deeds.{LinkMade, added, host_of, linked_by, links_by, me_name, told_names}
+use Rattle.local_deliver.specs.Deeds.{FileText, LinkMade, added, host_of, linked_by, links_by, me_name, piece_of, told_names}
+use Rattle.local_deliver.specs.Deeds.FileText.{Missing, SoFar, Whole}
 use Rattle.local_deliver.specs.Drops.{Drop, begun_drop, drop_arguments, end_drop, moved_drop}
 use Rattle.local_deliver.specs.Failures.{status_of, text_of}
 use Rattle.local_deliver.specs.Table.{Next, act, begins_lines, by_default, closed, command_failed, dropped, dropped_by, drops_by, due_at, due_by_drop, file_wanted, follows, forward_failed, forwarded, gave, goes_on, hosted, hosted_by, input_ended, instructed, last_step, line_done, lines_done, looks, named, opened, place_after, read_on, step_of, takes}
 use Rattle.call_fs.proofs.Coming.{by_fit}
 use Rattle.local_deliver.proofs.Deeds.{Deeds, deeds_by, deeds_of}
-use Rattle.local_deliver.proofs.MeNames.{no_me}
+use Rattle.local_deliver.proofs.MeNames.{no_me, same_name}
 use Rattle.local_deliver.proofs.DropSteps.{IsNoDrop, is_over, told_row}
 use Rattle.local_deliver.proofs.Reaching.{ends, past_command, past_maildir, stops, more_drops, no_drops, none_by_command, one_by_maildir}
-use Rattle.local_deliver.proofs.Underway.{Clean, Alone, facts, Known, AtHost, Before, Under, Over, injection, WasInjected, Carried, LinksAt, AtDrop, AtSome, AtRun, AtInjection, AtStart, AtFeed, AtStatus, AtBytes, Inv, Holds}
+use Rattle.local_deliver.proofs.Underway.{Clean, Alone, facts, Known, AtHost, Before, Under, Over, injection, WasInjected, Carried, LinksAt, AtDrop, AtSome, AtRun, AtInjection, AtStart, AtFeed, AtStatus, AtFile, AtBytes, Inv, Holds}
 
 -- another status is none of success
 no_success : (args : LocalArgs) (d : Deeds) (status : ℕ) → (status == 0) ≡ false → status ≡ 0 → Carried args d
@@ -141,15 +142,15 @@ module _ (args : LocalArgs) (now : ℕ) (d : Deeds) where
   goes : (p : Place) (lines : List Line) → Under args d (facts p) lines d.links → Holds args d (goes_on args now p)
   goes p lines u = works (work_of p.course.ahead) p lines refl u
 
-  begun_with : (p : Place) (lines : List Line) → Before d (facts p) → of_choice args (chosen_by args p.names) d.bytes ≡ Some lines → Holds args d (goes_on args now (record p { course = begun_course lines }))
+  begun_with : (p : Place) (lines : List Line) → Before args d (facts p) → plan_by args p.names d.read ≡ Some lines → Holds args d (goes_on args now (record p { course = begun_course lines }))
   begun_with p lines b told = goes (record p { course = begun_course lines }) lines (record {
-    known = record { input = b.input; host = b.host; names = b.names; told = ap (λ n. of_choice args (chosen_by args n) d.bytes) b.names ∙ told };
+    known = record { input = b.input; host = b.host; names = b.names; told = ap (λ n. plan_by args n d.read) b.names ∙ told };
     more = λ exited reached r. subst (λ x. Reaches lines (x ++ exited) reached) (sym b.clean.exits) r;
     drops = subst (AreDrops args p.host p.message []) (sym b.clean.links) NoDrops;
     alone = record { starts = b.clean.starts; feeds = b.clean.feeds; statuses = b.clean.statuses };
   })
 
-  begins : (p : Place) (bytes : List ℕ) → Before d (facts p) → of_choice args (chosen_by args p.names) d.bytes ≡ plan_of bytes → Holds args d (begins_lines args now (course_of bytes) p)
+  begins : (p : Place) (bytes : List ℕ) → Before args d (facts p) → plan_by args p.names d.read ≡ plan_of bytes → Holds args d (begins_lines args now (course_of bytes) p)
   unfolding course_of
   begins p bytes b told = by (plan_of bytes) refl
     where
@@ -157,32 +158,36 @@ module _ (args : LocalArgs) (now : ℕ) (d : Deeds) where
       by None e = tt
       by (Some lines) e = begun_with p lines b (told ∙ e)
 
-  defaults : (p : Place) → Before d (facts p) → of_choice args (chosen_by args p.names) d.bytes ≡ plan_of (default_text args) → Holds args d (by_default args now p)
+  defaults : (p : Place) → Before args d (facts p) → plan_by args p.names d.read ≡ plan_of (default_text args) → Holds args d (by_default args now p)
   defaults p b told = begins p (default_text args) b told
 
-  followed : (p : Place) → Before d (facts p) → (o : Option Chosen) → chosen_by args p.names ≡ o → Holds args d (follows args now o p)
+  followed : (p : Place) → Before args d (facts p) → (o : Option Chosen) → chosen_by args p.names ≡ o → Holds args d (follows args now o p)
   followed p b None e = tt
-  followed p b (Some chosen.Default) e = defaults p b (ap (λ o. of_choice args o d.bytes) e)
-  followed p b (Some (chosen.File place)) e = (record { before = record { input = b.input; names = b.names; clean = b.clean; host = b.host }; place = place; chosen = e }, refl, no_me args p.names place e)
+  followed p b (Some chosen.Default) e = defaults p b (ap (λ o. of_choice args p.names o d.read) e)
+  followed p b (Some (chosen.File place)) e = record {
+    file = record { before = record { input = b.input; names = b.names; clean = b.clean; host = b.host }; place = place; chosen = e };
+    is = refl;
+    none = refl;
+  }
 
-  told_lines : (p : Place) → AtBytes args d (facts p) p.read → (bytes : List ℕ) → p.read ≡ bytes → Holds args d (instructed args now bytes p)
-  told_lines p f [] e = defaults p f.file.before (ap (λ o. of_choice args o d.bytes) f.file.chosen ∙ ap (of_file args) (f.bytes ∙ e))
-  told_lines p f (b ∷ bytes) e = begins p (b ∷ bytes) f.file.before (ap (λ o. of_choice args o d.bytes) f.file.chosen ∙ ap (of_file args) (f.bytes ∙ e))
+  told_lines : (p : Place) → AtBytes args d (facts p) (Whole p.read) → (bytes : List ℕ) → p.read ≡ bytes → Holds args d (instructed args now bytes p)
+  told_lines p f [] e = defaults p f.file.before (ap (λ o. of_choice args p.names o d.read) f.file.chosen ∙ ap (of_read args) (f.bytes ∙ ap Whole e))
+  told_lines p f (b ∷ bytes) e = begins p (b ∷ bytes) f.file.before (ap (λ o. of_choice args p.names o d.read) f.file.chosen ∙ ap (of_read args) (f.bytes ∙ ap Whole e))
 
-  looked : (p : Place) → Before d (facts p) → Holds args d (looks args p)
+  looked : (p : Place) → Before args d (facts p) → Holds args d (looks args p)
   looked p b = elim (is_name args.home) as (λ t. Holds args d (if t then record p { row = at.NextName } else record p { row = at.Fail failure.Home })) [
     | true ↦ record { input = b.input; names = b.names; clean = b.clean; host = b.host }
     | false ↦ tt
   ]
 
-  names_host : (host : List ℕ) (p : Place) → Known d (facts p) → host_of d.me ≡ Some host → Holds args d (hosted args host p)
+  names_host : (host : List ℕ) (p : Place) → Known args d (facts p) → host_of (d.read me_name) ≡ Some host → Holds args d (hosted args host p)
   names_host host p b e = elim (is_looping (delivered_to args) p.message) as
       (λ t. Holds args d (if t then record p { row = at.Fail failure.Looping } else looks args (record p { host = host }))) [
         | true ↦ tt
         | false ↦ looked (record p { host = host }) (record { input = b.input; names = b.names; clean = b.clean; host = e })
       ]
 
-  names_by : (o : Option (List ℕ)) (p : Place) → Known d (facts p) → host_of d.me ≡ o → Holds args d (hosted_by args o p)
+  names_by : (o : Option (List ℕ)) (p : Place) → Known args d (facts p) → host_of (d.read me_name) ≡ o → Holds args d (hosted_by args o p)
   names_by None p b e = tt
   names_by (Some host) p b e = names_host host p b e
 
@@ -430,59 +435,92 @@ module _ (args : LocalArgs) (now : ℕ) (d : Deeds) (p : Place) where
   at_input came.Failed h = tt
   at_input came.Memory h = tt
 
-  -- reading and searching leave all but what was read and told
-  abbrev seen : (opened bytes : List ℕ) → Option (List ℕ) → Deeds
-  seen opened bytes me = record d { opened = opened; bytes = bytes; me = me }
+  -- reading leaves all but what was read
+  abbrev seen : (opened : List ℕ) → (List ℕ → FileText) → Deeds
+  seen opened read = record d { opened = opened; read = read }
 
-  clean_seen : (opened bytes : List ℕ) (me : Option (List ℕ)) → Clean d → Clean (seen opened bytes me)
-  clean_seen opened bytes me c = record { links = c.links; exits = c.exits; starts = c.starts; feeds = c.feeds; statuses = c.statuses }
+  clean_seen : (opened : List ℕ) (read : List ℕ → FileText) → Clean d → Clean (seen opened read)
+  clean_seen opened read c = record { links = c.links; exits = c.exits; starts = c.starts; feeds = c.feeds; statuses = c.statuses }
 
-  still : (opened bytes : List ℕ) (me : Option (List ℕ)) → me ≡ d.me → Before d (facts p) → Before (seen opened bytes me) (facts p)
-  still opened bytes me same b = record { input = b.input; names = b.names; clean = clean_seen opened bytes me b.clean; host = ap host_of same ∙ b.host }
+  still : (opened : List ℕ) (read : List ℕ → FileText) → read me_name ≡ d.read me_name → Before args d (facts p) → Before args (seen opened read) (facts p)
+  still opened read same b = record { input = b.input; names = b.names; clean = clean_seen opened read b.clean; host = ap host_of same ∙ b.host }
 
-  reads_me : (opened bytes read : List ℕ) (me : Option (List ℕ)) → me ≡ Some read → bytes_eq opened me_name ≡ true → Known d (facts p) → AtHost (seen opened bytes me) (facts p) read
-  reads_me opened bytes read me is same b = record { input = b.input; names = b.names; clean = clean_seen opened bytes me b.clean; me = is; opened = same }
+  reads_me : (opened : List ℕ) (text : FileText) (read : List ℕ → FileText) → read me_name ≡ text → opened ≡ me_name → Known args d (facts p) → AtHost args (seen opened read) (facts p) text
+  reads_me opened text read is same b = record { input = b.input; names = b.names; clean = clean_seen opened read b.clean; me = is; opened = same }
+
+  -- what was read of each file, once this one is opened
+  abbrev opening : List ℕ → List ℕ → FileText
+  opening name = λ of. if bytes_eq name of then SoFar [] else d.read of
+
+  -- and once this piece was read, the last one or not
+  abbrev reading_on : List ℕ → Bool → List ℕ → FileText
+  reading_on bytes is_last = λ of. if bytes_eq d.opened of then added (d.read of) bytes is_last else d.read of
+
+  -- no chosen file is control/me
+  others : (name : List ℕ) (f : AtFile args d (facts p)) → name ≡ file_name args p.names f.place → bytes_eq name me_name ≡ false
+  others name f is = ap (λ n. bytes_eq n me_name) is ∙ no_me args p.names f.place f.chosen
+
+  itself : (name : List ℕ) (f : AtFile args d (facts p)) → name ≡ file_name args p.names f.place → bytes_eq name (file_name args p.names f.place) ≡ true
+  itself name f is = ap (λ n. bytes_eq n (file_name args p.names f.place)) is ∙ same_name (file_name args p.names f.place)
 
   at_open : (what : Wanted) (name : List ℕ) → name ≡ file_wanted what p → (told : Answer) (bytes : List ℕ) → Inv args d (at.Open what) p → IsAnswerTo (call.Open name how.Read) told
       → Holds args (deeds_by d (needs.File (call.Open name how.Read)) (came.Answered (record { answer = told; bytes = bytes }))) (opened args what told p)
   at_open wanted.Host name is (answer.Opened fd) bytes h fit =
       let same : bytes_eq name me_name ≡ true = ap (λ n. bytes_eq n me_name) is in
-      reads_me name [] p.read (if bytes_eq name me_name then Some [] else d.me) (ap (λ t. if t then Some [] else d.me) same ∙ ap Some (sym h.none)) same
+      reads_me name (SoFar p.read) (opening name) (ap (λ t. if t then SoFar [] else d.read me_name) same ∙ ap SoFar (sym h.none)) is
       (record { input = h.input; names = h.names; clean = h.clean })
   at_open wanted.Instructions name is (answer.Opened fd) bytes h fit =
-      let other : bytes_eq name me_name ≡ false = ap (λ n. bytes_eq n me_name) is ∙ h.2 in
+      let of : name ≡ file_name args p.names h.file.place = is ∙ h.is in
       record {
-        file = record { before = still name [] (if bytes_eq name me_name then Some [] else d.me) (ap (λ t. if t then Some [] else d.me) other) h.0.before; place = h.0.place; chosen = h.0.chosen };
-        bytes = sym h.1;
-        other = other;
+        file = record { before = still name (opening name) (ap (λ t. if t then SoFar [] else d.read me_name) (others name h.file of)) h.file.before; place = h.file.place; chosen = h.file.chosen };
+        bytes = ap (λ t. if t then SoFar [] else d.read (file_name args p.names h.file.place)) (itself name h.file of) ∙ ap SoFar (sym h.none);
+        opened = of;
       }
   at_open wanted.Host name is (answer.Refused why.NotThere) bytes h fit =
-      names_host args now d (codes "localhost") p (record { input = h.input; names = h.names; clean = h.clean }) (ap host_of h.me)
+      let gone : List ℕ → FileText = λ of. if bytes_eq name of then Missing else d.read of in
+      names_host args now (seen d.opened gone) (codes "localhost") p (record { input = h.input; names = h.names; clean = clean_seen d.opened gone h.clean })
+      (ap (λ n. host_of (if bytes_eq n me_name then Missing else d.read me_name)) is)
   at_open wanted.Instructions name is (answer.Refused why.NotThere) bytes h fit = tt
   at_open what name is (answer.Refused why.Fault) bytes h fit = tt
   at_open what name is (answer.Refused why.Memory) bytes h fit = no_success args d 51 refl
   at_open what name is told bytes h fit = absurd fit
 
-  -- what a piece adds to what was read of control/me
-  abbrev more_me : List ℕ → Option (List ℕ)
-  more_me bytes = if bytes_eq d.opened me_name then added d.me bytes else d.me
+  -- a piece that isn't full is the last one
+  abbrev row_of : Wanted → Fd → Bool → Row
+  row_of what fd is_last = if is_last then at.Close what fd reading.Whole else at.Read what fd
+
+  abbrev Pieces : Wanted → Fd → List ℕ → Bool → Type 0
+  Pieces what fd bytes is_last = Inv args (seen d.opened (reading_on bytes is_last)) (row_of what fd is_last) (record p { row = row_of what fd is_last; read = p.read ++ bytes })
+
+  host_pieces : (fd : Fd) (bytes : List ℕ) (is_last : Bool) → AtHost args d (facts p) (SoFar p.read) → Pieces wanted.Host fd bytes is_last
+  host_pieces fd bytes is_last h = elim is_last as (λ t. Pieces wanted.Host fd bytes t) [ true ↦ next true | false ↦ next false ]
+    where
+      next : (t : Bool) → AtHost args (seen d.opened (reading_on bytes t)) (facts p) (piece_of p.read bytes t)
+      next t =
+          reads_me d.opened (piece_of p.read bytes t) (reading_on bytes t)
+          (ap (λ u. if u then added (d.read me_name) bytes t else d.read me_name) (ap (λ n. bytes_eq n me_name) h.opened) ∙ ap (λ o. added o bytes t) h.me) h.opened
+          (record { input = h.input; names = h.names; clean = h.clean })
+
+  file_pieces : (fd : Fd) (bytes : List ℕ) (is_last : Bool) → AtBytes args d (facts p) (SoFar p.read) → Pieces wanted.Instructions fd bytes is_last
+  file_pieces fd bytes is_last h = elim is_last as (λ t. Pieces wanted.Instructions fd bytes t) [ true ↦ next true | false ↦ next false ]
+    where
+      next : (t : Bool) → AtBytes args (seen d.opened (reading_on bytes t)) (facts p) (piece_of p.read bytes t)
+      next t = record {
+        file = record {
+          before = still d.opened (reading_on bytes t) (ap (λ u. if u then added (d.read me_name) bytes t else d.read me_name) (others d.opened h.file h.opened)) h.file.before;
+          place = h.file.place;
+          chosen = h.file.chosen;
+        };
+        bytes =
+            ap (λ u. if u then added (d.read (file_name args p.names h.file.place)) bytes t else d.read (file_name args p.names h.file.place)) (itself d.opened h.file h.opened)
+            ∙ ap (λ o. added o bytes t) h.bytes;
+        opened = h.opened;
+      }
 
   at_read : (what : Wanted) (fd : Fd) (from : ℕ) (told : Answer) (bytes : List ℕ) → Inv args d (at.Read what fd) p → IsAnswerTo (call.ReadAt fd from 8192) told
       → Holds args (deeds_by d (needs.File (call.ReadAt fd from 8192)) (came.Answered (record { answer = told; bytes = bytes }))) (read_on what fd told bytes p)
-  at_read wanted.Host fd from (answer.Count count) bytes h fit =
-      let next : AtHost (seen d.opened (d.bytes ++ bytes) (more_me bytes)) (facts p) (p.read ++ bytes) =
-      reads_me d.opened (d.bytes ++ bytes) (p.read ++ bytes) (more_me bytes) (ap (λ t. if t then added d.me bytes else d.me) h.opened ∙ ap (λ o. added o bytes) h.me) h.opened
-      (record { input = h.input; names = h.names; clean = h.clean }) in
-      elim (nat_lt (length bytes) 8192) as (λ t. Inv args (seen d.opened (d.bytes ++ bytes) (more_me bytes)) (if t then at.Close wanted.Host fd reading.Whole else at.Read wanted.Host fd)
-      (record p { row = (if t then at.Close wanted.Host fd reading.Whole else at.Read wanted.Host fd); read = p.read ++ bytes })) [ true ↦ next | false ↦ next ]
-  at_read wanted.Instructions fd from (answer.Count count) bytes h fit =
-      let next : AtBytes args (seen d.opened (d.bytes ++ bytes) (more_me bytes)) (facts p) (p.read ++ bytes) = record {
-        file = record { before = still d.opened (d.bytes ++ bytes) (more_me bytes) (ap (λ t. if t then added d.me bytes else d.me) h.other) h.file.before; place = h.file.place; chosen = h.file.chosen };
-        bytes = ap (λ t. t ++ bytes) h.bytes;
-        other = h.other;
-      } in
-      elim (nat_lt (length bytes) 8192) as (λ t. Inv args (seen d.opened (d.bytes ++ bytes) (more_me bytes)) (if t then at.Close wanted.Instructions fd reading.Whole else at.Read wanted.Instructions fd)
-      (record p { row = (if t then at.Close wanted.Instructions fd reading.Whole else at.Read wanted.Instructions fd); read = p.read ++ bytes })) [ true ↦ next | false ↦ next ]
+  at_read wanted.Host fd from (answer.Count count) bytes h fit = host_pieces fd bytes (nat_lt (length bytes) 8192) h
+  at_read wanted.Instructions fd from (answer.Count count) bytes h fit = file_pieces fd bytes (nat_lt (length bytes) 8192) h
   at_read wanted.Host fd from (answer.Refused why.Fault) bytes h fit = h
   at_read wanted.Instructions fd from (answer.Refused why.Fault) bytes h fit = h
   at_read what fd from told bytes h fit = absurd fit
@@ -493,18 +531,18 @@ module _ (args : LocalArgs) (now : ℕ) (d : Deeds) (p : Place) where
   at_close what fd reading.Fault h = tt
   at_close what fd reading.Memory h = no_success args d 51 refl
 
-  at_names : (dir after : List ℕ) (told : Answer) (bytes : List ℕ) → Before d (facts p) → IsAnswerTo (call.NextName dir after) told
-      → Holds args (deeds_by d (needs.File (call.NextName dir after)) (came.Answered (record { answer = told; bytes = bytes }))) (named args now told p)
-  at_names dir after (answer.Name name) bytes b fit = record {
+  at_names : (after : List ℕ) (told : Answer) (bytes : List ℕ) → Before args d (facts p) → IsAnswerTo (call.NextName args.home after) told
+      → Holds args (deeds_by d (needs.File (call.NextName args.home after)) (came.Answered (record { answer = told; bytes = bytes }))) (named args now told p)
+  at_names after (answer.Name name) bytes b fit = record {
     input = b.input;
-    names = ap (λ n. n ++ name ∷ []) b.names;
+    names = ap (λ t. if t then d.names args.home ++ name ∷ [] else d.names args.home) (same_name args.home) ∙ ap (λ n. n ++ name ∷ []) b.names;
     clean = record { links = b.clean.links; exits = b.clean.exits; starts = b.clean.starts; feeds = b.clean.feeds; statuses = b.clean.statuses };
     host = b.host;
   }
-  at_names dir after answer.NoName bytes b fit = followed args now d p b (chosen_by args p.names) refl
-  at_names dir after (answer.Refused why.NotThere) bytes b fit = tt
-  at_names dir after (answer.Refused why.Fault) bytes b fit = tt
-  at_names dir after told bytes b fit = absurd fit
+  at_names after answer.NoName bytes b fit = followed args now d p b (chosen_by args p.names) refl
+  at_names after (answer.Refused why.NotThere) bytes b fit = tt
+  at_names after (answer.Refused why.Fault) bytes b fit = tt
+  at_names after told bytes b fit = absurd fit
 
   at_run : (got : GotData) → AtRun args d p → Step at.Run got
   at_run (came.Ended code) r = exits args now d (deeds_by d (needs.Command p.text) (came.Ended code)) p code r (code == 0) (code == 99) refl refl refl
@@ -627,7 +665,7 @@ module _ (args : LocalArgs) (now : ℕ) (d : Deeds) (p : Place) where
   step (at.Read what fd) got is h may = by_fit (call.ReadAt fd (length p.read) 8192) (Step (at.Read what fd)) got may (λ told fit. at_read what fd (length p.read) told.answer told.bytes h fit)
   step (at.Close what fd went) got is h may = by_fit (call.Close fd) (Step (at.Close what fd went)) got may (λ told fit. at_close what fd went h)
   step at.NextName got is h may =
-      by_fit (call.NextName args.home (last_name p.names)) (Step at.NextName) got may (λ told fit. at_names args.home (last_name p.names) told.answer told.bytes h fit)
+      by_fit (call.NextName args.home (last_name p.names)) (Step at.NextName) got may (λ told fit. at_names (last_name p.names) told.answer told.bytes h fit)
   step at.Drop got is h may = at_some p.dropping got is h may
   step at.Run got is h may = at_run got h
   step at.Start got is h may = at_start got h
@@ -695,5 +733,5 @@ carried_out args past now ready run due =
       told = c.told;
       reaches = c.reaches;
       drops = c.drops;
-      injected = injected_is args past (injection_of args (told_names past) c.message c.reached) c.injected;
+      injected = injected_is args past (injection_of args (told_names args.home past) c.message c.reached) c.injected;
     }

@@ -61,14 +61,16 @@ use Rattle.local_deliver.specs.declared.row.Row.{Row}
 use Rattle.local_deliver.specs.declared.row.Row.TheVariants as at
 use Rattle.local_deliver.specs.declared.row.Wanted.{Wanted}
 use Rattle.local_deliver.specs.declared.row.Wanted.TheVariants as wanted
-use Rattle.local_deliver.specs.Carried.{instructions, of_choice, of_file}
-use Rattle.local_deliver.specs.Causes.{FoundNoMemory, IsCausedBy, IsLasting, IsPassing, Once}
+use Rattle.local_deliver.specs.Carried.{instructions, of_choice, of_read}
+use Rattle.local_deliver.specs.Causes.{AreKnown, FoundNoMemory, IsCausedBy, IsLasting, IsPassing, Once, WasReadWhole}
+use Rattle.local_deliver.specs.Causes.AreKnown.{ByDefault, ByFile}
 use Rattle.local_deliver.specs.Causes.FoundNoMemory.{ByCall, ByCommand, ByStart}
 use Rattle.local_deliver.specs.Causes.IsCausedBy.{Lasting, NoMemory, Passing, Success}
 use Rattle.local_deliver.specs.Causes.IsLasting.{CommandExited, HasNoMailbox, InjectorExited, IsLoop}
-use Rattle.local_deliver.specs.Causes.IsPassing.{CallFailed, CommandFailed, DefaultIsBlank, DropDeferred, FileIsBlank, FileIsMissing, GiveFailed, HasMailbox, HomeHasNoForm, HomeIsMissing, HostIsBad, InjectorFailed, InputFailed, IsNoMessage, StartFailed}
+use Rattle.local_deliver.specs.Causes.IsPassing.{CallFailed, CommandFailed, DropDeferred, FileIsMissing, FirstIsBlank, GiveFailed, HasMailbox, HomeHasNoForm, HomeIsMissing, HostIsBad, InjectorFailed, InputFailed, IsNoMessage, StartFailed}
 use Rattle.local_deliver.specs.Causes.IsPassingEnd.{Crashed, OtherStatus, Unknown}
-use Rattle.local_deliver.specs.Deeds.{bytes_read, told_names}
+use Rattle.local_deliver.specs.Deeds.{FileText, host_of, host_read, me_name, read_of, told_names}
+use Rattle.local_deliver.specs.Deeds.FileText.{Whole}
 use Rattle.local_deliver.specs.Drops.{Drop, begun_drop, drop_arguments, end_drop, moved_drop}
 use Rattle.local_deliver.specs.Failures.{status_of, text_of}
 use Rattle.local_deliver.specs.Table.{Next, act, begins_lines, closed, command_failed, dropped, dropped_by, drops_by, due_at, due_by_drop, file_wanted, follows, forward_failed, forwarded, gave, goes_on, hosted, hosted_by, input_ended, instructed, last_step, line_done, lines_done, looks, named, opened, place_after, read_on, step_of, takes}
@@ -88,9 +90,13 @@ later args event before _ (ByLasting h) = ByLasting (inr h)
 later args event before _ (ByPassing h) = ByPassing (inr h)
 later args event before _ (ByMemory h) = ByMemory (inr h)
 
--- the lines that are followed are those of the instructions
+-- the instructions became known just now, and are these
+abbrev KnownAs : LocalArgs → List Line → List Own → Type 0
+KnownAs args lines past = AreKnown args past × (instructions args past ≡ Some lines)
+
+-- the lines that are followed are those of the instructions, that became known at some moment
 abbrev TellsOf : LocalArgs → List Own → Place → Type 0
-TellsOf args past p = instructions args past ≡ Some (lines_of p.course)
+TellsOf args past p = (instructions args past ≡ Some (lines_of p.course)) × Once (KnownAs args (lines_of p.course)) past
 
 record AtDrop (args : LocalArgs) (past : List Own) (p : Place) (it : Drop) : Type 0 where
   told : TellsOf args past p
@@ -105,22 +111,14 @@ abbrev AtSome : LocalArgs → List Own → Place → Option Drop → Type 0
 AtSome args past p None = Unit {0}
 AtSome args past p (Some it) = AtDrop args past p it
 
-record AtFileName (args : LocalArgs) (p : Place) : Type 0 where
-  place : ℕ
-  chosen : chosen_by args p.names ≡ Some (chosen.File place)
-  name : p.name ≡ file_name args p.names place
-
 abbrev OrDone : LocalArgs → List Own → ℕ → Type 0
 OrDone args past status = (status ≡ 0) ⊎ Because args past status
 
 abbrev Why : LocalArgs → List Own → Row → Place → Type 0
-Why args past at.TakeInput p = p.read ≡ []
-Why args past (at.Open wanted.Host) p = p.read ≡ []
-Why args past (at.Open wanted.Instructions) p = AtFileName args p
-Why args past (at.Read wanted.Host fd) p = bytes_read past ≡ p.read
-Why args past (at.Read wanted.Instructions fd) p = Unit {0}
-Why args past (at.Close wanted.Host fd reading.Whole) p = bytes_read past ≡ p.read
-Why args past (at.Close wanted.Instructions fd reading.Whole) p = Unit {0}
+Why args past at.TakeInput p = Unit {0}
+Why args past (at.Open what) p = Unit {0}
+Why args past (at.Read what fd) p = Unit {0}
+Why args past (at.Close what fd reading.Whole) p = Unit {0}
 Why args past (at.Close what fd reading.Fault) p = Because args past 111
 Why args past (at.Close what fd reading.Memory) p = Because args past 51
 Why args past at.NextName p = Unit {0}
@@ -150,6 +148,12 @@ no_memory [] h = absurd h
 no_memory (event ∷ before) (inl w) =
     inl (ByCall w.call (w.told.bytes, (w.due, w.came ∙ ap (λ a. came.Answered (record { answer = a; bytes = w.told.bytes })) w.holds)))
 no_memory (event ∷ before) (inr h) = inr (no_memory before h)
+
+-- what holds at each moment at which something else does
+at_each : (P Q : List Own → Type 0) (past : List Own) → ((at : List Own) → P at → Q at) → Once P past → Once Q past
+at_each P Q [] f h = f [] h
+at_each P Q (event ∷ before) f (inl h) = inl (f (event ∷ before) h)
+at_each P Q (event ∷ before) f (inr h) = inr (at_each P Q before f h)
 
 -- Going on, after some event
 
@@ -189,43 +193,47 @@ module _ (args : LocalArgs) (now : ℕ) (event : Own) (before : List Own) where
   works (ToCommand text) p e told = told
   works (ToMaildir path) p e told = drops path p told
   works (ToMailbox path) p e told =
-      passing (HasMailbox (lines_of p.course) path told (Contains-append_right p.course.done p.course.ahead (line.Mailbox path) (mailbox_in p.course.ahead path e)))
+      let within = Contains-append_right p.course.done p.course.ahead (line.Mailbox path) (mailbox_in p.course.ahead path e) in
+      ByPassing (at_each (KnownAs args (lines_of p.course)) (IsPassing args) past (λ q known. HasMailbox (lines_of p.course) path known.0 known.1 within) told.1)
 
   goes : (p : Place) → TellsOf args past p → Goes (goes_on args now p)
   goes p told = works (work_of p.course.ahead) p refl told
 
   passes : (p : Place) → TellsOf args past p → Goes (line_done args now p)
-  passes p told = goes (record p { course = passed p.course }) (told ∙ ap Some (sym (lines_stay p.course)))
+  passes p told = goes (record p { course = passed p.course })
+      (told.0 ∙ ap Some (sym (lines_stay p.course)), subst (λ ls. Once (KnownAs args ls) past) (sym (lines_stay p.course)) told.1)
 
   cuts : (p : Place) → Goes (lines_done args now p)
   cuts p = last_goes (injection_of args p.names p.message (lines_of (cut p.course))) (lines_of (cut p.course)) (record p { course = cut p.course })
 
-  begins : (p : Place) (bytes : List ℕ) → (plan_of bytes ≡ None → IsPassing args past) → instructions args past ≡ plan_of bytes → Goes (begins_lines args now (course_of bytes) p)
+  begins : (p : Place) (bytes : List ℕ) → AreKnown args past → instructions args past ≡ plan_of bytes → Goes (begins_lines args now (course_of bytes) p)
   unfolding course_of
-  begins p bytes blank told = by (plan_of bytes) refl
+  begins p bytes known told = by (plan_of bytes) refl
     where
       by : (o : Option (List Line)) → plan_of bytes ≡ o → Goes (begins_lines args now (option_map begun_course o) p)
-      by None e = passing (blank e)
-      by (Some lines) e = goes (record p { course = begun_course lines }) (told ∙ e)
+      by None e = passing (FirstIsBlank known (told ∙ e))
+      by (Some lines) e = goes (record p { course = begun_course lines }) (told ∙ e, inl (known, told ∙ e))
+
+  abbrev home_names : List (List ℕ)
+  home_names = told_names args.home past
+
+  abbrev read : List ℕ → FileText
+  read = λ name. read_of name past
 
   follows_so : (p : Place) (after bytes : List ℕ) → event.due ≡ needs.File (call.NextName args.home after) → event.came ≡ came.Answered (record { answer = answer.NoName; bytes = bytes })
-      → told_names past ≡ p.names → (o : Option Chosen) → chosen_by args p.names ≡ o → Goes (follows args now o p)
-  follows_so p after bytes due came names None e = ByLasting (inl (HasNoMailbox after bytes (due, came) (ap (chosen_by args) names ∙ e)))
-  follows_so p after bytes due came names (Some chosen.Default) e =
-      let is : chosen_by args (told_names past) ≡ Some chosen.Default = ap (chosen_by args) names ∙ e in
-      begins p (default_text args) (λ none. DefaultIsBlank is none) (ap (λ o. of_choice args o (bytes_read past)) is)
-  follows_so p after bytes due came names (Some (chosen.File place)) e = record { place = place; chosen = e; name = refl }
+      → home_names ≡ p.names → (o : Option Chosen) → chosen_by args p.names ≡ o → Goes (follows args now o p)
+  follows_so p after bytes due came same None e = ByLasting (inl (HasNoMailbox after bytes (due, came) (ap (chosen_by args) same ∙ e)))
+  follows_so p after bytes due came same (Some chosen.Default) e =
+      let is : chosen_by args home_names ≡ Some chosen.Default = ap (chosen_by args) same ∙ e in
+      begins p (default_text args) (ByDefault after bytes (due, came) is) (ap (λ o. of_choice args home_names o read) is)
+  follows_so p after bytes due came same (Some (chosen.File place)) e = tt
 
-  told_lines : (p : Place) (place : ℕ) → chosen_by args (told_names past) ≡ Some (chosen.File place) → bytes_read past ≡ p.read → (bytes : List ℕ) → p.read ≡ bytes
-      → Goes (instructed args now bytes p)
-  told_lines p place is read [] e =
-      let of : of_choice args (chosen_by args (told_names past)) (bytes_read past) ≡ plan_of (default_text args) =
-      ap (λ o. of_choice args o (bytes_read past)) is ∙ ap (of_file args) (read ∙ e) in
-      begins p (default_text args) (λ none. FileIsBlank place is (ap (of_file args) (read ∙ e) ∙ none)) of
-  told_lines p place is read (b ∷ bytes) e =
-      let of : of_choice args (chosen_by args (told_names past)) (bytes_read past) ≡ plan_of (b ∷ bytes) =
-      ap (λ o. of_choice args o (bytes_read past)) is ∙ ap (of_file args) (read ∙ e) in
-      begins p (b ∷ bytes) (λ none. FileIsBlank place is (ap (of_file args) (read ∙ e) ∙ none)) of
+  told_lines : (p : Place) (place : ℕ) → chosen_by args home_names ≡ Some (chosen.File place) → WasReadWhole (file_name args home_names place) past → read (file_name args home_names place) ≡ Whole p.read
+      → (bytes : List ℕ) → p.read ≡ bytes → Goes (instructed args now bytes p)
+  told_lines p place is whole file [] e =
+      begins p (default_text args) (ByFile place is whole) (ap (λ o. of_choice args home_names o read) is ∙ ap (of_read args) (file ∙ ap Whole e))
+  told_lines p place is whole file (b ∷ bytes) e =
+      begins p (b ∷ bytes) (ByFile place is whole) (ap (λ o. of_choice args home_names o read) is ∙ ap (of_read args) (file ∙ ap Whole e))
 
   looked : (p : Place) → Goes (looks args p)
   looked p = by (is_name args.home) refl
@@ -241,9 +249,9 @@ module _ (args : LocalArgs) (now : ℕ) (event : Own) (before : List Own) where
       by true e = ByLasting (inl (IsLoop p.message input e))
       by false e = looked (record p { host = host })
 
-  names_by : (o : Option (List ℕ)) (p : Place) → host_in p.read ≡ o → bytes_read past ≡ p.read → message_in (taken past) ≡ Some p.message → Goes (hosted_by args o p)
-  names_by None p e read input = passing (HostIsBad (ap host_in read ∙ e))
-  names_by (Some host) p e read input = names_host host p input
+  names_by : (o : Option (List ℕ)) (p : Place) → host_read past ≡ o → WasReadWhole me_name past → message_in (taken past) ≡ Some p.message → Goes (hosted_by args o p)
+  names_by None p e whole input = passing (HostIsBad whole e)
+  names_by (Some host) p e whole input = names_host host p input
 
 -- A step
 
@@ -257,20 +265,20 @@ module _ (args : LocalArgs) (now : ℕ) (ready : Ready) (before : List Own) (p :
   abbrev Known : Row → Type 0
   Known row = Inv args (deeds_of before) row p
 
-  at_end : (o : Option (List ℕ)) → message_in p.message ≡ o → Known at.TakeInput → p.read ≡ [] → WhyAt args (event_of (needs.Take port.Input) came.End ∷ before) (input_ended o p)
-  at_end None e h w = ByPassing (inl (IsNoMessage (refl, refl) (ap message_in h.0 ∙ e)))
-  at_end (Some message) e h w = w
+  at_end : (o : Option (List ℕ)) → message_in p.message ≡ o → Known at.TakeInput → WhyAt args (event_of (needs.Take port.Input) came.End ∷ before) (input_ended o p)
+  at_end None e h = ByPassing (inl (IsNoMessage (refl, refl) (ap message_in h.0 ∙ e)))
+  at_end (Some message) e h = tt
 
-  at_input : (got : GotData) → Known at.TakeInput → p.read ≡ [] → MayCome (needs.Take port.Input) got → Step at.TakeInput got
-  at_input (came.Took bytes) h w may = w
-  at_input came.End h w may = at_end (message_in p.message) refl h w
-  at_input came.Failed h w may = ByPassing (inl (InputFailed (refl, refl)))
-  at_input (came.Answered told) h w may = absurd may
-  at_input (came.Ended status) h w may = absurd may
-  at_input came.Crashed h w may = absurd may
-  at_input came.Gave h w may = absurd may
-  at_input (came.Started pid) h w may = absurd may
-  at_input came.Memory h w may = absurd may
+  at_input : (got : GotData) → Known at.TakeInput → MayCome (needs.Take port.Input) got → Step at.TakeInput got
+  at_input (came.Took bytes) h may = tt
+  at_input came.End h may = at_end (message_in p.message) refl h
+  at_input came.Failed h may = ByPassing (inl (InputFailed (refl, refl)))
+  at_input (came.Answered told) h may = absurd may
+  at_input (came.Ended status) h may = absurd may
+  at_input came.Crashed h may = absurd may
+  at_input came.Gave h may = absurd may
+  at_input (came.Started pid) h may = absurd may
+  at_input came.Memory h may = absurd may
 
   abbrev told_of : Answer → List ℕ → GotData
   told_of told bytes = came.Answered (record { answer = told; bytes = bytes })
@@ -281,40 +289,39 @@ module _ (args : LocalArgs) (now : ℕ) (ready : Ready) (before : List Own) (p :
   memory_call : (c : CallData) (bytes : List ℕ) → Because args (event_of (needs.File c) (told_of (answer.Refused why.Memory) bytes) ∷ before) 51
   memory_call c bytes = ByMemory (inl (ByCall c (bytes, (refl, refl))))
 
-  at_open : (what : Wanted) (name : List ℕ) (told : Answer) (bytes : List ℕ) → file_wanted what p ≡ name → Known (at.Open what) → Why args before (at.Open what) p → IsAnswerTo (call.Open name how.Read) told
+  at_open : (what : Wanted) (name : List ℕ) (told : Answer) (bytes : List ℕ) → file_wanted what p ≡ name → Known (at.Open what) → IsAnswerTo (call.Open name how.Read) told
       → WhyAt args (event_of (needs.File (call.Open name how.Read)) (told_of told bytes) ∷ before) (opened args what told p)
-  at_open wanted.Host name (answer.Opened fd) bytes same h w fit = sym w
-  at_open wanted.Instructions name (answer.Opened fd) bytes same h w fit = tt
-  at_open wanted.Host name (answer.Refused why.NotThere) bytes same h w fit =
+  at_open what name (answer.Opened fd) bytes same h fit = tt
+  at_open wanted.Host name (answer.Refused why.NotThere) bytes same h fit =
       names_host args now (event_of (needs.File (call.Open name how.Read)) (told_of (answer.Refused why.NotThere) bytes)) before _ p h.input
-  at_open wanted.Instructions name (answer.Refused why.NotThere) bytes same h w fit =
-      let names : told_names before ≡ p.names = h.0.before.names in
-      let is : name ≡ file_name args (told_names before) w.place = sym same ∙ w.name ∙ ap (λ n. file_name args n w.place) (sym names) in
-      ByPassing (inl (FileIsMissing w.place (ap (chosen_by args) names ∙ w.chosen) (bytes, (ap (λ n. needs.File (call.Open n how.Read)) is, refl))))
-  at_open what name (answer.Refused why.Fault) bytes same h w fit = failed_call (call.Open name how.Read) bytes
-  at_open what name (answer.Refused why.Memory) bytes same h w fit = inr (memory_call (call.Open name how.Read) bytes)
-  at_open what name told bytes same h w fit = absurd fit
+  at_open wanted.Instructions name (answer.Refused why.NotThere) bytes same h fit =
+      let names : told_names args.home before ≡ p.names = h.file.before.names in
+      let is : name ≡ file_name args (told_names args.home before) h.file.place = sym same ∙ h.is ∙ ap (λ n. file_name args n h.file.place) (sym names) in
+      ByPassing (inl (FileIsMissing h.file.place (ap (chosen_by args) names ∙ h.file.chosen) (bytes, (ap (λ n. needs.File (call.Open n how.Read)) is, refl))))
+  at_open what name (answer.Refused why.Fault) bytes same h fit = failed_call (call.Open name how.Read) bytes
+  at_open what name (answer.Refused why.Memory) bytes same h fit = inr (memory_call (call.Open name how.Read) bytes)
+  at_open what name told bytes same h fit = absurd fit
 
-  at_read : (what : Wanted) (fd : Fd) (from : ℕ) (told : Answer) (bytes : List ℕ) → Why args before (at.Read what fd) p → IsAnswerTo (call.ReadAt fd from 8192) told
+  at_read : (what : Wanted) (fd : Fd) (from : ℕ) (told : Answer) (bytes : List ℕ) → IsAnswerTo (call.ReadAt fd from 8192) told
       → WhyAt args (event_of (needs.File (call.ReadAt fd from 8192)) (told_of told bytes) ∷ before) (read_on what fd told bytes p)
-  at_read wanted.Host fd from (answer.Count count) bytes w fit =
+  at_read what fd from (answer.Count count) bytes fit =
       elim (nat_lt (length bytes) 8192) as (λ t. Why args (event_of (needs.File (call.ReadAt fd from 8192)) (told_of (answer.Count count) bytes) ∷ before)
-      (if t then at.Close wanted.Host fd reading.Whole else at.Read wanted.Host fd)
-      (record p { row = (if t then at.Close wanted.Host fd reading.Whole else at.Read wanted.Host fd); read = p.read ++ bytes })) [ true ↦ ap (λ l. l ++ bytes) w | false ↦ ap (λ l. l ++ bytes) w ]
-  at_read wanted.Instructions fd from (answer.Count count) bytes w fit =
-      elim (nat_lt (length bytes) 8192) as (λ t. Why args (event_of (needs.File (call.ReadAt fd from 8192)) (told_of (answer.Count count) bytes) ∷ before)
-      (if t then at.Close wanted.Instructions fd reading.Whole else at.Read wanted.Instructions fd)
-      (record p { row = (if t then at.Close wanted.Instructions fd reading.Whole else at.Read wanted.Instructions fd); read = p.read ++ bytes })) [ true ↦ tt | false ↦ tt ]
-  at_read wanted.Host fd from (answer.Refused why.Fault) bytes w fit = failed_call (call.ReadAt fd from 8192) bytes
-  at_read wanted.Instructions fd from (answer.Refused why.Fault) bytes w fit = failed_call (call.ReadAt fd from 8192) bytes
-  at_read what fd from told bytes w fit = absurd fit
+      (if t then at.Close what fd reading.Whole else at.Read what fd)
+      (record p { row = (if t then at.Close what fd reading.Whole else at.Read what fd); read = p.read ++ bytes })) [ true ↦ tt | false ↦ tt ]
+  at_read what fd from (answer.Refused why.Fault) bytes fit = failed_call (call.ReadAt fd from 8192) bytes
+  at_read what fd from told bytes fit = absurd fit
 
   at_close : (what : Wanted) (fd : Fd) (went : Reading) (told : Told) → Known (at.Close what fd went) → Why args before (at.Close what fd went) p
       → WhyAt args (event_of (needs.File (call.Close fd)) (came.Answered told) ∷ before) (closed args now what went p)
-  at_close wanted.Host fd reading.Whole told h w = names_by args now (event_of (needs.File (call.Close fd)) (came.Answered told)) before (host_in p.read) p refl w h.input
+  at_close wanted.Host fd reading.Whole told h w =
+      names_by args now (event_of (needs.File (call.Close fd)) (came.Answered told)) before (host_in p.read) p (ap host_of h.me)
+      (record { fd = fd; told = told; bytes = p.read; closed = (refl, refl); opened = h.opened; whole = h.me }) h.input
   at_close wanted.Instructions fd reading.Whole told h w =
-      let names : told_names before ≡ p.names = h.file.before.names in
-      told_lines args now (event_of (needs.File (call.Close fd)) (came.Answered told)) before p h.file.place (ap (chosen_by args) names ∙ h.file.chosen) h.bytes p.read refl
+      let names : told_names args.home before ≡ p.names = h.file.before.names in
+      let file = λ (n : List (List ℕ)). file_name args n h.file.place in
+      let whole : read_of (file (told_names args.home before)) before ≡ Whole p.read = ap (λ n. read_of (file n) before) names ∙ h.bytes in
+      told_lines args now (event_of (needs.File (call.Close fd)) (came.Answered told)) before p h.file.place (ap (chosen_by args) names ∙ h.file.chosen)
+      (record { fd = fd; told = told; bytes = p.read; closed = (refl, refl); opened = h.opened ∙ ap file (sym names); whole = whole }) whole p.read refl
   at_close wanted.Host fd reading.Fault told h w = later args (event_of (needs.File (call.Close fd)) (came.Answered told)) before 111 w
   at_close wanted.Instructions fd reading.Fault told h w = later args (event_of (needs.File (call.Close fd)) (came.Answered told)) before 111 w
   at_close wanted.Host fd reading.Memory told h w = inr (later args (event_of (needs.File (call.Close fd)) (came.Answered told)) before 51 w)
@@ -336,7 +343,7 @@ module _ (args : LocalArgs) (now : ℕ) (ready : Ready) (before : List Own) (p :
 
   exits : (code : ℕ) (s t : Bool) → (code == 0) ≡ s → TellsOf args before p
       → WhyAt args (event_of (needs.Command p.text) (came.Ended code) ∷ before) (if s then line_done args now p else (if t then lines_done args now p else command_failed code p))
-  exits code true t e told = passes args now (event_of (needs.Command p.text) (came.Ended code)) before p told
+  exits code true t e told = passes args now (event_of (needs.Command p.text) (came.Ended code)) before p (told.0, inr told.1)
   exits code false true e told = cuts args now (event_of (needs.Command p.text) (came.Ended code)) before p
   exits code false false e told = inr (bad_exit code (is_lasting_command code) e refl)
 
@@ -422,14 +429,14 @@ module _ (args : LocalArgs) (now : ℕ) (ready : Ready) (before : List Own) (p :
   by_answer names (drop.Ended a outcome) left P got may f = absurd may
 
   told_still : (names : DropNames) (row : DropRow) (left : List ℕ) (told : Told) → TellsOf args before p → TellsOf args (event_of (drop_due names row left) (came.Answered told) ∷ before) p
-  told_still names (drop.Create a) left told w = w
-  told_still names (drop.Append a fd) left told w = w
-  told_still names (drop.Sync a fd) left told w = w
-  told_still names (drop.Close a fd) left told w = w
-  told_still names (drop.Link a) left told w = w
-  told_still names (drop.Shut a fd reason) left told w = w
-  told_still names (drop.Unlink a outcome) left told w = w
-  told_still names (drop.Ended a outcome) left told w = w
+  told_still names (drop.Create a) left told w = (w.0, inr w.1)
+  told_still names (drop.Append a fd) left told w = (w.0, inr w.1)
+  told_still names (drop.Sync a fd) left told w = (w.0, inr w.1)
+  told_still names (drop.Close a fd) left told w = (w.0, inr w.1)
+  told_still names (drop.Link a) left told w = (w.0, inr w.1)
+  told_still names (drop.Shut a fd reason) left told w = (w.0, inr w.1)
+  told_still names (drop.Unlink a outcome) left told w = (w.0, inr w.1)
+  told_still names (drop.Ended a outcome) left told w = (w.0, inr w.1)
 
   module _ (event : Own) (is : p.row ≡ at.Drop) (it : Drop) (h : AtDrop args (event ∷ before) p it) where
     still_at : WhyAt args (event ∷ before) (record p { dropping = Some it })
@@ -470,11 +477,11 @@ module _ (args : LocalArgs) (now : ℕ) (ready : Ready) (before : List Own) (p :
       }) next.place.row refl)
 
   step : (row : Row) (got : GotData) → p.row ≡ row → Known row → Why args before row p → MayCome (due_at args row p) got → Step row got
-  step at.TakeInput got is h w may = at_input got h w may
+  step at.TakeInput got is h w may = at_input got h may
   step (at.Open what) got is h w may =
-      by_fit (call.Open (file_wanted what p) how.Read) (Step (at.Open what)) got may (λ told fit. at_open what (file_wanted what p) told.answer told.bytes refl h w fit)
+      by_fit (call.Open (file_wanted what p) how.Read) (Step (at.Open what)) got may (λ told fit. at_open what (file_wanted what p) told.answer told.bytes refl h fit)
   step (at.Read what fd) got is h w may =
-      by_fit (call.ReadAt fd (length p.read) 8192) (Step (at.Read what fd)) got may (λ told fit. at_read what fd (length p.read) told.answer told.bytes w fit)
+      by_fit (call.ReadAt fd (length p.read) 8192) (Step (at.Read what fd)) got may (λ told fit. at_read what fd (length p.read) told.answer told.bytes fit)
   step (at.Close what fd went) got is h w may = by_fit (call.Close fd) (Step (at.Close what fd went)) got may (λ told fit. at_close what fd went told h w)
   step at.NextName got is h w may =
       by_fit (call.NextName args.home (last_name p.names)) (Step at.NextName) got may (λ told fit. at_names (last_name p.names) told.answer told.bytes h fit)
@@ -489,7 +496,7 @@ module _ (args : LocalArgs) (now : ℕ) (ready : Ready) (before : List Own) (p :
 
 -- after each run
 whys : (args : LocalArgs) (past : List Own) → IsRunBy (Next args) past → WhyAt args past (place_after args past)
-whys args [] run = refl
+whys args [] run = tt
 whys args (event ∷ before) run =
     let p : Place = place_after args before in
     let may = subst (λ x. MayCome x event.came) (sym run.1.0) run.1.1 in
@@ -501,7 +508,7 @@ pub told_at_drop : (args : LocalArgs) (past : List Own) (it : Drop) → IsRunBy 
     → instructions args past ≡ Some (lines_of (place_after args past).course)
 told_at_drop args past it run is drops =
     let p : Place = place_after args past in
-    (subst (AtSome args past p) drops (subst (λ row. Why args past row p) is (whys args past run))).told
+    (subst (AtSome args past p) drops (subst (λ row. Why args past row p) is (whys args past run))).told.0
 
 -- of a delivery that has ended
 ended_so : (args : LocalArgs) (past : List Own) (p : Place) (row : Row) (status : ℕ) → Inv args (deeds_of past) row p → Why args past row p → due_at args row p ≡ needs.Ended status

@@ -4,15 +4,16 @@ use Rattle.call_fs.specs.declared.past.ChildData.{ChildData}
 use Rattle.call_fs.specs.declared.past.GotData.{GotData}
 use Rattle.call_fs.specs.declared.past.NeedData.{NeedData}
 use Rattle.call_fs.specs.declared.past.Own.{Own}
-use Rattle.local_deliver.specs.Deeds.{Exited, LinkMade, bytes_read, exits, exits_by, feeds, feeds_by, links, last_opened, links_by, me_read, me_with, names_by, opens_by, read_by, starts, starts_by, statuses, statuses_by, told_names}
+use Rattle.local_deliver.specs.Deeds.{Exited, FileText, LinkMade, exits, exits_by, feeds, feeds_by, links, last_opened, links_by, names_by, opens_by, read_of, reads_by, starts, starts_by, statuses, statuses_by, told_names}
 use Rattle.call_fs.specs.Past.{taken, taken_by}
 
 pub record Deeds : Type 0 where
   pub taken : List ℕ
-  pub names : List (List ℕ)
-  pub bytes : List ℕ
+  -- of each directory
+  pub names : List ℕ → List (List ℕ)
   pub opened : List ℕ
-  pub me : Option (List ℕ)
+  -- of each file
+  pub read : List ℕ → FileText
   pub links : List LinkMade
   pub exits : List Exited
   pub starts : List ChildData
@@ -22,10 +23,9 @@ pub record Deeds : Type 0 where
 abbrev pub deeds_by : Deeds → NeedData → GotData → Deeds
 deeds_by d due got = record {
   taken = taken_by d.taken due got;
-  names = names_by d.names due got;
-  bytes = read_by d.bytes due got;
+  names = λ dir. names_by dir (d.names dir) due got;
   opened = opens_by d.opened due got;
-  me = me_with d.opened d.me due got;
+  read = λ name. reads_by name d.opened (d.read name) due got;
   links = links_by d.links due got;
   exits = exits_by d.exits due got;
   starts = starts_by d.starts due got;
@@ -36,10 +36,9 @@ deeds_by d due got = record {
 abbrev pub deeds_of : List Own → Deeds
 deeds_of past = record {
   taken = taken past;
-  names = told_names past;
-  bytes = bytes_read past;
+  names = λ dir. told_names dir past;
   opened = last_opened past;
-  me = me_read past;
+  read = λ name. read_of name past;
   links = links past;
   exits = exits past;
   starts = starts past;

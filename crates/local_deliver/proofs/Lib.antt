@@ -10,7 +10,7 @@ pub mod Standing
 pub mod Deeds
 -- lines that are reached
 pub mod Reaching
--- no file of instructions is control/me
+-- names of files: each is its own, and none of instructions is control/me
 pub mod MeNames
 -- what a delivery has done and knows at each of its rows
 pub mod Underway

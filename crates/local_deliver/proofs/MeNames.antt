@@ -1,4 +1,4 @@
--- No file of instructions is control/me.
+-- Names: each is its own, and no file of instructions is control/me.
 use Rattle.std.proofs.Common.{◌≡◌, ℕ, List, [], ◌∷◌, ◌++◌, Bool, true, false, Option, Some, None, refl, sym, ap, ◌∙◌, codes}
 use Rattle.std.specs.Prelude.{map, slice_index_or, bytes_eq, ◌&&◌, ◌||◌, ◌==◌}
 use Rattle.std.specs.Option.{option_or}
@@ -11,6 +11,9 @@ use Rattle.dot_qmail.proofs.Places.Found.{There, Nowhere}
 use Rattle.local_parts.specs.declared.arguments.LocalArgs.{LocalArgs}
 use Rattle.local_parts.specs.Choosing.{chosen_by, file_name}
 use Rattle.local_deliver.specs.Deeds.{me_name}
+
+pub same_name : (name : List ℕ) → bytes_eq name name ≡ true
+same_name name = (bytes_eq-Decides name name).1 refl
 
 -- A text with `/.` in it
 

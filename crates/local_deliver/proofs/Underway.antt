@@ -1,12 +1,11 @@
 -- What a delivery has done and knows at each of its rows
-use Rattle.std.proofs.Common.{◌≡◌, ℕ, List, [], ◌∷◌, ◌++◌, true, false, Option, Some, None}
-use Rattle.std.specs.Prelude.{bytes_eq}
+use Rattle.std.proofs.Common.{◌≡◌, ℕ, List, [], ◌∷◌, ◌++◌, Option, Some, None}
 use Rattle.call_fs.specs.declared.past.ChildData.TheVariants.{Forward as ForwardChild}
 use Rattle.dot_qmail.specs.declared.choice.Chosen.TheVariants as chosen
 use Rattle.dot_qmail.specs.declared.line.Line.{Line}
 use Rattle.local_parts.specs.declared.arguments.LocalArgs.{LocalArgs}
 use Rattle.local_parts.specs.declared.forwarding.Injection.{Injection}
-use Rattle.local_parts.specs.Choosing.{chosen_by}
+use Rattle.local_parts.specs.Choosing.{chosen_by, file_name}
 use Rattle.local_parts.specs.Course.{Course, lines_of, work_of}
 use Rattle.local_parts.specs.Course.Work.{ToCommand, ToMaildir}
 use Rattle.local_parts.specs.Forwarding.{injection_of}
@@ -17,11 +16,14 @@ use Rattle.maildir_drop.specs.declared.row.Row.{Row as DropRow}
 use Rattle.maildir_drop.specs.declared.row.Row.TheVariants as drop
 use Rattle.maildir_drop.specs.Names.{names_of, pair_at}
 use Rattle.local_deliver.specs.declared.place.Place.{Place}
+use Rattle.local_deliver.specs.declared.row.Reading.{Reading}
+use Rattle.local_deliver.specs.declared.row.Reading.TheVariants as reading
 use Rattle.local_deliver.specs.declared.row.Row.{Row}
 use Rattle.local_deliver.specs.declared.row.Row.TheVariants as at
 use Rattle.local_deliver.specs.declared.row.Wanted.TheVariants as wanted
-use Rattle.local_deliver.specs.Carried.{AreDrops, Reaches, of_choice}
-use Rattle.local_deliver.specs.Deeds.{Exited, LinkMade, host_of, me_name}
+use Rattle.local_deliver.specs.Carried.{AreDrops, Reaches, plan_by}
+use Rattle.local_deliver.specs.Deeds.{Exited, FileText, LinkMade, host_of, me_name}
+use Rattle.local_deliver.specs.Deeds.FileText.{SoFar, Unopened, Whole}
 use Rattle.local_deliver.specs.Drops.{Drop, drop_arguments, end_drop}
 use Rattle.local_deliver.proofs.Deeds.{Deeds}
 
@@ -52,40 +54,40 @@ abbrev pub facts : Place → Facts
 facts p = record { message = p.message; host = p.host; names = p.names; course = p.course }
 
 -- the message is known, and no line was done
-pub record Known (d : Deeds) (p : Facts) : Type 0 where
+pub record Known (args : LocalArgs) (d : Deeds) (p : Facts) : Type 0 where
   pub input : message_in d.taken ≡ Some p.message
-  pub names : d.names ≡ p.names
+  pub names : d.names args.home ≡ p.names
   pub clean : Clean d
 
 -- nothing was read yet
-pub record Early (d : Deeds) (p : Facts) (read : List ℕ) : Type 0 where
+pub record Early (args : LocalArgs) (d : Deeds) (p : Facts) (read : List ℕ) : Type 0 where
   pub input : message_in d.taken ≡ Some p.message
-  pub names : d.names ≡ p.names
+  pub names : d.names args.home ≡ p.names
   pub clean : Clean d
-  pub me : d.me ≡ None
+  pub me : d.read me_name ≡ Unopened
   pub none : read ≡ []
 
 -- control/me is read
-pub record AtHost (d : Deeds) (p : Facts) (read : List ℕ) : Type 0 where
+pub record AtHost (args : LocalArgs) (d : Deeds) (p : Facts) (text : FileText) : Type 0 where
   pub input : message_in d.taken ≡ Some p.message
-  pub names : d.names ≡ p.names
+  pub names : d.names args.home ≡ p.names
   pub clean : Clean d
-  pub me : d.me ≡ Some read
-  pub opened : bytes_eq d.opened me_name ≡ true
+  pub me : d.read me_name ≡ text
+  pub opened : d.opened ≡ me_name
 
 -- the host is known too
-pub record Before (d : Deeds) (p : Facts) : Type 0 where
+pub record Before (args : LocalArgs) (d : Deeds) (p : Facts) : Type 0 where
   pub input : message_in d.taken ≡ Some p.message
-  pub names : d.names ≡ p.names
+  pub names : d.names args.home ≡ p.names
   pub clean : Clean d
-  pub host : host_of d.me ≡ Some p.host
+  pub host : host_of (d.read me_name) ≡ Some p.host
 
 -- the instructions are known
 pub record Instructed (args : LocalArgs) (d : Deeds) (p : Facts) (lines : List Line) : Type 0 where
   pub input : message_in d.taken ≡ Some p.message
-  pub host : host_of d.me ≡ Some p.host
-  pub names : d.names ≡ p.names
-  pub told : of_choice args (chosen_by args d.names) d.bytes ≡ Some lines
+  pub host : host_of (d.read me_name) ≡ Some p.host
+  pub names : d.names args.home ≡ p.names
+  pub told : plan_by args (d.names args.home) d.read ≡ Some lines
 
 -- the lines that are done were reached, with just these links
 pub record Under (args : LocalArgs) (d : Deeds) (p : Facts) (lines : List Line) (made : List LinkMade) : Type 0 where
@@ -115,11 +117,11 @@ pub record Carried (args : LocalArgs) (d : Deeds) : Type 0 where
   pub lines : List Line
   pub reached : List Line
   pub input : message_in d.taken ≡ Some message
-  pub host_is : host_of d.me ≡ Some host
-  pub told : of_choice args (chosen_by args d.names) d.bytes ≡ Some lines
+  pub host_is : host_of (d.read me_name) ≡ Some host
+  pub told : plan_by args (d.names args.home) d.read ≡ Some lines
   pub reaches : Reaches lines d.exits reached
   pub drops : AreDrops args host message reached d.links
-  pub injected : WasInjected args (injection_of args d.names message reached) d
+  pub injected : WasInjected args (injection_of args (d.names args.home) message reached) d
 
 -- At each row
 
@@ -180,24 +182,34 @@ pub record AtStatus (args : LocalArgs) (d : Deeds) (p : Place) : Type 0 where
 
 -- the `.qmail` file was chosen
 pub record AtFile (args : LocalArgs) (d : Deeds) (p : Facts) : Type 0 where
-  pub before : Before d p
+  pub before : Before args d p
   pub place : ℕ
   pub chosen : chosen_by args p.names ≡ Some (chosen.File place)
 
-pub record AtBytes (args : LocalArgs) (d : Deeds) (p : Facts) (read : List ℕ) : Type 0 where
+pub record AtName (args : LocalArgs) (d : Deeds) (p : Facts) (name read : List ℕ) : Type 0 where
   pub file : AtFile args d p
-  pub bytes : d.bytes ≡ read
-  pub other : bytes_eq d.opened me_name ≡ false
+  pub is : name ≡ file_name args p.names file.place
+  pub none : read ≡ []
+
+pub record AtBytes (args : LocalArgs) (d : Deeds) (p : Facts) (text : FileText) : Type 0 where
+  pub file : AtFile args d p
+  pub bytes : d.read (file_name args p.names file.place) ≡ text
+  pub opened : d.opened ≡ file_name args p.names file.place
+
+-- what was read of the file at work, when its reading went so
+abbrev pub read_so : Reading → List ℕ → FileText
+read_so reading.Whole bytes = Whole bytes
+read_so went bytes = SoFar bytes
 
 abbrev pub Inv : LocalArgs → Deeds → Row → Place → Type 0
-Inv args d at.TakeInput p = (d.taken ≡ p.message) × (d.names ≡ p.names) × Clean d × (d.me ≡ None) × (p.read ≡ [])
-Inv args d (at.Open wanted.Host) p = Early d (facts p) p.read
-Inv args d (at.Open wanted.Instructions) p = AtFile args d (facts p) × (p.read ≡ []) × (bytes_eq p.name me_name ≡ false)
-Inv args d (at.Read wanted.Host fd) p = AtHost d (facts p) p.read
-Inv args d (at.Read wanted.Instructions fd) p = AtBytes args d (facts p) p.read
-Inv args d (at.Close wanted.Host fd went) p = AtHost d (facts p) p.read
-Inv args d (at.Close wanted.Instructions fd went) p = AtBytes args d (facts p) p.read
-Inv args d at.NextName p = Before d (facts p)
+Inv args d at.TakeInput p = (d.taken ≡ p.message) × (d.names args.home ≡ p.names) × Clean d × (d.read me_name ≡ Unopened) × (p.read ≡ [])
+Inv args d (at.Open wanted.Host) p = Early args d (facts p) p.read
+Inv args d (at.Open wanted.Instructions) p = AtName args d (facts p) p.name p.read
+Inv args d (at.Read wanted.Host fd) p = AtHost args d (facts p) (SoFar p.read)
+Inv args d (at.Read wanted.Instructions fd) p = AtBytes args d (facts p) (SoFar p.read)
+Inv args d (at.Close wanted.Host fd went) p = AtHost args d (facts p) (read_so went p.read)
+Inv args d (at.Close wanted.Instructions fd went) p = AtBytes args d (facts p) (read_so went p.read)
+Inv args d at.NextName p = Before args d (facts p)
 Inv args d at.Drop p = AtSome args d p p.dropping
 Inv args d at.Run p = AtRun args d p
 Inv args d at.Start p = AtStart args d p

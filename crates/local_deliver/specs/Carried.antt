@@ -16,29 +16,39 @@ use Rattle.dot_qmail.specs.declared.line.Line.TheVariants as line
 use Rattle.dot_qmail.specs.Lines.{plan_of}
 use Rattle.local_parts.specs.declared.arguments.LocalArgs.{LocalArgs}
 use Rattle.local_parts.specs.declared.forwarding.Injection.{Injection}
-use Rattle.local_parts.specs.Choosing.{chosen_by}
+use Rattle.local_parts.specs.Choosing.{chosen_by, file_name}
 use Rattle.local_parts.specs.Course.{default_text}
 use Rattle.local_parts.specs.Forwarding.{injection_of}
 use Rattle.local_parts.specs.Inputs.{message_in}
 use Rattle.local_parts.specs.Texts.{maildir_text}
 use Rattle.maildir_drop.specs.declared.row.Attempt.{Attempt}
 use Rattle.maildir_drop.specs.Names.{names_of, pair_at}
-use Rattle.local_deliver.specs.Deeds.{Exited, LinkMade, bytes_read, exits, feeds, host_read, links, starts, statuses, told_names}
+use Rattle.local_deliver.specs.Deeds.{Exited, FileText, LinkMade, exits, feeds, host_read, links, read_of, starts, statuses, told_names}
+use Rattle.local_deliver.specs.Deeds.FileText.{Whole}
 use Rattle.local_deliver.specs.Drops.{drop_arguments}
 
--- The instructions, by the names of the home and the bytes of the chosen file
+-- The instructions, by the names of the home and what was read of each file: those of the file that is chosen among these names, once
+-- all of it was read, or the default ones
 
 abbrev pub of_file : LocalArgs → List ℕ → Option (List Line)
 of_file args [] = plan_of (default_text args)
 of_file args (b ∷ bytes) = plan_of (b ∷ bytes)
 
-abbrev pub of_choice : LocalArgs → Option Chosen → List ℕ → Option (List Line)
-of_choice args None bytes = None
-of_choice args (Some chosen.Default) bytes = plan_of (default_text args)
-of_choice args (Some (chosen.File place)) bytes = of_file args bytes
+abbrev pub of_read : LocalArgs → FileText → Option (List Line)
+of_read args (Whole bytes) = of_file args bytes
+of_read args other = None
 
+abbrev pub of_choice : LocalArgs → (names : List (List ℕ)) → Option Chosen → (read : List ℕ → FileText) → Option (List Line)
+of_choice args names None read = None
+of_choice args names (Some chosen.Default) read = plan_of (default_text args)
+of_choice args names (Some (chosen.File place)) read = of_read args (read (file_name args names place))
+
+abbrev pub plan_by : LocalArgs → (names : List (List ℕ)) → (read : List ℕ → FileText) → Option (List Line)
+plan_by args names read = of_choice args names (chosen_by args names) read
+
+-- by the names that the home told, and what was read of the home's file of the chosen name
 abbrev pub instructions : LocalArgs → List Own → Option (List Line)
-instructions args past = of_choice args (chosen_by args (told_names past)) (bytes_read past)
+instructions args past = plan_by args (told_names args.home past) (λ name. read_of name past)
 
 -- Which of the lines are reached, if the commands among them exit like this: all of them, or those up to the first command that
 -- exits with 99. Every other command exits with 0.
@@ -93,4 +103,4 @@ pub record IsCarried (args : LocalArgs) (past : List Own) : Type 0 where
   pub told : instructions args past ≡ Some lines
   pub reaches : Reaches lines (exits past) reached
   pub drops : AreDrops args host message reached (links past)
-  pub injected : IsInjected args (injection_of args (told_names past) message reached) past
+  pub injected : IsInjected args (injection_of args (told_names args.home past) message reached) past

@@ -1,9 +1,10 @@
 -- What a local delivery met and did, by its past alone.
-use Rattle.std.specs.Prelude.{ℕ, List, [], ◌∷◌, ◌++◌, Option, Some, None, bytes_eq, codes, if◌then◌else◌}
+use Rattle.std.specs.Prelude.{ℕ, List, [], ◌∷◌, ◌++◌, length, nat_lt, Bool, Option, Some, None, bytes_eq, codes, if◌then◌else◌}
 use Rattle.call_fs.specs.declared.calls.Answer.{Answer}
 use Rattle.call_fs.specs.declared.calls.Answer.TheVariants as answer
 use Rattle.call_fs.specs.declared.calls.CallData.{CallData}
 use Rattle.call_fs.specs.declared.calls.CallData.TheVariants as call
+use Rattle.call_fs.specs.declared.calls.FsError.TheVariants as why
 use Rattle.call_fs.specs.declared.past.ChildData.{ChildData}
 use Rattle.call_fs.specs.declared.past.GotData.{GotData}
 use Rattle.call_fs.specs.declared.past.GotData.TheVariants as came
@@ -13,32 +14,18 @@ use Rattle.call_fs.specs.declared.past.Own.{Own}
 use Rattle.call_fs.specs.declared.program.Port.TheVariants as port
 use Rattle.local_parts.specs.Host.{host_in}
 
--- the names of the home that it was told, in order
-abbrev pub told_by : List (List ℕ) → CallData → Answer → List (List ℕ)
-told_by old (call.NextName dir after) (answer.Name name) = old ++ name ∷ []
-told_by old c told = old
+-- the names that this directory told, in order
+abbrev pub told_by : (dir : List ℕ) → List (List ℕ) → CallData → Answer → List (List ℕ)
+told_by dir old (call.NextName asked after) (answer.Name name) = if bytes_eq asked dir then old ++ name ∷ [] else old
+told_by dir old c told = old
 
-abbrev pub names_by : List (List ℕ) → NeedData → GotData → List (List ℕ)
-names_by old (needs.File c) (came.Answered told) = told_by old c told.answer
-names_by old due got = old
+abbrev pub names_by : (dir : List ℕ) → List (List ℕ) → NeedData → GotData → List (List ℕ)
+names_by dir old (needs.File c) (came.Answered told) = told_by dir old c told.answer
+names_by dir old due got = old
 
-abbrev pub told_names : List Own → List (List ℕ)
-told_names [] = []
-told_names (event ∷ before) = names_by (told_names before) event.due event.came
-
--- what was read of the file that was opened last
-abbrev pub bytes_by : List ℕ → CallData → Answer → List ℕ → List ℕ
-bytes_by old (call.Open name how) (answer.Opened fd) bytes = []
-bytes_by old (call.ReadAt fd from most) (answer.Count count) bytes = old ++ bytes
-bytes_by old c told bytes = old
-
-abbrev pub read_by : List ℕ → NeedData → GotData → List ℕ
-read_by old (needs.File c) (came.Answered told) = bytes_by old c told.answer told.bytes
-read_by old due got = old
-
-abbrev pub bytes_read : List Own → List ℕ
-bytes_read [] = []
-bytes_read (event ∷ before) = read_by (bytes_read before) event.due event.came
+abbrev pub told_names : (dir : List ℕ) → List Own → List (List ℕ)
+told_names dir [] = []
+told_names dir (event ∷ before) = names_by dir (told_names dir before) event.due event.came
 
 -- the name of the file that was opened last
 abbrev pub opened_by : List ℕ → CallData → Answer → List ℕ
@@ -53,34 +40,48 @@ abbrev pub last_opened : List Own → List ℕ
 last_opened [] = []
 last_opened (event ∷ before) = opens_by (last_opened before) event.due event.came
 
--- What was read of control/me, by the file that was opened last before; none if it wasn't opened.
+-- What was read of a file: nothing, since it wasn't opened, or wasn't there; this much so far; or all of it, since its last read gave
+-- less than it asked for.
+pub data FileText : Type 0 where
+  Unopened : FileText
+  Missing : FileText
+  SoFar : List ℕ → FileText
+  Whole : List ℕ → FileText
+
+abbrev pub piece_of : (old bytes : List ℕ) → (is_last : Bool) → FileText
+piece_of old bytes is_last = if is_last then Whole (old ++ bytes) else SoFar (old ++ bytes)
+
+abbrev pub added : FileText → List ℕ → (is_last : Bool) → FileText
+added (SoFar old) bytes is_last = piece_of old bytes is_last
+added (Whole old) bytes is_last = piece_of old bytes is_last
+added other bytes is_last = other
+
+-- of the file of this name: a read is of the file that was opened last before
+abbrev pub read_by : (name opened : List ℕ) → FileText → CallData → Answer → List ℕ → FileText
+read_by name opened old (call.Open asked how) (answer.Opened fd) bytes = if bytes_eq asked name then SoFar [] else old
+read_by name opened old (call.Open asked how) (answer.Refused why.NotThere) bytes = if bytes_eq asked name then Missing else old
+read_by name opened old (call.ReadAt fd from most) (answer.Count count) bytes = if bytes_eq opened name then added old bytes (nat_lt (length bytes) most) else old
+read_by name opened old c told bytes = old
+
+abbrev pub reads_by : (name opened : List ℕ) → FileText → NeedData → GotData → FileText
+reads_by name opened old (needs.File c) (came.Answered told) = read_by name opened old c told.answer told.bytes
+reads_by name opened old due got = old
+
+abbrev pub read_of : (name : List ℕ) → List Own → FileText
+read_of name [] = Unopened
+read_of name (event ∷ before) = reads_by name (last_opened before) (read_of name before) event.due event.came
+
+-- the host that control/me names, once that was read; `localhost` if it wasn't there
 abbrev pub me_name : List ℕ
 me_name = codes "control/me"
 
-abbrev pub added : Option (List ℕ) → List ℕ → Option (List ℕ)
-added None bytes = None
-added (Some old) bytes = Some (old ++ bytes)
-
-abbrev pub me_by : (opened : List ℕ) → Option (List ℕ) → CallData → Answer → List ℕ → Option (List ℕ)
-me_by opened old (call.Open name how) (answer.Opened fd) bytes = if bytes_eq name me_name then Some [] else old
-me_by opened old (call.ReadAt fd from most) (answer.Count count) bytes = if bytes_eq opened me_name then added old bytes else old
-me_by opened old c told bytes = old
-
-abbrev pub me_with : (opened : List ℕ) → Option (List ℕ) → NeedData → GotData → Option (List ℕ)
-me_with opened old (needs.File c) (came.Answered told) = me_by opened old c told.answer told.bytes
-me_with opened old due got = old
-
-abbrev pub me_read : List Own → Option (List ℕ)
-me_read [] = None
-me_read (event ∷ before) = me_with (last_opened before) (me_read before) event.due event.came
-
--- the host that it names; `localhost` without that file
-abbrev pub host_of : Option (List ℕ) → Option (List ℕ)
-host_of None = Some (codes "localhost")
-host_of (Some bytes) = host_in bytes
+abbrev pub host_of : FileText → Option (List ℕ)
+host_of Missing = Some (codes "localhost")
+host_of (Whole bytes) = host_in bytes
+host_of other = None
 
 abbrev pub host_read : List Own → Option (List ℕ)
-host_read past = host_of (me_read past)
+host_read past = host_of (read_of me_name past)
 
 -- the links that were made, in order: from this name to that one
 abbrev pub LinkMade : Type 0

@@ -32,4 +32,4 @@ pub record IsForwardInput (args : LocalArgs) (past : List Own) (text : List ℕ)
   pub input : message_in (taken past) ≡ Some message
   pub told : instructions args past ≡ Some lines
   pub reaches : Reaches lines (exits past) reached
-  pub is : text ≡ net_text (forward_text args message) ++ net_text (envelope (forward_sender args (told_names past)) (forwards reached))
+  pub is : text ≡ net_text (forward_text args message) ++ net_text (envelope (forward_sender args (told_names args.home past)) (forwards reached))

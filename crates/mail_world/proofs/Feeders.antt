@@ -185,7 +185,7 @@ pub feeder_gives : (program : Program) (past : List Own) (now : ℕ) (ready : Re
 feeder_gives (Sender began) past now ready d bytes feeds run e = gives_texts began past now ready d bytes run e
 feeder_gives (Delivery start args) past now ready d bytes feeds run e =
     let g = given args past now ready d bytes run e in
-    record { borne = started_one start args past run g.1; first = g.0; texts = record { message = forward_text args g.2.message; envelope = envelope (forward_sender args (told_names past)) (forwards g.2.reached); are = g.2.is } }
+    record { borne = started_one start args past run g.1; first = g.0; texts = record { message = forward_text args g.2.message; envelope = envelope (forward_sender args (told_names args.home past)) (forwards g.2.reached); are = g.2.is } }
 feeder_gives other past now ready d bytes feeds run e = absurd feeds
 
 -- Who has just started one gives it its input next, at each moment and with whatever ready.

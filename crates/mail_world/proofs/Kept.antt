@@ -31,7 +31,6 @@ use Rattle.queue_law.proofs.Tests.{unless_same}
 use Rattle.queue_law.proofs.Looks.{find_none, found, mapped_some}
 use Rattle.queue_law.specs.Numbers.{Role, Queue, NamesSuit, find, IsSorted, Sound, IsEarly}
 use Rattle.queue_law.specs.Injectors.{IsHeld}
-use Rattle.mail_world.specs.Waiting.{IsBooked}
 use Rattle.mail_world.specs.Untouched.{queue, about_in, LeavesBy, program_of, doer, LeavesRest, EventsLeave}
 use Rattle.queue_law.specs.Numbers.Role.{AsOld}
 use Rattle.queue_law.specs.Numbers.Phase.{Free}
@@ -39,7 +38,7 @@ use Rattle.queue_law.specs.Steps.{Elsewhere, Outside, after_halt}
 use Rattle.queue_law.proofs.Frame.{still_there, outside_same}
 use Rattle.queue_law.proofs.Step.{nothing_elsewhere}
 use Rattle.queue_law.proofs.Halts.{sound_after, early_after}
-use Rattle.mail_world.proofs.Programs.{program_starts_none, FaresBy, IsDone, fares_passes, fares_runs, fares_start, fares_frame, fares_halt, fares_later, fares_over, fares_done, fares_booked, queue_by, fares_calls, leaves_same}
+use Rattle.mail_world.proofs.Programs.{program_starts_none, FaresBy, IsBooked, IsDone, fares_passes, fares_runs, fares_start, fares_frame, fares_halt, fares_later, fares_over, fares_done, fares_booked, queue_by, fares_calls, leaves_same}
 
 -- what holds of an actor
 abbrev pub Fares : ℕ → Queue → List ℕ → Actor → Type 0

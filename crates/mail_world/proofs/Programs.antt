@@ -31,7 +31,6 @@ use Rattle.mail_world.specs.declared.any_machine.AnyMachine.TheVariants.{Mail, C
 use Rattle.mail_world.specs.Pipework.{Slot, Pipework, is_ready}
 use Rattle.mail_world.specs.History.{Life, State, InputIsFound, FindsInputAlone, MayFind, MayRun, next_of, latest, own_call, booked_by, held_by, cut_off}
 use Rattle.mail_world.specs.History.Life.{Alive, Over}
-use Rattle.mail_world.specs.Waiting.{IsBooked}
 use Rattle.mail_world.specs.Readiness.{input_alone, only_child, has_ended, is_awaiting, found_by}
 use Rattle.mail_world.specs.World.{most_of}
 use Rattle.call_fs.specs.declared.file_system.TheConstants.{PIECE}
@@ -43,7 +42,7 @@ use Rattle.local_deliver.specs.declared.machine.Local.{Local as Deliverer}
 use Rattle.local_spawn.specs.declared.machine.LocalSpawn.{LocalSpawn}
 use Rattle.remote_spawn.specs.declared.machine.RemoteSpawn.{RemoteSpawn}
 use Rattle.call_fs.specs.declared.program.TheConstants.{INPUT_READY}
-use Rattle.queue_law.specs.Books.{Injection, IsInjected}
+use Rattle.queue_law.specs.Books.{Books, HasQueued, Injection, IsInjected}
 use Rattle.queue_law.specs.Numbers.{Role, Queue, about, IsSorted, Sound, IsEarly}
 use Rattle.queue_law.specs.Injectors.{InjectorFares}
 use Rattle.queue_law.specs.Steps.{Elsewhere, after_halt}
@@ -213,7 +212,11 @@ fares_over now q r same a (Injector args) past old life F dead ends =
     injector_over now q r same a args past (is_alive old) (is_well old) (is_alive life) (is_well life) F (λ h. dead (alive_is life h)) (λ h. ends (well_is life h))
 fares_over now q r same a other past old life F dead ends = absurd F
 
--- what its past has put into the books
+-- what its past has put into the books: if an injector has queued its message, its accepted injection
+abbrev pub IsBooked : Books → List ℕ → Program → List Own → Type 0
+IsBooked b a (Injector args) past = inject_after args past ≡ at.Queued → HasQueued b a args
+IsBooked b a other past = Unit {0}
+
 pub fares_booked : (now : ℕ) (q : Queue) (a : List ℕ) (program : Program) (past : List Own) (life : Life) → FaresBy now q a program past life → IsBooked q.books a program past
 fares_booked now q a (Injector args) past life F = F.queued
 fares_booked now q a other past life F = absurd F

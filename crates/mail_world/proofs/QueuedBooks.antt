@@ -34,7 +34,8 @@ use Rattle.mail_world.specs.History.{Event, Actor, Injection, Books, Life, State
 use Rattle.queue_law.specs.Books.{Child as Bouncer}
 use Rattle.mail_world.specs.History.Event.{Start, Act, Child, Generation, Report, End, Stop, Moment, Halt}
 use Rattle.mail_world.specs.History.Life.{Over, Stopped}
-use Rattle.mail_world.specs.Waiting.{IsBooked, HasQueued}
+use Rattle.mail_world.specs.Waiting.{HasQueued}
+use Rattle.mail_world.proofs.Programs.{IsBooked}
 use Rattle.mail_world.specs.World.{Tells, with_inputs}
 use Rattle.mail_world.specs.Books.{is_to_todo, is_accepting, is_accepting_by, is_accepted, AcceptedAreBooked}
 use Rattle.mail_world.proofs.BookedNumbers.{IsIn, among_option, bears_none, injections_told}

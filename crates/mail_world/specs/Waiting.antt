@@ -1,21 +1,11 @@
 -- What is claimed of histories in which no generation was started: each accepted message waits in todo.
-use Rattle.std.specs.Prelude.{◌≡◌, ℕ, List, [], ◌∷◌, ◌++◌, Bool, true, false, Some}
+use Rattle.std.specs.Prelude.{◌≡◌, List, [], ◌∷◌, ◌++◌, Bool, true, false, Some}
 use Rattle.call_fs.specs.Disk.{Disk}
-use Rattle.queue_inject.specs.declared.row.Row.TheVariants as Row
-use Rattle.queue_inject.specs.Table.{place_after as inject_after}
-use Rattle.call_fs.specs.declared.past.Own.{Own}
-use Rattle.world_events.specs.declared.event.Program.{Program}
-use Rattle.world_events.specs.declared.event.Program.TheVariants.{Injector}
 use Rattle.queue_law.specs.Accounts.{IsInTodo}
-use Rattle.mail_world.specs.History.{Event, Injection, Books, State, after, Legal}
+use Rattle.mail_world.specs.History.{Event, Injection, State, after, Legal}
 use Rattle.mail_world.specs.History.Event.{Start, Act, Child, Generation, Report, End, Stop, Moment, Halt}
 -- injections, and what is valid
 pub use Rattle.queue_law.specs.Books.{IsInjected, IsValid, HasQueued}
-
--- what the past of a program has put into the books: if an injector has queued its message, its accepted injection
-abbrev pub IsBooked : Books → List ℕ → Program → List Own → Type 0
-IsBooked b a (Injector args) past = inject_after args past ≡ Row.Queued → HasQueued b a args
-IsBooked b a other past = Unit {0}
 
 -- the life of each accepted injection lasts, and todo has it
 abbrev pub AllWait : State → Type 0

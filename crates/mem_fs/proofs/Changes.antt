@@ -3,12 +3,14 @@ use Rattle.std.proofs.Common.{◌≡◌, ◌≢◌, ◌⊎◌, ⊎_elim, inl, in
 use Rattle.std.specs.List.Sorted.{IsStrictlySortedBy}
 use Rattle.std.specs.Option.{option_map}
 use Rattle.std.proofs.lemmas.Bool.Decides.{Decides-eqb}
-use Rattle.mem_fs.specs.declared.file.Inode.{Inode}
+use Rattle.mem_files.specs.declared.file.Inode.{Inode}
 use Rattle.call_fs.specs.Maps.{put}
 use Rattle.call_fs.specs.Disk.{File, Open}
-use Rattle.mem_fs.specs.MemFile.{no_file}
-use Rattle.mem_fs.specs.Tables.{at_number, AreNamesInOrder, AreNumbersInOrder}
-use Rattle.mem_fs.specs.MemDisk.{Held, file_at, links_of, holds_of, count_of, names_of, opens_counted, IsSound}
+use Rattle.mem_files.specs.MemFile.{no_file}
+use Rattle.mem_files.specs.Tables.{at_number, AreNumbersInOrder}
+use Rattle.mem_fs.specs.Tables.{AreNamesInOrder}
+use Rattle.mem_files.specs.MemFiles.{file_at, links_of, holds_of}
+use Rattle.mem_fs.specs.MemDisk.{Held, count_of, names_of, opens_counted, IsSound}
 use Rattle.call_fs.proofs.Maps.{put_cases, put-there, after_put}
 
 abbrev pub file_of : Option Inode → File

@@ -11,21 +11,23 @@ use Rattle.call_fs.specs.declared.crash_file_system.Survival.TheVariants.{Keep, 
 use Rattle.call_fs.specs.Disk.{File, Open}
 use Rattle.call_fs.specs.Survival.{Survives, AllSurvive, settled}
 use Rattle.call_fs.specs.Choices.{junked, junk_contents, contents_by, AreNamed, Halts}
-use Rattle.mem_fs.specs.declared.file.Inode.{Inode}
-use Rattle.mem_fs.specs.MemFile.{no_file, IsSurvivor}
-use Rattle.mem_fs.specs.Tables.{at_name, at_number, AreNumbersInOrder}
-use Rattle.mem_fs.specs.MemDisk.{Held, disk_of, file_at, links_of, IsSound}
-use Rattle.mem_fs.specs.MemHalt.{seed_of, left_of, settled_entry, settled_entries}
-use Rattle.mem_fs.proofs.Tables.{lookup-absent, place_of_found}
-use Rattle.mem_fs.proofs.NumberTable.{number-at}
-use Rattle.mem_fs.proofs.Counting.{rise}
-use Rattle.mem_fs.proofs.FileTable.{links-there}
+use Rattle.mem_files.specs.declared.file.Inode.{Inode}
+use Rattle.mem_files.specs.MemFile.{no_file, IsSurvivor}
+use Rattle.mem_files.specs.Tables.{at_number, AreNumbersInOrder}
+use Rattle.mem_fs.specs.Tables.{at_name}
+use Rattle.mem_files.specs.MemFiles.{file_at, links_of}
+use Rattle.mem_fs.specs.MemDisk.{Held, disk_of, IsSound}
+use Rattle.mem_files.specs.MemHalt.{seed_of, left_of, settled_entry, settled_entries}
+use Rattle.mem_files.proofs.Tables.{lookup-absent, place_of_found}
+use Rattle.mem_files.proofs.NumberTable.{number-at}
+use Rattle.mem_files.proofs.Counting.{rise}
+use Rattle.mem_files.proofs.FileTable.{links-there}
 use Rattle.mem_fs.proofs.Changes.{file_of}
 use Rattle.mem_fs.proofs.Uses.{linked_name, named_links, named_entry}
 use Rattle.mem_fs.proofs.Steps.{some_of}
 use mathlib.Core.Path.{fun_ext}
-use Rattle.mem_fs.proofs.Chosen.{read_survives, kept_survives, junk_survives}
-use Rattle.mem_fs.proofs.Survivors.{lasts}
+use Rattle.mem_files.proofs.Chosen.{read_survives, kept_survives, junk_survives}
+use Rattle.mem_files.proofs.Survivors.{lasts}
 
 -- the numbers of the entries that pass a test
 abbrev pub numbers_by : (ℕ → Bool) → List (ℕ × Inode) → List ℕ

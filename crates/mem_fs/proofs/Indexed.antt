@@ -9,14 +9,15 @@ use Rattle.std.specs.BTreeSet.{contains}
 use Rattle.std.specs.Cmp.{unsigned_ties}
 use Rattle.std.proofs.lemmas.Bool.{cases_eq, cases_lt}
 use Rattle.std.proofs.lemmas.Bool.Decides.{Decides-eqb}
-use Rattle.mem_fs.specs.declared.file.Inode.{Inode}
+use Rattle.mem_files.specs.declared.file.Inode.{Inode}
 use Rattle.call_fs.specs.Maps.{put}
 use Rattle.call_fs.specs.Disk.{File}
-use Rattle.mem_fs.specs.Tables.{at_number, AreNumbersInOrder}
-use Rattle.mem_fs.specs.MemDisk.{IsIdle, IsIndexed, IsIndexedBeside, IsIndexedWith, Changes, holds_of, links_of, on_file}
+use Rattle.mem_files.specs.Tables.{at_number, AreNumbersInOrder}
+use Rattle.mem_files.specs.MemFiles.{IsIdle, Changes, holds_of, links_of, on_file}
+use Rattle.mem_fs.specs.MemDisk.{IsIndexed, IsIndexedBeside, IsIndexedWith}
 use Rattle.call_fs.proofs.Maps.{put_cases}
-use Rattle.mem_fs.proofs.Tables.{place_of_found}
-use Rattle.mem_fs.proofs.FileTable.{idle-there, busy-there}
+use Rattle.mem_files.proofs.Tables.{place_of_found}
+use Rattle.mem_files.proofs.FileTable.{idle-there, busy-there}
 use Rattle.mem_fs.proofs.Steps.{some_of}
 
 -- a number that has an entry is from 1

@@ -1,15 +1,6 @@
-pub mod Tables
-pub mod NumberTable
-pub mod Counting
 pub mod NameTable
 pub mod Parts
 pub mod NextName
-pub mod Places
-pub mod Survivors
-pub mod FileTable
-pub mod Idle
-pub mod Halts
-pub mod Chosen
 pub mod HaltedDisk
 pub mod Uses
 pub mod Changes

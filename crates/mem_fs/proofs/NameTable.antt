@@ -21,7 +21,7 @@ use Rattle.call_fs.specs.Maps.{put_at}
 use Rattle.call_fs.proofs.Maps.{is_put_at, bytes_eq-decides}
 use Rattle.mem_fs.specs.MemDisk.{names_of}
 use Rattle.mem_fs.specs.Tables.{at_name, AreNamesInOrder, texts}
-use Rattle.mem_fs.proofs.Tables.{hides, swaps}
+use Rattle.mem_files.proofs.Tables.{hides, swaps}
 
 -- ---- a tree's entries and their bytes
 module _ {A : Type 0} where

@@ -1,7 +1,7 @@
 -- Each change of a disk in memory, by the lists that it leaves.
 use Rattle.std.proofs.Common.{◌≡◌, ℕ, ◌≤◌, List, Option, Some, None, IsSome, is_some, false, Result, Ok, Err, OnOk, OnErr, Bor, refl, sym, ap, ◌∙◌, subst, arith}
 use Rattle.std.specs.Option.{option_map, option_copied, IfSome, IfNone}
-use Rattle.mem_fs.specs.declared.file.Inode.{Inode}
+use Rattle.mem_files.specs.declared.file.Inode.{Inode}
 use Rattle.call_fs.specs.Maps.{put, put_at}
 use Rattle.call_fs.specs.Disk.{File, Open as OpenFile, Disk}
 use Rattle.call_fs.specs.declared.modes.Mode.{Mode}
@@ -10,11 +10,13 @@ use Rattle.call_fs.specs.declared.calls.How.{How}
 use Rattle.call_fs.specs.declared.calls.CallData.TheVariants.{CreateExcl, Open, Close, Link, Unlink}
 use Rattle.call_fs.specs.declared.calls.Answer.TheVariants as answer
 use Rattle.call_fs.specs.Apply.{changed, effect, empty_file}
-use Rattle.mem_fs.specs.Tables.{at_name, at_number, AreNamesInOrder, AreNumbersInOrder}
-use Rattle.mem_fs.specs.MemDisk.{Held, disk_of, file_at, holds_of, IsOpenOn, IsSound, IsIdle, Changes, on_file, linked_inode, unlinked_inode, opened_inode, closed_inode, IsGreatestFree, PlacesNew, Places}
-use Rattle.mem_fs.specs.MemFile.{settled_file}
+use Rattle.mem_files.specs.Tables.{at_number, AreNumbersInOrder}
+use Rattle.mem_fs.specs.Tables.{at_name, AreNamesInOrder}
+use Rattle.mem_files.specs.MemFiles.{file_at, holds_of, IsIdle, Changes, on_file, linked_inode, unlinked_inode, opened_inode, closed_inode}
+use Rattle.mem_fs.specs.MemDisk.{Held, disk_of, IsOpenOn, IsSound, IsGreatestFree, PlacesNew, Places}
+use Rattle.mem_files.specs.MemFile.{settled_file}
 use Rattle.call_fs.proofs.Maps.{put-there}
-use Rattle.mem_fs.proofs.FileTable.{links-there, holds-there}
+use Rattle.mem_files.proofs.FileTable.{links-there, holds-there}
 use Rattle.mem_fs.proofs.Changes.{file_of, file_at-put, file_at-same, sound-put, NamesGain, OpensGain, gain_here, gain_there}
 use Rattle.mem_fs.proofs.Uses.{opened_holds, opened_entry}
 

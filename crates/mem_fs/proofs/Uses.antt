@@ -5,16 +5,18 @@ use Rattle.std.proofs.lemmas.Bool.Decides.{Decides-eqb}
 use Rattle.std.proofs.lemmas.Bool.{cases_eq}
 use Rattle.std.proofs.lemmas.List.{get_or_default}
 use Rattle.std.proofs.lemmas.List.Sums.{sum_by-remove, length-filter}
-use Rattle.mem_fs.specs.declared.file.Inode.{Inode}
+use Rattle.mem_files.specs.declared.file.Inode.{Inode}
 use Rattle.call_fs.specs.Disk.{Open, IsUnused}
 use Rattle.call_fs.specs.declared.modes.Mode.{Mode}
-use Rattle.mem_fs.specs.Tables.{at_name, at_number}
+use Rattle.mem_files.specs.Tables.{at_number}
+use Rattle.mem_fs.specs.Tables.{at_name}
 use Rattle.call_fs.specs.Free.{IsFree, IsLeastFree}
-use Rattle.mem_fs.specs.MemDisk.{Held, disk_of, links_of, holds_of, count_of, names_of, opens_counted, IsSound, IsIdle, IsGreatestFree, NoneFree}
+use Rattle.mem_files.specs.MemFiles.{links_of, holds_of, IsIdle}
+use Rattle.mem_fs.specs.MemDisk.{Held, disk_of, count_of, names_of, opens_counted, IsSound, IsGreatestFree, NoneFree}
 use Rattle.call_fs.proofs.Maps.{bytes_eq-decides}
-use Rattle.mem_fs.proofs.Tables.{place_of_found}
+use Rattle.mem_files.proofs.Tables.{place_of_found}
 use Rattle.mem_fs.proofs.NameTable.{name-at}
-use Rattle.mem_fs.proofs.NumberTable.{number-at}
+use Rattle.mem_files.proofs.NumberTable.{number-at}
 
 -- ---- counts
 

@@ -1,8 +1,4 @@
--- lists of pairs in order, read as maps
+-- lists of pairs of a name and a value, in order of the names, read as maps
 pub mod Tables
--- one file of a disk in memory
-pub mod MemFile
 -- a disk in memory
 pub mod MemDisk
--- its files after a machine stop
-pub mod MemHalt

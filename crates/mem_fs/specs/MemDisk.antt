@@ -1,5 +1,5 @@
 -- A disk in memory: the lists that it keeps, and the disk that they stand for.
-use Rattle.std.specs.Prelude.{◌≡◌, ◌≢◌, ◌⊎◌, ℕ, ◌<◌, ◌≤◌, ◌+◌, ◌-◌, ◌^◌, ◌==◌, ◌++◌, List, [], ◌∷◌, Bool, true, false, IsTrue, Option, Some, None, unwrap_or, count_by, Contains, ◌↔◌, if◌then◌else◌}
+use Rattle.std.specs.Prelude.{◌≡◌, ◌≢◌, ◌⊎◌, ℕ, ◌<◌, ◌≤◌, ◌^◌, ◌==◌, ◌++◌, List, [], ◌∷◌, Bool, true, false, IsTrue, Option, Some, None, count_by, Contains, ◌↔◌, if◌then◌else◌}
 use Rattle.std.specs.Option.{option_map}
 use Rattle.std.specs.Ordering.{nat_cmp}
 use Rattle.std.specs.BTreeSet.{BTreeSet, contains}
@@ -8,15 +8,17 @@ use Rattle.call_fs.specs.declared.calls.Told.{Told}
 use Rattle.call_fs.specs.declared.calls.Answer.{Answer}
 use Rattle.call_fs.specs.declared.calls.Answer.TheVariants.{Created, Opened, Refused}
 use Rattle.call_fs.specs.declared.calls.FsError.TheVariants.{NotThere, Exists, Fault, Memory}
-use Rattle.mem_fs.specs.declared.file.Inode.{Inode}
+use Rattle.mem_files.specs.declared.file.Inode.{Inode}
 use Rattle.mail_bytes.specs.Told.{raised}
 use Rattle.call_fs.specs.Disk.{File, Open, Disk}
 use Rattle.call_fs.specs.Free.{IsFree, IsLeastFree, IsNextDescriptor}
 use Rattle.call_fs.specs.Plan.{Plan, no_plan}
 use Rattle.call_fs.specs.Went.{Went}
 use Rattle.call_fs.specs.Maps.{put, put_at}
-use Rattle.mem_fs.specs.MemFile.{no_file, settled_file}
-use Rattle.mem_fs.specs.Tables.{at_name, at_number, AreNamesInOrder, AreNumbersInOrder}
+use Rattle.mem_files.specs.MemFile.{settled_file}
+use Rattle.mem_files.specs.MemFiles.{file_at, links_of, holds_of, IsIdle}
+use Rattle.mem_files.specs.Tables.{at_number, AreNumbersInOrder}
+use Rattle.mem_fs.specs.Tables.{at_name, AreNamesInOrder}
 
 -- The lists of a disk in memory: its directories, the number of each name, what each number has, and each open
 -- descriptor.
@@ -26,9 +28,6 @@ pub record Held : Type 0 where
   pub files : List (ℕ × Inode)
   pub opens : List (ℕ × Open)
 
-abbrev pub file_at : List (ℕ × Inode) → ℕ → File
-file_at files n = unwrap_or (option_map (λ i. i.file) (at_number files n)) no_file
-
 -- the descriptor is open on the file of this number
 abbrev pub IsOpenOn : Disk → ℕ → ℕ → Type 0
 IsOpenOn d fd n = option_map (λ (o : Open). o.number) (d.opens fd) ≡ Some n
@@ -37,14 +36,7 @@ IsOpenOn d fd n = option_map (λ (o : Open). o.number) (d.opens fd) ≡ Some n
 abbrev pub disk_of : Held → Disk
 disk_of h = record { dirs = h.dirs; names = at_name h.names; files = file_at h.files; opens = at_number h.opens }
 
--- how many names a number has, and how many descriptors are open on it, as its file's entry counts them
-abbrev pub links_of : List (ℕ × Inode) → ℕ → ℕ
-links_of files n = unwrap_or (option_map (λ i. i.links) (at_number files n)) 0
-
-abbrev pub holds_of : List (ℕ × Inode) → ℕ → ℕ
-holds_of files n = unwrap_or (option_map (λ i. i.opens) (at_number files n)) 0
-
--- the same, counted one by one: the entries of a number
+-- how many entries have a number, counted one by one: so many names, and so many open descriptors
 abbrev pub count_of : {K V : Type 0} → (V → ℕ) → List (K × V) → ℕ → ℕ
 count_of number es n = count_by (λ e. number e.1 == n) es
 
@@ -85,20 +77,9 @@ IsPickedNumber d None picks n left = IsNextNumber d picks n left
 IsPickedNumber d (Some pick) picks n left =
     (IsFree d pick × (n ≡ pick) × (left ≡ picks)) ⊎ ((¬ (IsFree d pick)) × IsNextNumber d picks n left)
 
--- nothing uses the number
-abbrev pub IsIdle : List (ℕ × Inode) → ℕ → Type 0
-IsIdle files n = (links_of files n ≡ 0) × (holds_of files n ≡ 0)
-
--- no u64 from 1 is idle
-abbrev pub NoneIdle : List (ℕ × Inode) → Type 0
-NoneIdle files = (n : ℕ) → 1 ≤ n → n < 2 ^ 64 → ¬ (IsIdle files n)
-
--- the least idle number from 1, and the greatest below the end of the numbers
+-- the least idle number from 1
 abbrev pub IsLeastIdle : List (ℕ × Inode) → ℕ → Type 0
 IsLeastIdle files n = (1 ≤ n) × IsIdle files n × ((lower : ℕ) → 1 ≤ lower → lower < n → ¬ (IsIdle files lower))
-
-abbrev pub IsGreatestIdle : List (ℕ × Inode) → ℕ → Type 0
-IsGreatestIdle files n = (1 ≤ n) × IsIdle files n × ((higher : ℕ) → n < higher → higher < 2 ^ 64 → ¬ (IsIdle files higher))
 
 -- the least number of a set
 abbrev pub IsLeastOf : BTreeSet ℕ → ℕ → Type 0
@@ -122,27 +103,6 @@ pub record IsIndexedWith (files : List (ℕ × Inode)) (free : BTreeSet ℕ) (lo
   pub used : ¬ (IsIdle files number)
   pub listed : (n : ℕ) → 1 ≤ n → n < low → IsIdle files n → IsTrue (contains nat_cmp free n)
   pub idle : (n : ℕ) → IsTrue (contains nat_cmp free n) → (1 ≤ n) × (n ≢ number → IsIdle files n)
-
--- how the entry of a file changes
-abbrev pub on_file : (File → File) → Inode → Inode
-on_file f i = record { links = i.links; opens = i.opens; file = f i.file }
-
-abbrev pub linked_inode : Inode → Inode
-linked_inode i = record { links = i.links + 1; opens = i.opens; file = i.file }
-
-abbrev pub unlinked_inode : Inode → Inode
-unlinked_inode i = record { links = i.links - 1; opens = i.opens; file = i.file }
-
-abbrev pub opened_inode : Inode → Inode
-opened_inode i = record { links = i.links; opens = i.opens + 1; file = i.file }
-
-abbrev pub closed_inode : Inode → Inode
-closed_inode i = record { links = i.links; opens = i.opens - 1; file = i.file }
-
--- the entry of this number changed so, and no other
-pub record Changes (old new : List (ℕ × Inode)) (n : ℕ) (change : Inode → Inode) : Type 0 where
-  pub in_order : AreNumbersInOrder new
-  pub value : (i : Inode) → at_number old n ≡ Some i → at_number new ≡ put (at_number old) n (Some (change i))
 
 -- no directory, no name, nothing open
 abbrev pub held_nothing : Held

@@ -1,49 +1,20 @@
--- Lists of pairs of a key and a value, in order of their keys, read as maps.
-use Rattle.std.specs.Prelude.{◌≡◌, ℕ, ◌<◌, ◌≤◌, List, ◌∷◌, ◌++◌, length, map, Option, Result, MatchResult, IsSome, bytes_eq, nat_eq, slice_index_or}
-use Rattle.std.specs.declared.cmp.Ordering.{Ordering}
+-- Lists of pairs of a name and a value, in order of the names, read as maps.
+use Rattle.std.specs.Prelude.{◌≡◌, ℕ, List, ◌∷◌, ◌++◌, map, Option, IsSome, bytes_eq}
 use Rattle.std.specs.declared.vec.Vec.{Vec}
 use Rattle.std.specs.List.Sorted.{IsStrictlySortedBy}
 use Rattle.std.specs.Ordering.{nat_cmp}
 use Rattle.std.specs.Cmp.Lexicographic.{slice_cmp}
-use Rattle.std.specs.declared.cmp.Ordering.TheVariants.{Less}
 use Rattle.std.specs.Map.{lookup, keys_of}
 use Rattle.call_fs.specs.Disk.{Among}
 use Rattle.call_fs.specs.Apply.{IsLater}
 
--- the value of a name, and of a number
+-- the value of a name
 abbrev pub at_name : {V : Type 0} → List (List ℕ × V) → List ℕ → Option V
 at_name es name = lookup (bytes_eq name) es
-
-abbrev pub at_number : {V : Type 0} → List (ℕ × V) → ℕ → Option V
-at_number es n = lookup (nat_eq n) es
-
--- each key is below those after it
-abbrev pub AreKeysInOrder : {K V : Type 0} → (K → K → Ordering) → List (K × V) → Type 0
-AreKeysInOrder {K} {V} R es = (i j : ℕ) (d : K × V) → i < j → j < length es → R (slice_index_or es i d).0 (slice_index_or es j d).0 ≡ Less
 
 -- each name is below those after it, byte by byte
 abbrev pub AreNamesInOrder : {V : Type 0} → List (List ℕ × V) → Type 0
 AreNamesInOrder es = IsStrictlySortedBy (slice_cmp nat_cmp) (keys_of es)
-
--- the numbers rise, and are from 1
-pub record AreNumbersInOrder {V : Type 0} (es : List (ℕ × V)) : Type 0 where
-  pub in_order : AreKeysInOrder nat_cmp es
-  pub positive : (i : ℕ) (d : ℕ × V) → i < length es → 1 ≤ (slice_index_or es i d).0
-
--- the key stands at place i
-pub record IsAt {K V : Type 0} (es : List (K × V)) (k : K) (i : ℕ) : Type 0 where
-  pub within : i < length es
-  pub has_key : (d : K × V) → (slice_index_or es i d).0 ≡ k
-
--- the key would go to place i: lower keys stand before it, and higher ones from it on
-pub record IsGapFor {K V : Type 0} (R : K → K → Ordering) (es : List (K × V)) (k : K) (i : ℕ) : Type 0 where
-  pub within : i ≤ length es
-  pub before : (j : ℕ) (d : K × V) → j < i → R (slice_index_or es j d).0 k ≡ Less
-  pub after : (j : ℕ) (d : K × V) → i ≤ j → j < length es → R k (slice_index_or es j d).0 ≡ Less
-
--- where a key is, or where it would go
-abbrev pub IsPlace : {K V : Type 0} → (K → K → Ordering) → List (K × V) → K → Result ℕ ℕ → Type 0
-IsPlace R es k place = MatchResult place (IsAt es k) (IsGapFor R es k)
 
 -- entries of a tree, by the bytes of their names
 abbrev pub texts : {A : Type 0} → List (Vec ℕ A × ℕ) → List (List ℕ × ℕ)

@@ -129,13 +129,6 @@ impl MemFs {
         Ok((fd, number))
     }
 
-    /// Forgets which numbers are free: the next search for one begins at 1. It is the same disk.
-    pub fn walk_from_one(&mut self)
-        ensures { self.new ≡ self.old }
-    {
-        self.store.walk_from_one();
-    }
-
     /// The machine stops and starts again. It isn't counted as a call, and the picks and the calls that are to fail stay.
     /// After `Memory` it is as before.
     pub fn halt(&mut self, alloc: Global, how: Survival) -> Result<(), Memory>

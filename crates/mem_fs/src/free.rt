@@ -2,10 +2,11 @@
 ghost use Rattle.std.specs.Prelude.{◌≤◌, ◌<◌, ℕ, IfSome, IfNone, IsTrue};
 ghost use Rattle.std.specs.Ordering.{nat_cmp};
 ghost use Rattle.std.specs.BTreeSet.{contains};
-ghost use Rattle.mem_fs.specs.Tables.{AreNumbersInOrder};
-ghost use Rattle.mem_fs.specs.MemDisk.{IsIndexed, IsIndexedBeside, IsIndexedWith, IsLeastIdle, IsLeastOf, NoneIdle};
+ghost use Rattle.mem_files.specs.Tables.{AreNumbersInOrder};
+ghost use Rattle.mem_files.specs.MemFiles.{NoneIdle};
+ghost use Rattle.mem_fs.specs.MemDisk.{IsIndexed, IsIndexedBeside, IsIndexedWith, IsLeastIdle, IsLeastOf};
 
-use crate::files::{self, Entry};
+use mem_files::files::{self, Entry};
 use std::collections::BTreeSet;
 
 /// Numbers that nothing uses, in order.

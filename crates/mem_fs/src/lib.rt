@@ -7,17 +7,12 @@
 //!   `counts` (the record `Counts`: what was planned, and by `takes` the number, the descriptor and the picks
 //!   left).
 //! - A disk with chosen contents, its names in order and their bytes; a machine stop by a choice, and a new file of
-//!   a chosen number: `MemFs::{new, dir, place, name_after, bytes_of, is_free, walk_from_one, create_picked, halt}`.
+//!   a chosen number: `MemFs::{new, dir, place, name_after, bytes_of, is_free, create_picked, halt}`.
 #![tactic(auto)]
 
 mod disk;
-mod file;
-mod files;
 mod free;
-mod halt;
-mod junk;
 mod names;
-mod numbers;
 mod open_file;
 mod part;
 mod picks;

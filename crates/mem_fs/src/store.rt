@@ -12,14 +12,14 @@ ghost use Rattle.call_fs.specs.Choices.{Halts};
 ghost use Rattle.call_fs.specs.Free.{IsFree, IsLeastFree, IsNextDescriptor};
 ghost use Rattle.mem_fs.specs.MemDisk.{disk_of, held_nothing, IsOpenOn, bytes_at, IsGreatestFree, NoneFree, AllOpen, with_dir, Places, PlacesNew};
 
-use crate::file::{FileData, Inode};
-use crate::files::{self, Files};
 use crate::free::Free;
 use crate::names::Names;
 use crate::open_file::OpenFile;
-use crate::{free, halt, names, numbers, part};
+use crate::{free, names, part};
 use call_fs::{Fd, How, Stat, Survival, is_name};
 use mail_bytes::{ByteText, Memory};
+use mem_files::files::{self, Files};
+use mem_files::{FileData, Inode, halt, numbers};
 use std::alloc::{AllocError, Global};
 use std::collections::{BTreeMap, BTreeSet};
 use std::marker::Model;
@@ -108,13 +108,6 @@ impl Store {
         ensures none { IfNone result (NoneFree (disk_of self.now)) }
     {
         files::greatest_idle(&self.files)
-    }
-
-    /// Forgets which numbers are free: the next search for one begins at 1. It holds the same.
-    pub fn walk_from_one(&mut self)
-        ensures { self.new ≡ self.old }
-    {
-        self.low = 1;
     }
 
     /// The least descriptor that isn't open; None only if each u64 from 1 is open.

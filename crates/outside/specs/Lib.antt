@@ -4,3 +4,5 @@ pub mod Streams
 pub mod Children
 -- forms in memory of what lies outside
 pub mod Forms
+-- what lies outside, with its calls kept
+pub mod Recording

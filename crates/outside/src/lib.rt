@@ -17,13 +17,18 @@
 //!   clause `cause`, by `CountsFailures`.
 //! - Taking bytes from a source until so many have come, or it ends or fails: they are the next ones, and why no
 //!   more were taken: `take_up_to`.
+//! - A recorder is to its caller the clock, the posts or the spawner below it: what that tells, it tells, and it asks that the
+//!   same and answers as that does. It keeps each call with its answer, in order; once it found no memory for one, none any
+//!   more: `Recorder::{new, calls, inner}`; `impl Clock`, `impl Posts` and `impl Spawner for Recorder`: clauses `told`, `passed`.
 #![tactic(auto)]
 
 mod bounded;
 mod clock;
 mod fault_plan;
 mod gate;
+mod kept_calls;
 mod posts;
+mod recorder;
 mod sink;
 mod source;
 mod spawner;
@@ -31,7 +36,9 @@ mod taking;
 
 pub use clock::{Clock, MemClock};
 pub use gate::{Gate, OpenGate};
+pub use kept_calls::{KeptPost, KeptSpawnCall, SpawnCallData};
 pub use posts::{MemPosts, Post, Posts, Waiting};
+pub use recorder::Recorder;
 pub use sink::{Gave, MemSink, Sink};
 pub use source::{MemSource, Source, Took};
 pub use spawner::{MemChild, MemSpawner, Spawner, Started, Status};

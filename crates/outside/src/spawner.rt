@@ -141,7 +141,7 @@ impl StartedChild {
 }
 
 /// Copies of these words.
-fn texts_of(alloc: Global, words: &[&[u8]]) -> Result<Vec<ByteText>, Memory>
+pub(crate) fn texts_of(alloc: Global, words: &[&[u8]]) -> Result<Vec<ByteText>, Memory>
     ensures { IfOk result (λ texts. texts.items ≡ map (λ w. w.now) words.now) }
 {
     let mut texts = Vec::new(alloc);

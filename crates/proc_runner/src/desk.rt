@@ -3,7 +3,7 @@
 use crate::line::{Line, low_half, run_writer, watch_child};
 use crate::outflow::{Outflow, end_process};
 use crate::shared::Reader;
-use crate::system::{Process, Readable};
+use crate::system::{Closing, Process, Readable};
 use child_input::Writer;
 use mail_bytes::Memory;
 use std::alloc::Global;
@@ -30,7 +30,7 @@ pub(crate) struct ToRead<P: Process, O: Readable> {
 
 /// A process whose input is to be written, and which is to be watched; `also` and `kept` are for the case that this can't begin.
 #[derive(Drop)]
-pub(crate) struct ToWrite<P: Process, I: Write + Drop> {
+pub(crate) struct ToWrite<P: Process, I: Write + Closing> {
     pub(crate) line: Arc<Line, Global>,
     pub(crate) also: Arc<Line, Global>,
     pub(crate) process: Arc<P, Global>,
@@ -41,7 +41,7 @@ pub(crate) struct ToWrite<P: Process, I: Write + Drop> {
 
 /// What a thread is to be started for.
 #[derive(Drop)]
-pub(crate) enum Work<P: Process, I: Write + Drop, O: Readable> {
+pub(crate) enum Work<P: Process, I: Write + Closing, O: Readable> {
     /// A reader.
     Read(ToRead<P, O>),
     /// A writer.
@@ -50,12 +50,12 @@ pub(crate) enum Work<P: Process, I: Write + Drop, O: Readable> {
 
 /// What threads are to be started for, oldest first.
 #[derive(Drop)]
-pub(crate) struct Desk<P: Process, I: Write + Drop, O: Readable> {
+pub(crate) struct Desk<P: Process, I: Write + Closing, O: Readable> {
     works: Mutex<VecDeque<Work<P, I, O>>>,
     changes: AtomicU64,
 }
 
-impl<P: Process, I: Write + Drop, O: Readable> Desk<P, I, O> {
+impl<P: Process, I: Write + Closing, O: Readable> Desk<P, I, O> {
     /// Nothing is to be started yet. Takes no memory.
     pub(crate) fn new(alloc: Global) -> Self {
         Desk {
@@ -90,7 +90,7 @@ impl<P: Process, I: Write + Drop, O: Readable> Desk<P, I, O> {
 pub(crate) fn run_desk<
     R: Threads + Wait + Copy + Send + Drop + 'static,
     P: Process + Send + Sync + 'static,
-    I: Write + Send + Drop + 'static,
+    I: Write + Closing + Send + 'static,
     O: Readable + Send + 'static,
 >(rt: R, desk: &Desk<P, I, O>) {
     for _ in rt.forever() {
@@ -135,7 +135,7 @@ fn begin_reader<
 fn begin_writer<
     R: Threads + Wait + Copy + Send + Drop + 'static,
     P: Process + Send + Sync + 'static,
-    I: Write + Send + Drop + 'static,
+    I: Write + Closing + Send + 'static,
 >(rt: R, work: ToWrite<P, I>) {
     let ToWrite {
         line,

@@ -1,9 +1,9 @@
 //! Children as processes, and the posts of their channels: what runs a program with channels over real programs.
 //!
 //! `Children` is a spawner. It starts this same program, the remote program, and `/bin/sh` for the command of a user, each
-//! with its input and its output piped. `ChildPosts` are the posts of their channels, of which channel 0 is the program's
+//! with its output piped. `ChildPosts` are the posts of their channels, of which channel 0 is the program's
 //! own input. What the system does for both is one trait, `System`, so that they are proved, and tested, over a system in
-//! memory; its lines over std (`HostSystem`) are the trusted edge.
+//! memory; its lines over std (host_children) are the trusted edge.
 //!
 //! What runs besides the program's own thread:
 //!
@@ -13,9 +13,10 @@
 //!   So the end of a child is known before its status is asked for, `status` doesn't wait for a program, and no zombie is
 //!   left. One that can't be started gives its channel's failure as the only post, and the child is ended.
 //! - A writer and a watcher for each child that was fed or whose input was ended. The writer owns the input, writes what was
-//!   fed in order, and closes the input when it was ended. The watcher kills the child if it doesn't end within the time that
-//!   it has from then on, also if it reads no more of its input. While nothing is to be done both sleep. So a feeding never
-//!   waits for the child. A child whose feeding fails is killed, since it would take a part for the whole.
+//!   fed in order, and closes the input when it was ended; it tells the system whether the input is whole then. The watcher kills the
+//!   child with its group if it doesn't end within the time that it has from then on, also if it reads no more of its input; and if
+//!   it has exited, and something that it started holds its output open for five seconds more. While nothing is to be done both
+//!   sleep. So a feeding never waits for the child. A child whose feeding fails is killed, since it would take a part for the whole.
 //!
 //! What is bounded: the room of the queue; what a local delivery or a remote program may print (1 MiB, which its
 //! spawner keeps). At one byte more it is killed: its channel is cut off, which is told as its end and counted
@@ -23,10 +24,6 @@
 //! program fed, copied once. Room for a child, its reader and its pass are taken before it is started, so that no child runs that
 //! isn't known. Nobody spins: the program's thread rests in a gate (resting_gates), until a piece is pushed or a limit
 //! is over.
-//!
-//! What a child may touch: descriptors 0 and 1, and no other of ours; descriptor 2 is ours for this same program, and
-//! /dev/null for the programs of others. A local delivery and a remote program have a session, and so a process group, of
-//! their own.
 //!
 //! # What is claimed
 //!
@@ -41,16 +38,18 @@
 //!   that failed each fails, and is counted.
 //! - Each child that is started has the limit that `Children::new` was given (`HasLimit`).
 //!
+//! A sender starts nothing more before a member is at work, and ends with it if it isn't (`PatientSystem`); tests show that.
+//!
 //! It isn't claimed that what was fed is ever written, that a child whose feeding failed ends, nor that a limit ends it. That a
 //! child is handed the writer of its own feeder is told by no clause, since it goes through a lock: tests show it.
 #![tactic(auto)]
 
 mod children;
 mod desk;
-mod host_system;
 mod line;
 mod outflow;
 mod own_input;
+mod patient;
 mod posts;
 mod running;
 mod shared;
@@ -58,9 +57,9 @@ mod start;
 mod system;
 
 pub use children::{Children, MOST_PRINTED};
-pub use host_system::{HostProcess, HostSystem, StdReader};
-pub use own_input::{OwnReading, read_own_input};
+pub use own_input::{OwnReading, StdReader, read_own_input};
+pub use patient::{Look, PatientSystem};
 pub use posts::ChildPosts;
 pub use shared::{Opener, Reader, Shared, Taker, Through, share};
 pub use start::{Kind, Start};
-pub use system::{Born, Exit, Process, Readable, System};
+pub use system::{Born, Closing, Exit, Process, Readable, System};

@@ -2,7 +2,7 @@
 ghost use Rattle.std.specs.Prelude.{◌≡◌, ◌%◌, ◌^◌};
 
 use crate::shared::Reader;
-use crate::system::Process;
+use crate::system::{Closing, Process};
 use child_input::Writer;
 use std::io::{self, Write};
 use std::sync::atomic::{AtomicU64, Ordering};
@@ -11,6 +11,10 @@ use std::time::Duration;
 
 /// How long a watcher sleeps at most before it looks again, in milliseconds.
 const LOOK: u64 = 1000;
+
+/// How long the output of a child that has exited may be held open from when that is seen, in milliseconds. With the look before it
+/// and the one after it that are five seconds.
+const HELD: u64 = 3000;
 
 /// A child's reader, until that reads; for how many milliseconds the child may run on after its input ended; whether the reader is
 /// through; whether the child's input was ended; and a count of what is done.
@@ -65,13 +69,18 @@ impl Line {
         }
     }
 
+    /// Whether the child's reader is through.
+    fn is_over(&self) -> bool {
+        self.over.load(Ordering::SeqCst) != 0
+    }
+
     /// Waits until the child has ended, and from the end of its input on no longer than it may run on after something was
-    /// written there. Answers whether it has ended.
-    fn watch<R: Wait>(&self, rt: &R) -> bool {
+    /// written there, nor much longer than until it has exited. Answers whether its reader is through.
+    fn watch<R: Wait, P: Process>(&self, rt: &R, process: &P) -> bool {
         let mut left = self.drain;
         for _ in rt.forever() {
             let seen = self.moves.load(Ordering::SeqCst);
-            if self.over.load(Ordering::SeqCst) != 0 {
+            if self.is_over() {
                 return true;
             }
             if self.ended.load(Ordering::SeqCst) == 0 {
@@ -79,22 +88,33 @@ impl Line {
             } else if left == 0 {
                 return false;
             } else {
-                left = self.after_nap(rt, seen, left);
+                left = self.after_nap(rt, seen, left, process);
             }
         }
         unreachable!()
     }
 
     /// Sleeps until something is done, or for a while. Answers what is left of the time.
-    fn after_nap<R: Wait>(&self, rt: &R, seen: u64, left: u64) -> u64 {
+    fn after_nap<R: Wait, P: Process>(&self, rt: &R, seen: u64, left: u64, process: &P) -> u64 {
         let slice = left.min(LOOK);
         self.moves
             .park_timeout(rt, low_half(seen), Duration::from_millis(slice));
-        if self.moves.load(Ordering::SeqCst) == seen {
-            left - slice
-        } else {
-            self.drain
+        if self.moves.load(Ordering::SeqCst) != seen {
+            return self.drain;
         }
+        let rest = left - slice;
+        if rest > HELD && process.has_exited() {
+            return HELD;
+        }
+        rest
+    }
+
+    /// Waits until the child's reader is through, for a while at most. Answers whether it is.
+    fn is_soon_over<R: Wait>(&self, rt: &R) -> bool {
+        if !self.is_over() {
+            self.over.park_timeout(rt, 0, Duration::from_millis(LOOK));
+        }
+        self.is_over()
     }
 }
 
@@ -119,19 +139,29 @@ impl<'a, I: Write> Write for Told<'a, I> {
 }
 
 /// What a child's writer does: it writes what is fed, and closes the input.
-pub(crate) fn run_writer<R: Wait, I: Write + Drop>(rt: &R, line: &Line, writer: Writer, input: I) {
+pub(crate) fn run_writer<R: Wait, I: Write + Closing>(
+    rt: &R,
+    line: &Line,
+    writer: Writer,
+    input: I,
+) {
     let mut told = Told { input, line };
-    let _ = writer.write(rt, &mut told);
+    let written = writer.write(rt, &mut told);
     let Told { input, line } = told;
-    drop(input);
+    input.close(written.is_whole());
     line.tell();
 }
 
 /// What a child's watcher does: it ends the child if it runs on for longer than it may after its input was ended, also if it reads
-/// no more of it.
+/// no more of it, and what it has started if that holds its output open after it has exited. What has left its group can hold the
+/// output open even then, and isn't waited for.
 pub(crate) fn watch_child<R: Wait, P: Process>(rt: &R, line: &Line, process: &P) {
-    if !line.watch(rt) {
-        process.kill();
+    if line.watch(rt, process) {
+        return;
+    }
+    process.kill();
+    if !line.is_soon_over(rt) {
+        process.cut();
     }
 }
 

@@ -1,21 +1,45 @@
 // The program's own input.
-ghost use Rattle.std.specs.Prelude.{IfOk, None, true};
+ghost use Rattle.std.specs.Prelude.{◌≡◌, IfOk, None, true};
 ghost use Rattle.crossbeam_queue.specs.Passes.{view};
 ghost use Rattle.piece_queue.specs.Pieces.{FitsRoom};
 ghost use Rattle.piece_queue.specs.Rule.{FailsAtOnce};
 ghost use Rattle.proc_runner.specs.Flows.{Breaks, CutsOff, FailsFor, ReadsBytes};
 ghost use Rattle.proc_runner.specs.Own.{IfLeft};
 
-use crate::host_system::StdReader;
 use crate::outflow::read_again;
 use crate::shared::{Reader, Through};
 use crate::system::Readable;
 use mail_bytes::Memory;
 use piece_queue::{Brought, Inflow, ROOM};
 use std::alloc::{AllocError, Global};
-use std::io::Read;
+use std::io::{self, Read};
 use std::sync::{Arc, Mutex, Wait};
 use std::thread::{self, JoinHandle, Threads};
+
+/// A reader of std, whose errors no contract knows.
+#[derive(Drop)]
+pub struct StdReader<I: Read + Drop> {
+    input: I,
+}
+
+impl<I: Read + Drop> StdReader<I> {
+    /// Reads this.
+    pub fn new(input: I) -> Self
+        ensures { result.input ≡ input }
+    {
+        StdReader { input }
+    }
+}
+
+impl<I: Read + Drop> Readable for StdReader<I> {
+    ghost remaining = { λ r. I.remaining r.input };
+
+    ghost breaks = { λ _ _. Unit {0} };
+
+    fn read(&mut self, into: &mut [u8; ROOM]) -> io::Result<usize> {
+        self.input.read(into)
+    }
+}
 
 /// The program's own input, which has no process and no limit.
 #[derive(Drop)]

@@ -51,7 +51,7 @@ impl<S: System> Running<S> {
         Ok((line, also, process, kept))
     }
 
-    /// Sees to it that it has a writer. If that can't be done the child is ended, before its input is closed.
+    /// Sees to it that it has a writer. If that can't be done the child is to be ended before its input is closed.
     fn start_writer<R: Wait>(
         &mut self,
         rt: &R,
@@ -64,7 +64,6 @@ impl<S: System> Running<S> {
             return true;
         }
         let Ok((line, also, process, kept)) = self.shared(rt, desk) else {
-            self.process.kill();
             return false;
         };
         let Some((writer, input)) = self.input.take() else {
@@ -98,8 +97,7 @@ impl<S: System> Running<S> {
         if self.start_writer(rt, desk) && self.feeder.feed_copy(rt, alloc, bytes) {
             return true;
         }
-        self.process.kill();
-        self.feeder.give_up();
+        self.end();
         false
     }
 
@@ -111,10 +109,20 @@ impl<S: System> Running<S> {
     {
         let is_ended = self.start_writer(rt, desk) && self.feeder.end(rt);
         if !is_ended {
-            self.process.kill();
-            self.feeder.give_up();
+            self.end();
         }
         self.line.end_input();
+    }
+
+    /// Ends the child, and lets go of its input: nothing more is fed.
+    fn end(&mut self)
+        ensures same { (self.new.chan ≡ self.old.chan) × (self.new.process ≡ self.old.process) }
+        ensures fed { feeding_of self.new.feeder.pass.me.view.client self.new.feeder.is_open
+            ≡ after_end (feeding_of self.old.feeder.pass.me.view.client self.old.feeder.is_open) }
+    {
+        self.process.kill();
+        self.feeder.give_up();
+        self.input = None;
     }
 
     /// How it ended. It waits for its reader, and not for its writer: one that is stuck, since something else holds the input

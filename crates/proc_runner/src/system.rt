@@ -38,15 +38,28 @@ pub trait Process: Drop {
         ensures told { IfOk result (λ exit. IfSome exit (IsTold (ends self.now) (fate self.now))) }
         ensures untold { IfErr result (errs self.now) };
 
-    /// Ends it by SIGKILL. Nothing is done to one whose end was told.
+    /// Whether it has exited, as far as the system tells. Its end isn't told by this, so its number is still its own.
+    fn has_exited(&self) -> bool;
+
+    /// Ends it by SIGKILL, with all of its group if it leads one; one that wasn't started yet never is. Nothing is done to one whose
+    /// end was told.
     fn kill(&self);
 
     /// Ends it by SIGKILL, also if it has exited before: its end is told as that of a signal. Nobody was told its end so far.
     fn condemn(&self)
         ensures { IsFate (fate self.now) exit.Signal };
 
+    /// No more of its output is read: a reading that waits ends.
+    fn cut(&self);
+
     /// Sleeps so long, before it is asked again.
     fn nap(&self, time: Duration);
+}
+
+/// An input that is closed once, and told whether it is whole.
+pub trait Closing: Drop {
+    /// Ends the input. A process that gets it as a file is started now if it is whole, and else never.
+    fn close(self, is_whole: bool);
 }
 
 /// What is read as a channel: the output of a process, or the program's own input.
@@ -77,7 +90,7 @@ pub struct Born<P: Process, I: Write + Drop, O: Readable> {
     pub process: Arc<P, Global>,
     /// Its number, 0 if the system tells none.
     pub number: u32,
-    /// What is written there is its input; letting go of it ends the input.
+    /// What is written there is its input; closing it, or letting go of it, ends the input.
     pub input: I,
     /// What is read there is its output.
     pub output: O,
@@ -93,7 +106,7 @@ pub trait System: Drop {
     type Process: Process;
 
     /// Our end of a process's input. A write to a process that has gone fails, and raises no signal.
-    type Input: Write + Drop;
+    type Input: Write + Closing;
 
     /// Our end of a process's output.
     type Output: Readable;
@@ -101,7 +114,8 @@ pub trait System: Drop {
     /// What the system may give for a start: the number of a process, and the process.
     ghost gives: { Self → Start → ℕ → Self.Process → Type 0 };
 
-    /// Starts a process, as posix_spawn(3), its input and output piped. All memory is taken before it is started.
+    /// Starts a process, as posix_spawn(3), its output piped. The input of this same program is piped; another program gets a file,
+    /// and is started only when that is whole: that it could be is asked here. All memory is taken before it is started.
     fn spawn(
         &self,
         alloc: Global,

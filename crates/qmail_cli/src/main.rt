@@ -1,5 +1,9 @@
 //! The program: what the words of its command line say, over the real things (qmail_process). The exit status is that of the one
 //! public call; if memory runs out before the call it is 51.
+//!
+//! # What is claimed
+//!
+//! - Nothing beyond safety. What it hands to the call is shown by tests alone.
 #![tactic(auto)]
 
 mod working;

@@ -7,12 +7,20 @@
 //! tells something. A member of a generation holds its lock all the while; a sender waits first until no member of an earlier
 //! generation is left, and ends with 84 if there is another sender.
 //!
-//! The sender and the cleaner take the last name of a file away while it is open, and threads close it. That no call waits for it,
-//! and that the name is gone once the call has ended, no contract says.
+//! # What is claimed
+//!
+//! - The call was made with the words that were told, or with none if the queue's directory has no name, and its status is the exit
+//!   status; or none was made, and the status is that of a refusal: `run`.
+//!
+//! What the call is handed, its locks and its gates are shown by tests alone.
 #![tactic(auto)]
 
-mod leaving;
+mod child_limits;
+mod child_signals;
+mod descriptors;
+mod looks;
+mod owner;
 mod process;
-mod queue_files;
+mod watching;
 
 pub use process::{run, words_of};

@@ -1,25 +1,37 @@
 // A command over the real things.
+ghost use Rattle.std.specs.Prelude.{IfOk};
+ghost use Rattle.qmail_process.specs.Runs.{IsRefusal, WasRun};
+ghost use Rattle.top_call.specs.Lent.{IsStatusOf};
 
-use crate::leaving::{Leaving, start_helpers};
-use crate::queue_files::QueueFiles;
+use crate::child_limits::child_limit;
+use crate::child_signals::tells_no_ends;
+use crate::descriptors::Descriptors;
+use crate::looks::LockLooks;
+use crate::owner::{may_make, refused};
+use crate::watching::WatchingGate;
 use call_fs::CallFs;
 use command_words::{Channels, Member, Places, channels, member, places};
-use host_fs::HostFs;
+use host_children::{HostSystem, PARENT};
+use host_fs::{HostFs, Leaving, QueueFiles, start_helpers};
 use host_streams::{
     HostClock, LateFile, MemberLock, ReaderSource, WriterSink, lock_member, lock_sender,
     unread_words,
 };
+use local_parts::TEMPORARY;
 use mail_bytes::Memory;
 use mem_fs::MemFs;
-use outside::{Gate, MemPosts, MemSpawner, OpenGate, Posts, Source, Spawner};
+use outside::{Gate, MemPosts, MemSpawner, OpenGate, Posts, Sink, Source, Spawner};
 use proc_runner::{
-    ChildPosts, Children, HostSystem, Opener, Reader, Shared, read_own_input, share,
+    ChildPosts, Children, Opener, PatientSystem, Reader, Shared, read_own_input, share,
 };
-use queue_limits::NO_START;
-use resting_gates::{RestingGate, SendingGate, drain_limit, idle_limit};
+use queue_limits::{NO_START, USAGE};
+use resting_gates::{
+    LONGEST_DRAIN, LONGEST_IDLE, RestingGate, SHORTEST_DRAIN, SendingGate, drain_limit, idle_limit,
+};
 use std::alloc::{AllocError, Global};
 use std::env::{self, VarError};
 use std::process::{self, OpenProcess, Processes};
+use std::str;
 use std::sync::{Arc, Wait};
 use std::thread::Threads;
 use std::time::Clock;
@@ -61,17 +73,65 @@ where
     <R::Started as OpenProcess>::Stdin: Send + 'static,
     <R::Started as OpenProcess>::Stdout: Send + 'static,
     <R::Started as OpenProcess>::Stderr: Send + 'static,
+    ensures { IfOk result (λ status. WasRun (C.does call.now) words.now status) }
+{
+    let descriptors = Descriptors::fill(rt);
+    let called = run_filled(call, rt, handle, alloc, words);
+    drop(descriptors);
+    called
+}
+
+/// The same, with descriptors 0 to 2 taken.
+fn run_filled<
+    C: TopCall,
+    R: Threads + Wait + Processes + Clock + Copy + Send + Sync + Drop + 'static,
+>(call: &C, rt: &HostRuntime, handle: R, alloc: Global, words: &[String]) -> Result<u8, Memory>
+where
+    R::Started: Drop + Send + 'static,
+    <R::Started as OpenProcess>::Stdin: Send + 'static,
+    <R::Started as OpenProcess>::Stdout: Send + 'static,
+    <R::Started as OpenProcess>::Stderr: Send + 'static,
+    ensures { IfOk result (λ status. WasRun (C.does call.now) words.now status) }
 {
     let channels = channels(alloc, words)?;
-    let Some(limits) = told_limits(rt, channels)? else {
+    if is_nameless(alloc, words)? {
         return run_alone(call, rt, handle, alloc, &[]);
+    }
+    let Some(limits) = told_limits(rt, alloc, channels)? else {
+        return Ok(USAGE);
     };
-    let Some(_lock) = lock(rt, alloc, words)? else {
+    if let Some(status) = refused(rt, alloc, words)? {
+        return Ok(status);
+    }
+    if channels != Channels::Nothing && tells_no_ends(rt, alloc)? {
+        return Ok(unstarted(channels));
+    }
+    let Some(lock) = lock(rt, alloc, words)? else {
         return Ok(NO_START);
     };
     match channels {
         Channels::Nothing => run_alone(call, rt, handle, alloc, words),
-        _ => run_parent(call, rt, handle, alloc, words, channels, limits),
+        _ => run_parent(call, rt, handle, alloc, words, channels, limits, &lock),
+    }
+}
+
+/// Whether the directory of the queue has no name; the words are no command then.
+fn is_nameless(alloc: Global, words: &[String]) -> Result<bool, Memory> {
+    let Places { dir, env } = places(alloc, words)?;
+    drop(env);
+    match dir {
+        Some(dir) => Ok(dir.is_empty()),
+        None => Ok(false),
+    }
+}
+
+/// The exit status of a command with these channels that begins nothing: a delivery is tried again.
+fn unstarted(channels: Channels) -> u8
+    ensures { IsRefusal result }
+{
+    match channels {
+        Channels::Children => TEMPORARY,
+        _ => NO_START,
     }
 }
 
@@ -84,22 +144,45 @@ pub fn words_of(rt: &HostRuntime, alloc: Global) -> Result<Vec<String>, Memory> 
 }
 
 /// What the environment tells a command with these channels, as far as it concerns it: that with children how long they may
-/// run, and a sender also how long it rests. None if it tells no number that this can be; the words are no command then.
-fn told_limits(rt: &HostRuntime, channels: Channels) -> Result<Option<Limits>, Memory> {
+/// run, and a sender also how long it rests. None, and a line on standard error, if it tells no number that this can be.
+fn told_limits(
+    rt: &HostRuntime,
+    alloc: Global,
+    channels: Channels,
+) -> Result<Option<Limits>, Memory> {
     let mut limits = Limits { drain: 0, idle: 0 };
     if channels != Channels::Nothing {
         match drain(rt)? {
             Some(drain) => limits.drain = drain,
-            None => return Ok(None),
+            None => {
+                refuse(rt, alloc, DRAIN, SHORTEST_DRAIN, LONGEST_DRAIN)?;
+                return Ok(None);
+            }
         }
     }
     if channels == Channels::Links {
         match idle(rt)? {
             Some(idle) => limits.idle = idle,
-            None => return Ok(None),
+            None => {
+                refuse(rt, alloc, IDLE, 0, LONGEST_IDLE)?;
+                return Ok(None);
+            }
         }
     }
     Ok(Some(limits))
+}
+
+/// Gives standard error a line on a variable that isn't a number between these two.
+fn refuse(
+    rt: &HostRuntime,
+    alloc: Global,
+    name: &str,
+    least: u64,
+    most: u64,
+) -> Result<(), Memory> {
+    let line = format!(in alloc; "{name} is not a number from {least} to {most}\n")?;
+    let _given = WriterSink::new(rt.stderr()).give(line.as_bytes());
+    Ok(())
 }
 
 /// How long a child may run after its input ended, in milliseconds; None if the environment tells no number that this can be.
@@ -122,8 +205,9 @@ fn idle(rt: &HostRuntime) -> Result<Option<u64>, Memory> {
     }
 }
 
-/// The lock of the member that a command with these words is, if it is one; None if it is a sender and there is another one. It
-/// waits for the members of an earlier generation.
+/// The lock of the member that a command with these words is, if it is one. It waits for the members of an earlier generation. None,
+/// and a line on standard error, if there is another sender, if the lock can't be had, or if the sender that started this member has
+/// ended.
 fn lock(rt: &HostRuntime, alloc: Global, words: &[String]) -> Result<Option<MemberLock>, Memory> {
     let places = places(alloc, words)?;
     let (Some(kind), Some(dir)) = (member(alloc, words)?, places.dir) else {
@@ -132,9 +216,9 @@ fn lock(rt: &HostRuntime, alloc: Global, words: &[String]) -> Result<Option<Memb
     let dir = dir.as_slice();
     Ok(match kind {
         Member::Send => lock_sender(rt, alloc, dir)?,
-        Member::Clean => Some(lock_member(rt, alloc, dir, b"clean")?),
-        Member::Lspawn => Some(lock_member(rt, alloc, dir, b"lspawn")?),
-        Member::Rspawn => Some(lock_member(rt, alloc, dir, b"rspawn")?),
+        Member::Clean => lock_member(rt, alloc, dir, b"clean", PARENT)?,
+        Member::Lspawn => lock_member(rt, alloc, dir, b"lspawn", PARENT)?,
+        Member::Rspawn => lock_member(rt, alloc, dir, b"rspawn", PARENT)?,
     })
 }
 
@@ -145,7 +229,9 @@ fn run_alone<C: TopCall, R: Threads + Wait + Copy + Send + Drop + 'static>(
     handle: R,
     alloc: Global,
     words: &[String],
-) -> Result<u8, Memory> {
+) -> Result<u8, Memory>
+    ensures { IfOk result (λ status. IsStatusOf (C.does call.now) words.now status) }
+{
     run_over(
         call,
         rt,
@@ -170,17 +256,19 @@ fn run_parent<
     words: &[String],
     channels: Channels,
     limits: Limits,
+    lock: &MemberLock,
 ) -> Result<u8, Memory>
 where
     R::Started: Drop + Send + 'static,
     <R::Started as OpenProcess>::Stdin: Send + 'static,
     <R::Started as OpenProcess>::Stdout: Send + 'static,
     <R::Started as OpenProcess>::Stderr: Send + 'static,
+    ensures { IfOk result (λ status. IsStatusOf (C.does call.now) words.now status) }
 {
     let (opener, taker) = share(alloc, room_of(channels))?;
     let mut posts = ChildPosts::new(handle, taker);
     let called = run_with_posts(
-        call, rt, handle, alloc, words, channels, limits, opener, &mut posts,
+        call, rt, handle, alloc, words, channels, limits, lock, opener, &mut posts,
     );
     drop(posts);
     called
@@ -199,6 +287,7 @@ fn run_with_posts<
     words: &[String],
     channels: Channels,
     limits: Limits,
+    lock: &MemberLock,
     mut opener: Opener,
     posts: &mut P,
 ) -> Result<u8, Memory>
@@ -207,11 +296,16 @@ where
     <R::Started as OpenProcess>::Stdin: Send + 'static,
     <R::Started as OpenProcess>::Stdout: Send + 'static,
     <R::Started as OpenProcess>::Stderr: Send + 'static,
+    ensures { IfOk result (λ status. IsStatusOf (C.does call.now) words.now status) }
 {
     let own = opener.open()?;
     let queue = opener.queue()?;
-    let system = HostSystem::new(handle, process::id(rt.process()));
-    let mut children = Children::new(handle, alloc, system, opener, limits.drain)?;
+    let looks = LockLooks::new(rt, places(alloc, words)?.dir);
+    let dir = files_dir(alloc, words)?;
+    let system = HostSystem::new(handle, rt, process::id(rt.process()), dir);
+    let system = PatientSystem::new(system, looks);
+    let limit = child_limit(member(alloc, words)?, limits.drain);
+    let mut children = Children::new(handle, alloc, system, opener, limit)?;
     let begun = read_requests(rt, handle, alloc, channels, own);
     let called = match begun {
         Ok(()) => run_resting(
@@ -222,6 +316,7 @@ where
             words,
             channels,
             limits,
+            lock,
             queue,
             posts,
             &mut children,
@@ -230,6 +325,16 @@ where
     };
     drop(children);
     called
+}
+
+/// The directory in which children's inputs are made: that of the queue.
+fn files_dir(alloc: Global, words: &[String]) -> Result<String, Memory> {
+    let Places { dir, env } = places(alloc, words)?;
+    drop(env);
+    match dir {
+        Some(dir) => String::from_str(alloc, str::from_utf8(dir.as_slice()).unwrap_or(".")),
+        None => String::from_str(alloc, "."),
+    }
 }
 
 /// Reads standard input from now on as the program's own channel, if its input is one.
@@ -255,13 +360,17 @@ fn run_resting<C: TopCall, R: Threads + Wait + Copy + Send + Drop + 'static, P: 
     words: &[String],
     channels: Channels,
     limits: Limits,
+    lock: &MemberLock,
     queue: Shared,
     posts: &mut P,
     spawn: &mut S,
-) -> Result<u8, Memory> {
+) -> Result<u8, Memory>
+    ensures { IfOk result (λ status. IsStatusOf (C.does call.now) words.now status) }
+{
     match channels {
         Channels::Links => {
             let gate = SendingGate::new(handle, queue, limits.idle, limits.drain);
+            let gate = WatchingGate::new(rt, gate, lock);
             run_over(call, rt, handle, alloc, words, posts, spawn, &gate)
         }
         _ => {
@@ -295,7 +404,9 @@ fn run_over<
     posts: &mut P,
     spawn: &mut S,
     gate: &G,
-) -> Result<u8, Memory> {
+) -> Result<u8, Memory>
+    ensures { IfOk result (λ status. IsStatusOf (C.does call.now) words.now status) }
+{
     let Places { dir, env } = places(alloc, words)?;
     let mut message = ReaderSource::new(rt.stdin());
     let mut envelope = ReaderSource::new(LateFile::new(rt, env));
@@ -351,9 +462,14 @@ fn run_in<
     posts: &mut P,
     spawn: &mut S,
     gate: &G,
-) -> Result<u8, Memory> {
+) -> Result<u8, Memory>
+    ensures { IfOk result (λ status. IsStatusOf (C.does call.now) words.now status) }
+{
     let leaving = leaving(handle, alloc, words)?;
-    let files = QueueFiles::new(rt, handle, leaving);
+    let mut files = QueueFiles::new(rt, handle, leaving);
+    if !may_make(rt, words, dir)? {
+        files.make_none();
+    }
     let called = match HostFs::open(&&files, alloc, dir) {
         Ok(mut disk) => {
             let status = run_on(
@@ -379,7 +495,9 @@ fn run_nowhere<C: TopCall, M: Source, E: Source, P: Posts, S: Spawner, G: Gate>(
     posts: &mut P,
     spawn: &mut S,
     gate: &G,
-) -> Result<u8, Memory> {
+) -> Result<u8, Memory>
+    ensures { IfOk result (λ status. IsStatusOf (C.does call.now) words.now status) }
+{
     let mut disk = MemFs::new(alloc, Vec::new(alloc), Vec::new(alloc))?;
     let status = run_on(
         call, rt, alloc, words, &mut disk, message, envelope, posts, spawn, gate,
@@ -413,7 +531,9 @@ fn run_on<C: TopCall, D: CallFs, M: Source, E: Source, P: Posts, S: Spawner, G: 
     posts: &mut P,
     spawn: &mut S,
     gate: &G,
-) -> u8 {
+) -> u8
+    ensures { IsStatusOf (C.does call.now) words.now result }
+{
     call.call(
         rt,
         alloc,

@@ -14,3 +14,5 @@ pub mod Made
 pub mod Working
 -- what the command `work` did
 pub mod Works
+-- what stays as it is tells what it told
+pub mod Lending

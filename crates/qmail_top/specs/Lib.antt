@@ -8,3 +8,5 @@ pub mod Families
 pub mod Making
 -- the command `work`
 pub mod Works
+-- what the call does to what it is lent, as one relation
+pub mod Called

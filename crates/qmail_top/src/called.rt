@@ -11,6 +11,10 @@ use top_call::TopCall;
 pub struct Qmail;
 
 impl TopCall for Qmail {
+    ghost use Rattle.qmail_top.specs.Called.{Called};
+
+    ghost does = { λ _. Called };
+
     fn call<
         D: CallFs,
         M: Source,

@@ -23,16 +23,28 @@ const AT_IDLE_TURNS: u64 = 1;
 /// - any other, before the turn that is the k-th from the last, with deliveries in flight: its share of what is left of the
 ///   time that children have to end, so that all these pauses together are no longer than that
 #[derive(Drop)]
-pub struct SendingGate<R: Wait + Drop> {
+pub struct SendingGate<R: Wait + Drop, Q: Restful + Drop> {
     rt: R,
-    queue: Arc<PieceQueue, Global>,
+    queue: Arc<Q, Global>,
     idle: u64,
     left: Cell<u64>,
 }
 
-impl<R: Wait + Drop> SendingGate<R> {
+/// On what a gate rests.
+pub trait Restful {
+    /// Sleeps until a piece is there, at most so long; it may also return for no reason.
+    fn rest<R: Wait>(&self, rt: &R, most: Duration);
+}
+
+impl Restful for PieceQueue {
+    fn rest<R: Wait>(&self, rt: &R, most: Duration) {
+        PieceQueue::rest(self, rt, most);
+    }
+}
+
+impl<R: Wait + Drop, Q: Restful + Drop> SendingGate<R, Q> {
     /// A gate that rests on this queue: so many milliseconds after an idle turn, and so many in all before the last turns.
-    pub fn new(rt: R, queue: Arc<PieceQueue, Global>, idle: u64, drain: u64) -> Self
+    pub fn new(rt: R, queue: Arc<Q, Global>, idle: u64, drain: u64) -> Self
         ensures queue { arc_value result.queue ≡ arc_value queue }
         ensures idle { result.idle ≡ idle }
     {
@@ -53,7 +65,7 @@ impl<R: Wait + Drop> SendingGate<R> {
     }
 }
 
-impl<R: Wait + Drop> Gate for SendingGate<R> {
+impl<R: Wait + Drop, Q: Restful + Drop> Gate for SendingGate<R, Q> {
     fn pause(&self, mail: u64, step: u64) {
         let most = match mail {
             AT_WAITS => limit(step),

@@ -7,7 +7,7 @@ use Rattle.call_fs.specs.Disk.{Disk}
 use Rattle.call_fs.specs.Maps.{put, put_at}
 use Rattle.call_fs.proofs.Maps.{put_at_cases, put_at_same, put_at_other}
 use Rattle.mem_fs.specs.MemDisk.{IsGreatestFree, Places, with_dir, with_file}
-use Rattle.mem_fs.specs.MemFile.{settled_file}
+use Rattle.mem_files.specs.MemFile.{settled_file}
 use Rattle.script_words.specs.declared.entry.Entry.{Entry}
 use Rattle.script_words.specs.declared.entry.Entry.TheVariants.{File as FileOf, Dir}
 use Rattle.script_words.specs.Entries.{dirs_above}

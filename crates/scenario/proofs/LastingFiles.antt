@@ -13,8 +13,8 @@ use Rattle.call_fs.specs.Survival.{AllSurvive, halted}
 use Rattle.call_fs.specs.Choices.{contents_by}
 use Rattle.call_fs.specs.Maps.{put}
 use Rattle.call_fs.proofs.Maps.{put_cases}
-use Rattle.mem_fs.proofs.Survivors.{Lasts, lasts-settled, lasts-grown, lasts-overwritten, lasts-cut}
-use Rattle.mem_fs.proofs.Chosen.{read_survives, kept_survives, junk_survives}
+use Rattle.mem_files.proofs.Survivors.{Lasts, lasts-settled, lasts-grown, lasts-overwritten, lasts-cut}
+use Rattle.mem_files.proofs.Chosen.{read_survives, kept_survives, junk_survives}
 
 abbrev pub AreLasting : Disk → Type 0
 AreLasting d = (n : ℕ) → Lasts (d.files n)

@@ -5,7 +5,7 @@ use mathlib.Core.Path.{fun_ext}
 use Rattle.call_fs.specs.Disk.{Disk, File, Open}
 use Rattle.call_fs.specs.Maps.{put, put_at}
 use Rattle.mem_fs.specs.MemDisk.{IsGreatestFree, Places, PlacesNew}
-use Rattle.mem_fs.specs.MemFile.{settled_file}
+use Rattle.mem_files.specs.MemFile.{settled_file}
 use Rattle.script_words.specs.declared.entry.Entry.{Entry}
 use Rattle.script_words.specs.declared.entry.Entry.TheVariants.{File as FileOf, Dir}
 use Rattle.script_words.specs.Entries.{dirs_above}

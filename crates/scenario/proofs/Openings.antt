@@ -7,8 +7,8 @@ use Rattle.call_fs.specs.Disk.{Disk, File, Among, IsSynced}
 use Rattle.call_fs.specs.Maps.{put, put_at}
 use Rattle.call_fs.proofs.Maps.{put_cases, put_at_cases}
 use Rattle.mem_fs.specs.MemDisk.{Places, with_dir, with_file}
-use Rattle.mem_fs.specs.MemFile.{settled_file}
-use Rattle.mem_fs.proofs.Survivors.{Lasts, lasts-settled}
+use Rattle.mem_files.specs.MemFile.{settled_file}
+use Rattle.mem_files.proofs.Survivors.{Lasts, lasts-settled}
 use Rattle.mail_world.specs.History.{Opening}
 use Rattle.queue_paths.specs.Dirs.{queue_dirs}
 use Rattle.queue_paths.specs.Names.{Part, path}

@@ -14,7 +14,7 @@ use Rattle.call_fs.specs.declared.past.NeedData.{NeedData}
 use Rattle.call_fs.specs.declared.past.NeedData.TheVariants.{File}
 use Rattle.call_fs.specs.declared.past.Own.{Own}
 use Rattle.call_fs.specs.Disk.{Disk}
-use Rattle.crash_fs.specs.Crash.{crash_disk}
+use Rattle.mem_fs.specs.MemDisk.{disk_of}
 use Rattle.script_disks.specs.Controls.{controls_on}
 use Rattle.queue_inject.specs.declared.injection.Arguments.{Arguments}
 use Rattle.queue_paths.specs.Names.{Name, is_number, is_used, parse, used}
@@ -65,7 +65,7 @@ is_shown d h now present events pids numbers own history are_pids are_numbers ma
 
 -- what is told of each mail
 mails_told : {W : Type 0} (tells : View → Entry → List ℕ → List W) (d : Disk) (h : List Event) (now : Disk) (present : ℕ) (events : List Kept) (o : Overview) (entries : List Entry) (given : List Given)
-    → IsHistory d now events present h → AreNamedStarts h → AllByRecursion IsFedSo (reverse events) → crash_disk o.disk.now ≡ now → o.controls.now ≡ controls_on now → entries ≡ books_in d h
+    → IsHistory d now events present h → AreNamedStarts h → AllByRecursion IsFedSo (reverse events) → disk_of o.disk.now.held ≡ now → o.controls.now ≡ controls_on now → entries ≡ books_in d h
     → reverse (map receiver given) ≡ receivers_in (reverse events)
     → flat_map (λ (mail : Entry × Given). tells (view_at o (after d h).books) mail.0 mail.1.envelope.now) (zip entries given)
     ≡ flat_map (λ (mail : List ℕ × Arguments). tells (view_of d h) (entry_in (after d h) h mail) mail.1.envelope) (mails_of h)
@@ -82,13 +82,13 @@ mails_told tells d h now present events o entries given history mails fed disk c
 
 -- the lines of each mail
 pub mails_shown : (d : Disk) (h : List Event) (now : Disk) (present : ℕ) (events : List Kept) (o : Overview) (entries : List Entry) (given : List Given) → IsHistory d now events present h → AreNamedStarts h
-    → AllByRecursion IsFedSo (reverse events) → crash_disk o.disk.now ≡ now → o.controls.now ≡ controls_on now → entries ≡ books_in d h → reverse (map receiver given) ≡ receivers_in (reverse events)
+    → AllByRecursion IsFedSo (reverse events) → disk_of o.disk.now.held ≡ now → o.controls.now ≡ controls_on now → entries ≡ books_in d h → reverse (map receiver given) ≡ receivers_in (reverse events)
     → flat_map (given_lines (view_at o (after d h).books)) (zip entries given) ≡ all_mail_lines d h
 mails_shown = mails_told entry_lines
 
 -- what became of the recipients of each mail
 pub mails_summed : (d : Disk) (h : List Event) (now : Disk) (present : ℕ) (events : List Kept) (o : Overview) (entries : List Entry) (given : List Given) → IsHistory d now events present h → AreNamedStarts h
-    → AllByRecursion IsFedSo (reverse events) → crash_disk o.disk.now ≡ now → o.controls.now ≡ controls_on now → entries ≡ books_in d h → reverse (map receiver given) ≡ receivers_in (reverse events)
+    → AllByRecursion IsFedSo (reverse events) → disk_of o.disk.now.held ≡ now → o.controls.now ≡ controls_on now → entries ≡ books_in d h → reverse (map receiver given) ≡ receivers_in (reverse events)
     → flat_map (given_fates (view_at o (after d h).books)) (zip entries given) ≡ all_fates d h
 mails_summed = mails_told fates_of
 

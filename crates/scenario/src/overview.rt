@@ -1,6 +1,6 @@
 // What became of each mail and of its recipients.
 ghost use Rattle.std.specs.Prelude.{◌≡◌, ◌++◌, IfOk, OnOk, map};
-ghost use Rattle.crash_fs.specs.Crash.{crash_disk};
+ghost use Rattle.mem_fs.specs.MemDisk.{disk_of};
 ghost use Rattle.queue_law.specs.Books.{Books};
 ghost use Rattle.script_disks.specs.Records.{AreNoted};
 ghost use Rattle.scenario.specs.Fates.{AreFates, IsUsed, spot_of};
@@ -9,9 +9,9 @@ ghost use Rattle.scenario.specs.Viewed.{view_at};
 
 use crate::fates::{Fates, Spot};
 use address_rules::Controls;
-use crash_fs::CrashDisk;
 use mail_bytes::{ByteText, Memory};
 use mail_world::Entry;
+use mem_fs::MemFs;
 use queue_paths::Name;
 use script_disks::{Routed, is_among, is_there, is_unmarked, noted_on, routes_of};
 use script_traces::{RecipientFate, alike, put_fates, put_life};
@@ -21,7 +21,7 @@ use std::alloc::Global;
 #[derive(Clone, Copy)]
 pub struct Overview<'a> {
     /// Its disk.
-    pub disk: &'a CrashDisk,
+    pub disk: &'a MemFs,
     /// What the control files say; `None` if one is bad.
     pub controls: &'a Option<Controls>,
     /// What its events say.
@@ -96,7 +96,7 @@ impl Overview<'_> {
         failed: RecipientFate,
     ) -> Result<Vec<RecipientFate>, Memory>
         ensures { (books : Books) → AreFates self.now.fates.now books → IsUsed entry.now.number
-            → AreNoted (crash_disk self.now.disk.now) (lasting books entry.now.actor entry.now.number) noted.now
+            → AreNoted (disk_of self.now.disk.now.held) (lasting books entry.now.actor entry.now.number) noted.now
             → IfOk result (λ fates. fates.items ≡ map (fate_of (view_at self.now books) entry.now.actor entry.now.number failed) routes.now) }
     {
         let mail = entry.actor.as_slice();
@@ -117,7 +117,7 @@ impl Overview<'_> {
         failed: RecipientFate,
     ) -> RecipientFate
         ensures { (books : Books) → AreFates self.now.fates.now books → IsUsed number
-            → AreNoted (crash_disk self.now.disk.now) (lasting books mail.now number) noted.now
+            → AreNoted (disk_of self.now.disk.now.held) (lasting books mail.now number) noted.now
             → result ≡ fate_of (view_at self.now books) mail.now number failed route.now }
     {
         if is_unmarked(self.disk, self.lasting(mail, number), route) {
@@ -137,7 +137,7 @@ impl Overview<'_> {
         failed: RecipientFate,
     ) -> RecipientFate
         ensures { (books : Books) → AreFates self.now.fates.now books → IsUsed number
-            → AreNoted (crash_disk self.now.disk.now) (lasting books mail.now number) noted.now
+            → AreNoted (disk_of self.now.disk.now.held) (lasting books mail.now number) noted.now
             → result ≡ ending_of (view_at self.now books) mail.now number failed route.now }
     {
         let spot = Spot {
@@ -175,7 +175,7 @@ impl Overview<'_> {
 
     /// Whether todo holds the message of this number.
     fn is_queued(&self, number: Option<u64>) -> bool
-        ensures { result ≡ is_queued (crash_disk self.now.disk.now) number }
+        ensures { result ≡ is_queued (disk_of self.now.disk.now.held) number }
     {
         match number {
             Some(n) => is_there(self.disk, Name::Todo(n)),

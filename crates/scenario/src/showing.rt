@@ -34,9 +34,9 @@ pub fn show(alloc: Global, world: &World<CrashDisk>, text: &mut Vec<u8>) -> Resu
     ensures { OnOk result ((own : List ℕ) × (text.new.items ≡ text.old.items ++ own)
         × ((d : Disk) (plan : Plan) (h : List Deed) → IsPlaying d world.now plan h → IsShown d (history_of h) own)) }
 {
-    let pids = names_of(alloc, world.disk(), b"pid")?;
+    let pids = names_of(alloc, world.disk().below(), b"pid")?;
     put_count_line(text, pids.len() as u64)?;
-    let numbers = numbers_of(alloc, world.disk())?;
+    let numbers = numbers_of(alloc, world.disk().below())?;
     put_states(text, world.disk(), &numbers)?;
     put_mails(alloc, world, text)
 }
@@ -60,9 +60,9 @@ fn put_fated(
     ensures { OnOk result ((own : List ℕ) × (text.new.items ≡ text.old.items ++ own) × ((d : Disk) (plan : Plan) (h : List Deed)
         → IsPlaying d world.now plan h → AreFates fates.now (after d h).books → own ≡ all_mail_lines d (history_of h))) }
 {
-    let controls = controls_on(alloc, world.disk())?;
+    let controls = controls_on(alloc, world.disk().below())?;
     let overview = Overview {
-        disk: world.disk(),
+        disk: world.disk().below(),
         controls: &controls,
         fates,
     };
@@ -186,7 +186,7 @@ fn put_states(text: &mut Vec<u8>, disk: &CrashDisk, numbers: &[u64]) -> Result<(
     ensures { OnOk result (text.new.items ≡ text.old.items ++ flat_map (number_line (crash_disk disk.now)) numbers.now) }
 {
     for number in numbers {
-        put_state_line(text, *number, state_on(disk, *number))?;
+        put_state_line(text, *number, state_on(disk.below(), *number))?;
     }
     Ok(())
 }

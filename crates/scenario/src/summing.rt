@@ -49,9 +49,9 @@ fn fates_heard(
     ensures { IfOk result (λ fates. (d : Disk) (plan : Plan) (h : List Deed) → IsPlaying d world.now plan h
         → AreFates heard.now (after d h).books → fates.items ≡ all_fates d (history_of h)) }
 {
-    let controls = controls_on(alloc, world.disk())?;
+    let controls = controls_on(alloc, world.disk().below())?;
     let overview = Overview {
-        disk: world.disk(),
+        disk: world.disk().below(),
         controls: &controls,
         fates: heard,
     };

@@ -1,22 +1,22 @@
 // The names and the message numbers that a disk holds.
 ghost use Rattle.std.specs.Prelude.{◌≡◌, ◌⊎◌, ◌↔◌, ◌++◌, ◌∷◌, [], ℕ, All, Contains, IfOk, IsTrue, OnOk, Some, codes, is_some, map, option_map};
 ghost use Rattle.mail_bytes.specs.Decimal.{digits};
-ghost use Rattle.crash_fs.specs.Crash.{crash_disk};
+ghost use Rattle.mem_fs.specs.MemDisk.{disk_of};
 ghost use Rattle.queue_paths.specs.Names.{Part, is_number, name_of, path, split_text, used_name};
 ghost use Rattle.queue_paths.specs.Names.Name.{Of};
 ghost use Rattle.queue_states.specs.States.{is_there, state_of};
 ghost use Rattle.queue_states.specs.Listing.{AreNamesIn};
 ghost use Rattle.script_disks.specs.Numbers.{AreNumbersIn};
 
-use crash_fs::CrashDisk;
 use mail_bytes::{Memory, NameBuf};
+use mem_fs::MemFs;
 use queue_paths::{FLAT_DIRS, Name, SPLIT_DIRS, SPLITS, parse, path, split_dir};
 use queue_states::{State, state_of};
 use std::alloc::Global;
 
 /// The names of a directory, in order. The error: out of memory.
-pub fn names_of<'a>(alloc: Global, disk: &'a CrashDisk, dir: &[u8]) -> Result<Vec<&'a [u8]>, Memory>
-    ensures { IfOk result (λ names. AreNamesIn (crash_disk disk.now) dir.now (map (λ name. name.now) names.items)) }
+pub fn names_of<'a>(alloc: Global, disk: &'a MemFs, dir: &[u8]) -> Result<Vec<&'a [u8]>, Memory>
+    ensures { IfOk result (λ names. AreNamesIn (disk_of disk.now.held) dir.now (map (λ name. name.now) names.items)) }
 {
     let mut names = Vec::new(alloc);
     let mut last: &[u8] = b"";
@@ -28,8 +28,8 @@ pub fn names_of<'a>(alloc: Global, disk: &'a CrashDisk, dir: &[u8]) -> Result<Ve
 }
 
 /// The numbers that have a file in the queue, each once, in order. The error: out of memory.
-pub fn numbers_of(alloc: Global, disk: &CrashDisk) -> Result<Vec<u64>, Memory>
-    ensures { IfOk result (λ numbers. AreNumbersIn (crash_disk disk.now) numbers.items) }
+pub fn numbers_of(alloc: Global, disk: &MemFs) -> Result<Vec<u64>, Memory>
+    ensures { IfOk result (λ numbers. AreNumbersIn (disk_of disk.now.held) numbers.items) }
 {
     let mut numbers = flat_numbers(alloc, disk)?;
     for dir in &SPLIT_DIRS {
@@ -41,11 +41,11 @@ pub fn numbers_of(alloc: Global, disk: &CrashDisk) -> Result<Vec<u64>, Memory>
 }
 
 /// The numbers of the files in the directories without splits, in any order.
-fn flat_numbers(alloc: Global, disk: &CrashDisk) -> Result<Vec<u64>, Memory>
+fn flat_numbers(alloc: Global, disk: &MemFs) -> Result<Vec<u64>, Memory>
     ensures only { IfOk result (λ numbers. (n : ℕ) → Contains numbers.items n
-        → IsTrue (is_number n) × (part : Part) × IsTrue (is_there (crash_disk disk.now) part n)) }
+        → IsTrue (is_number n) × (part : Part) × IsTrue (is_there (disk_of disk.now.held) part n)) }
     ensures all { IfOk result (λ numbers. All (λ dir. (part : Part) (n : ℕ) → IsTrue (is_number n) → path (Of part n) ≡ dir ++ 47 ∷ digits n
-        → IsTrue (is_there (crash_disk disk.now) part n) → Contains numbers.items n)
+        → IsTrue (is_there (disk_of disk.now.held) part n) → Contains numbers.items n)
         (codes "intd" ∷ codes "todo" ∷ codes "bounce" ∷ [])) }
 {
     let mut numbers = Vec::new(alloc);
@@ -58,15 +58,15 @@ fn flat_numbers(alloc: Global, disk: &CrashDisk) -> Result<Vec<u64>, Memory>
 /// Adds the numbers of the files in a directory that has splits, and none without a file.
 fn gather_splits(
     alloc: Global,
-    disk: &CrashDisk,
+    disk: &MemFs,
     dir: &[u8],
     numbers: &mut Vec<u64>,
 ) -> Result<(), Memory>
     ensures kept { OnOk result ((n : ℕ) → Contains numbers.old.items n → Contains numbers.new.items n) }
     ensures only { OnOk result ((n : ℕ) → Contains numbers.new.items n → Contains numbers.old.items n
-        ⊎ (IsTrue (is_number n) × (part : Part) × IsTrue (is_there (crash_disk disk.now) part n))) }
+        ⊎ (IsTrue (is_number n) × (part : Part) × IsTrue (is_there (disk_of disk.now.held) part n))) }
     ensures all { OnOk result ((part : Part) (n : ℕ) → IsTrue (is_number n) → path (Of part n) ≡ dir.now ++ 47 ∷ split_text n
-        → IsTrue (is_there (crash_disk disk.now) part n) → Contains numbers.new.items n) }
+        → IsTrue (is_there (disk_of disk.now.held) part n) → Contains numbers.new.items n) }
 {
     for split in 0..SPLITS {
         let split_dir = split_dir(alloc, dir, split)?;
@@ -76,12 +76,12 @@ fn gather_splits(
 }
 
 /// Adds the numbers of the files in a directory, and none without a file.
-fn gather(alloc: Global, disk: &CrashDisk, dir: &[u8], numbers: &mut Vec<u64>) -> Result<(), Memory>
+fn gather(alloc: Global, disk: &MemFs, dir: &[u8], numbers: &mut Vec<u64>) -> Result<(), Memory>
     ensures kept { OnOk result ((n : ℕ) → Contains numbers.old.items n → Contains numbers.new.items n) }
     ensures only { OnOk result ((n : ℕ) → Contains numbers.new.items n → Contains numbers.old.items n
-        ⊎ (IsTrue (is_number n) × (part : Part) × IsTrue (is_there (crash_disk disk.now) part n))) }
+        ⊎ (IsTrue (is_number n) × (part : Part) × IsTrue (is_there (disk_of disk.now.held) part n))) }
     ensures all { OnOk result ((part : Part) (n : ℕ) → IsTrue (is_number n) → path (Of part n) ≡ dir.now ++ 47 ∷ digits n
-        → IsTrue (is_there (crash_disk disk.now) part n) → Contains numbers.new.items n) }
+        → IsTrue (is_there (disk_of disk.now.held) part n) → Contains numbers.new.items n) }
 {
     for name in &names_of(alloc, disk, dir)? {
         if let Some(number) = number_of(alloc, dir, name)? {
@@ -119,8 +119,8 @@ fn number_in(name: Option<Name>) -> Option<u64>
 }
 
 /// The state of a number, by which of its files are there.
-pub fn state_on(disk: &CrashDisk, number: u64) -> State
-    ensures { result ≡ state_of (crash_disk disk.now) number }
+pub fn state_on(disk: &MemFs, number: u64) -> State
+    ensures { result ≡ state_of (disk_of disk.now.held) number }
 {
     state_of([
         is_there(disk, Name::Mess(number)),
@@ -134,8 +134,8 @@ pub fn state_on(disk: &CrashDisk, number: u64) -> State
 }
 
 /// Whether the file of a name is there.
-pub fn is_there(disk: &CrashDisk, name: Name) -> bool
-    ensures { result ≡ is_some ((crash_disk disk.now).names (path (name_of name))) }
+pub fn is_there(disk: &MemFs, name: Name) -> bool
+    ensures { result ≡ is_some ((disk_of disk.now.held).names (path (name_of name))) }
 {
     let mut text = NameBuf::new();
     path(&name, &mut text);

@@ -2,8 +2,7 @@
 ghost use Rattle.std.specs.Prelude.{◌≡◌, IfOk, bytes_eq, drop, length, take};
 ghost use Rattle.std.specs.List.{list_any};
 ghost use Rattle.std.specs.Option.{option_copied};
-ghost use Rattle.crash_fs.specs.Crash.{crash_disk};
-ghost use Rattle.mem_fs.specs.MemDisk.{bytes_at};
+ghost use Rattle.mem_fs.specs.MemDisk.{bytes_at, disk_of};
 ghost use Rattle.queue_law.specs.Routes.{lane_part};
 ghost use Rattle.queue_paths.specs.Names.{name_of, path};
 ghost use Rattle.queue_paths.specs.Names.Name.{Of};
@@ -11,15 +10,15 @@ ghost use Rattle.script_disks.specs.Records.{AreNoted, is_unmarked, stands_in};
 
 use crate::routes::Routed;
 use bounce_record::notes_of;
-use crash_fs::CrashDisk;
 use mail_bytes::{ByteText, Memory, NameBuf};
+use mem_fs::MemFs;
 use queue_paths::{Name, path};
 use send_jobs::Channel;
 use std::alloc::Global;
 
 /// Whether the record of a recipient of the message of this number is there, and reads `T`.
-pub fn is_unmarked(disk: &CrashDisk, number: Option<u64>, route: &Routed) -> bool
-    ensures { result ≡ is_unmarked (crash_disk disk.now) number route.now }
+pub fn is_unmarked(disk: &MemFs, number: Option<u64>, route: &Routed) -> bool
+    ensures { result ≡ is_unmarked (disk_of disk.now.held) number route.now }
 {
     match number {
         Some(n) => holds(disk, n, route),
@@ -28,12 +27,8 @@ pub fn is_unmarked(disk: &CrashDisk, number: Option<u64>, route: &Routed) -> boo
 }
 
 /// The names that the bounce file of the message of this number tells, one for each note. The error: out of memory.
-pub fn noted_on(
-    alloc: Global,
-    disk: &CrashDisk,
-    number: Option<u64>,
-) -> Result<Vec<ByteText>, Memory>
-    ensures { IfOk result (λ names. AreNoted (crash_disk disk.now) number names.items) }
+pub fn noted_on(alloc: Global, disk: &MemFs, number: Option<u64>) -> Result<Vec<ByteText>, Memory>
+    ensures { IfOk result (λ names. AreNoted (disk_of disk.now.held) number names.items) }
 {
     let Some(n) = number else {
         return Ok(Vec::new(alloc));
@@ -52,8 +47,8 @@ pub fn is_among(names: &[ByteText], name: &[u8]) -> bool
 }
 
 /// Whether the file of its channel has this record at its place.
-fn holds(disk: &CrashDisk, n: u64, route: &Routed) -> bool
-    ensures { result ≡ stands_in (bytes_at (crash_disk disk.now) (path (Of (lane_part route.now.channel) n))) route.now.place route.now.text }
+fn holds(disk: &MemFs, n: u64, route: &Routed) -> bool
+    ensures { result ≡ stands_in (bytes_at (disk_of disk.now.held) (path (Of (lane_part route.now.channel) n))) route.now.place route.now.text }
 {
     match file_of(disk, &channel_name(route.channel, n)) {
         Some(bytes) => stands_in(bytes, route.place, route.text.as_slice()),
@@ -62,8 +57,8 @@ fn holds(disk: &CrashDisk, n: u64, route: &Routed) -> bool
 }
 
 /// The bytes of the file of a name of the queue.
-fn file_of<'a>(disk: &'a CrashDisk, name: &Name) -> Option<&'a [u8]>
-    ensures { option_copied result ≡ bytes_at (crash_disk disk.now) (path (name_of name.now)) }
+fn file_of<'a>(disk: &'a MemFs, name: &Name) -> Option<&'a [u8]>
+    ensures { option_copied result ≡ bytes_at (disk_of disk.now.held) (path (name_of name.now)) }
 {
     let mut lent = NameBuf::new();
     path(name, &mut lent);

@@ -22,7 +22,7 @@ use Rattle.mail_world.specs.History.{State, after, next_of}
 use Rattle.mail_world.specs.Untouched.{queue}
 use Rattle.world_law.proofs.Histories.{always, sender_fares}
 use Rattle.world_law.proofs.Ran.{have_run}
-use Rattle.settle_law.specs.Alone.{PassesBeginAlone}
+use Rattle.settle_law.specs.inside.Alone.{PassesBeginAlone}
 use Rattle.settle_law.specs.Suffices.{desk_of}
 use Rattle.settle_law.proofs.ServedPasts.{none_flies}
 

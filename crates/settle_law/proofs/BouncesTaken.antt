@@ -44,7 +44,7 @@ use Rattle.settle_law.proofs.SenderRows.{due, stands}
 use Rattle.settle_law.proofs.ShortControls.{AreShort}
 use Rattle.settle_law.proofs.ShortRequests.{known_short}
 use Rattle.settle_law.proofs.StatusRows.{StatusAt, status_at}
-use Rattle.settle_law.specs.Finishes.{BouncesAreTaken, BouncesEnd}
+use Rattle.settle_law.specs.inside.Finishes.{BouncesAreTaken, BouncesEnd}
 use Rattle.settle_law.specs.Well.{came_well, goes_well, is_well_ended}
 
 is_named : (a : List ℕ) (program : Program) (start : ℕ) → program ≡ Sender start → IsNamed a program → a ≡ codes "sender"

@@ -25,8 +25,8 @@ use Rattle.mail_world.specs.History.Life.{Alive, Over}
 use Rattle.world_law.proofs.Pipes.{IsAway, away_same, child_away}
 use Rattle.world_law.proofs.PostPipes.{other_pipe}
 use Rattle.world_law.proofs.Tenants.{some_actor}
-use Rattle.settle_law.specs.Living.Servant.{Cleans}
-use Rattle.settle_law.specs.Living.{IsServed}
+use Rattle.settle_law.specs.inside.Living.Servant.{Cleans}
+use Rattle.settle_law.specs.inside.Living.{IsServed}
 use Rattle.settle_law.specs.Well.{GoesWell, goes_well}
 use Rattle.settle_law.proofs.Living.{no_sender_alone, no_sender_child, put_keeps, servants_live}
 

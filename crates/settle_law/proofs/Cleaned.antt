@@ -9,7 +9,7 @@ use Rattle.queue_clean.proofs.Reasons.{answers}
 use Rattle.world_events.specs.declared.event.Program.{Program}
 use Rattle.mail_world.specs.History.{next_of}
 use Rattle.world_law.proofs.Ran.{have_run}
-use Rattle.settle_law.specs.Cleaned.{CleanersAnswerWell}
+use Rattle.settle_law.specs.inside.Cleaned.{CleanersAnswerWell}
 use Rattle.settle_law.specs.Well.{came_well, is_well_answered}
 use Rattle.settle_law.proofs.SmallNumbers.{is_well, pasts_well, went_well}
 

@@ -30,8 +30,9 @@ use Rattle.retry_law.specs.Tried.{tried_in}
 use Rattle.retry_law.proofs.Due.{due_again_known}
 use Rattle.retry_law.proofs.Jobs.{clear, empty}
 use Rattle.retry_law.proofs.Retried.{searches_keep}
-use Rattle.settle_law.specs.Dues.{RestsAreDue}
-use Rattle.settle_law.specs.Rests.{BeginsTurn, IsAtRest}
+use Rattle.settle_law.specs.inside.Dues.{RestsAreDue}
+use Rattle.settle_law.specs.inside.Rests.{BeginsTurn}
+use Rattle.settle_law.specs.Rests.{IsAtRest}
 use Rattle.settle_law.specs.Suffices.{IsDueSo, IsKnown, desk_of}
 use Rattle.settle_law.proofs.FreeChannels.{rests_free}
 use Rattle.settle_law.proofs.IdleTurns.{idle}

@@ -39,10 +39,11 @@ use Rattle.mail_world.specs.History.{Actor, next_of}
 use Rattle.scenario.specs.Deeds.{Deed, after, history_of}
 use Rattle.scenario.specs.Turns.{is_search_call}
 use Rattle.world_law.proofs.Ran.{have_run}
-use Rattle.settle_law.specs.Promised.{IsRest, RestsAreEmpty, RestsHold}
+use Rattle.settle_law.specs.Promised.{IsRest, RestsHold}
+use Rattle.settle_law.specs.inside.Steps.{RestsAreEmpty}
 use Rattle.settle_law.specs.Settled.{AllGone, WaitsForRetry}
 use Rattle.settle_law.specs.Suffices.{HasRest, IsKnown, desk_of}
-use Rattle.settle_law.specs.TriedStay.{tried_at}
+use Rattle.settle_law.specs.inside.TriedStay.{tried_at}
 use Rattle.settle_law.specs.Well.{AllSucceed}
 use Rattle.settle_law.proofs.FreeChannels.{rests_free}
 use Rattle.settle_law.proofs.Holding as at_rest

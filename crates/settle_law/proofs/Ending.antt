@@ -14,7 +14,8 @@ use Rattle.scenario.specs.Steps.Refusal.{Rounds, Steps}
 use Rattle.scenario.specs.Turns.{IsSettled, Round, events_in}
 use Rattle.settle_law.specs.Ends.{StopsSo}
 use Rattle.settle_law.specs.Ends.StopsSo.{Rests, TooLong, TooMany}
-use Rattle.settle_law.specs.Promised.{HasSettled, IsRest, OthersWait, RestsAreEmpty, RestsAreSettled, RestsHold, SettlesEnd, SuccessesEnd}
+use Rattle.settle_law.specs.Promised.{HasSettled, IsRest, OthersWait, RestsHold, SettlesEnd, SuccessesEnd}
+use Rattle.settle_law.specs.inside.Steps.{RestsAreEmpty, RestsAreSettled}
 use Rattle.settle_law.specs.Settled.{AllGone, Settled}
 use Rattle.settle_law.specs.Well.{AllSucceed, GoesWell}
 use Rattle.settle_law.proofs.IdleRounds.{idle_rounds_rest}

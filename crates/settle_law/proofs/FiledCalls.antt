@@ -16,7 +16,7 @@ use Rattle.queue_paths.proofs.Paths.{parse-path}
 use Rattle.queue_paths.specs.Names.{Name, parse, path}
 use Rattle.queue_paths.specs.Names.Name.{Of}
 use Rattle.queue_paths.specs.Names.Part.{Info, Todo}
-use Rattle.settle_law.specs.Met.{IsFiled}
+use Rattle.settle_law.specs.inside.Met.{IsFiled}
 
 -- it takes no todo file away, and makes an info file only where the todo file is there
 abbrev pub Keeps : Disk → ℕ → NeedData → Type 0

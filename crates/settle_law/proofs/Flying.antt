@@ -34,7 +34,7 @@ use Rattle.mail_world.specs.History.{Actor, Event, after, next_of}
 use Rattle.world_law.proofs.Ran.{have_run}
 use Rattle.world_law.specs.Spawned.{IsSpawner, spawner_name, stands_after}
 use Rattle.world_law.specs.Standing.{goes_on}
-use Rattle.settle_law.specs.InHand.{FlightsAreInHand, InHand, coming, count}
+use Rattle.settle_law.specs.inside.InHand.{FlightsAreInHand, InHand, coming, count}
 use Rattle.settle_law.specs.Suffices.{desk_of}
 use Rattle.settle_law.specs.Well.{GoesWell}
 use Rattle.settle_law.proofs.Carried.{IsHeard, Posts, fly, sent_posts, served_posts, told_all, told_news}

@@ -8,7 +8,8 @@ use Rattle.send_jobs.specs.Lanes.{next}
 use Rattle.send_jobs.specs.Sending.{lane}
 use Rattle.send_jobs.specs.Slots.{IsLeastFree, attempt_in, lowest}
 use Rattle.send_jobs.proofs.SlotLemmas.{lowest_is_least}
-use Rattle.settle_law.specs.Rests.{FreeChannelsRest, PassRests}
+use Rattle.settle_law.specs.inside.Rests.{FreeChannelsRest}
+use Rattle.settle_law.specs.Rests.{PassRests}
 use Rattle.settle_law.proofs.IdleTurns.{is_none}
 
 some_none : (slot : Option Attempt) → IsSome slot → slot ≡ None → ⊥

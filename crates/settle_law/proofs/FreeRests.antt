@@ -61,11 +61,11 @@ use Rattle.world_law.proofs.PostPipes.{not_spawner}
 use Rattle.world_law.proofs.Ran.{have_run}
 use Rattle.world_law.proofs.Tenants.{some_actor}
 use Rattle.settle_law.specs.Ends.{FindsAll}
-use Rattle.settle_law.specs.Free.{RestsFree}
-use Rattle.settle_law.specs.InHand.{InHand, coming, count}
-use Rattle.settle_law.specs.Living.Servant.{Spawns}
+use Rattle.settle_law.specs.inside.Free.{RestsFree}
+use Rattle.settle_law.specs.inside.InHand.{InHand, coming, count}
+use Rattle.settle_law.specs.inside.Living.Servant.{Spawns}
 use Rattle.settle_law.specs.Promised.{OthersWait}
-use Rattle.settle_law.specs.Rests.{BeginsTurn}
+use Rattle.settle_law.specs.inside.Rests.{BeginsTurn}
 use Rattle.settle_law.specs.Suffices.{desk_of}
 use Rattle.settle_law.specs.Well.{GoesWell, goes_well}
 use Rattle.settle_law.proofs.Carried.{told_news}

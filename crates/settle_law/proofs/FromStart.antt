@@ -27,7 +27,7 @@ use Rattle.send_parts.specs.declared.rows.Search.TheVariants as search
 use Rattle.send_parts.specs.declared.rows.SweepRow.TheVariants as sweep
 use Rattle.send_parts.specs.Files.{message_number}
 use Rattle.send_parts.specs.Replies.{said}
-use Rattle.settle_law.specs.Rests.{BeginsTurn}
+use Rattle.settle_law.specs.inside.Rests.{BeginsTurn}
 use Rattle.settle_law.proofs.IdleTurns.{Leads, found_not}
 
 -- Where nothing else is to be done the turn comes to its search.

@@ -19,7 +19,7 @@ use Rattle.queue_paths.specs.Names.Name.{Of}
 use Rattle.queue_paths.specs.Names.Part.{Info, Mess, Todo}
 use Rattle.queue_paths.specs.Names.{Name, parse, path}
 use Rattle.mail_world.specs.History.{ComesOf, State, disk_after}
-use Rattle.settle_law.specs.HalfWay.{IsHalfWay}
+use Rattle.settle_law.specs.inside.HalfWay.{IsHalfWay}
 
 -- Which names a call may bring, and which it may take away
 

@@ -33,7 +33,8 @@ use Rattle.world_law.proofs.Histories.{safe_always}
 use Rattle.world_law.proofs.Ran.{have_run}
 use Rattle.world_law.proofs.Tenants.{some_actor}
 use Rattle.settle_law.specs.Promised.{IsRest, RestsHold}
-use Rattle.settle_law.specs.Rests.{BeginsTurn, IsAtRest}
+use Rattle.settle_law.specs.inside.Rests.{BeginsTurn}
+use Rattle.settle_law.specs.Rests.{IsAtRest}
 use Rattle.settle_law.specs.Suffices.{HasRest, IsDueSo, IsKnown, desk_of}
 use Rattle.settle_law.specs.Well.{GoesWell, goes_well}
 use Rattle.settle_law.proofs.FreeRests.{rests_free}

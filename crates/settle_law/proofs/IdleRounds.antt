@@ -25,7 +25,8 @@ use Rattle.scenario.specs.Turns.Settles.{Rests as RestsThen, Full as FullThen}
 use Rattle.scenario.proofs.Carried.{lives_actor}
 use Rattle.scenario.proofs.StepKinds.{HasDone, has_stepped}
 use Rattle.scenario.proofs.StepKinds.HasDone.{Calls, Finishes, Passes, Bears, Feeds}
-use Rattle.settle_law.specs.Promised.{IdleRoundsRest, OthersWait}
+use Rattle.settle_law.specs.inside.Steps.{IdleRoundsRest}
+use Rattle.settle_law.specs.Promised.{OthersWait}
 use Rattle.settle_law.proofs.Alike.{WaitsIn, alike_turned, searches_alike, waits_alike}
 use Rattle.settle_law.proofs.Places.{HoldsBefore, HoldsOfAll, newest_holds, next_holds, none_before, none_left}
 use Rattle.settle_law.proofs.Refused.{refused_cannot}

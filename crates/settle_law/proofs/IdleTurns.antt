@@ -28,7 +28,8 @@ use Rattle.send_parts.specs.declared.rows.SweepRow.TheVariants as sweep
 use Rattle.send_parts.specs.Files.{message_number}
 use Rattle.send_parts.specs.Replies.{said}
 use Rattle.send_parts.specs.Rows.{is_again}
-use Rattle.settle_law.specs.Rests.{BeginsTurn, IdleTurnsRest, PassRests}
+use Rattle.settle_law.specs.inside.Rests.{BeginsTurn, IdleTurnsRest}
+use Rattle.settle_law.specs.Rests.{PassRests}
 
 -- What comes before a search wasn't there.
 

@@ -28,7 +28,7 @@ use Rattle.queue_paths.specs.Names.{path}
 use Rattle.world_events.specs.declared.event.Program.TheVariants.{Injector}
 use Rattle.mail_world.specs.History.{ComesOf, State, disk_after, next_of}
 use Rattle.world_law.specs.Standing.{number_at}
-use Rattle.settle_law.specs.HalfWay.{IsHalfWay}
+use Rattle.settle_law.specs.inside.HalfWay.{IsHalfWay}
 use Rattle.settle_law.specs.Well.{came_well, is_well_answered, is_well_ended}
 use Rattle.settle_law.proofs.HalfDisks.{is_refusal, is_refused}
 use Rattle.settle_law.proofs.HalfRows.{IsLinking}

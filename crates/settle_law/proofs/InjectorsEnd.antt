@@ -43,7 +43,7 @@ use Rattle.settle_law.proofs.Dirs.{same_dirs}
 use Rattle.settle_law.proofs.InjectorRows.{EndsSo, Finds, FitsDue, IsFine, ends_so, row_fine}
 use Rattle.settle_law.proofs.MessageDirs.{intd_dir, mess_dir, todo_dir}
 use Rattle.settle_law.proofs.SmallNumbers.{IsSmallAt, PastsWell, not_taken, numbers_are_small, pasts_well, small_row}
-use Rattle.settle_law.specs.Finishes.{InjectorsEnd}
+use Rattle.settle_law.specs.inside.Finishes.{InjectorsEnd}
 use Rattle.settle_law.specs.Well.{came_well, goes_well, is_well_ended}
 
 -- How each injector stands

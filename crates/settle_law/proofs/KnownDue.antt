@@ -10,8 +10,8 @@ use Rattle.send_core.specs.Table.{Next}
 use Rattle.world_events.specs.declared.event.Program.{Program}
 use Rattle.mail_world.specs.History.{next_of}
 use Rattle.world_law.proofs.Ran.{have_run}
-use Rattle.settle_law.specs.Dues.{KnownAreDue}
-use Rattle.settle_law.specs.Moments.{Rises}
+use Rattle.settle_law.specs.inside.Dues.{KnownAreDue}
+use Rattle.settle_law.specs.inside.Moments.{Rises}
 use Rattle.settle_law.specs.Suffices.{IsDueSo, IsKnown}
 use Rattle.settle_law.proofs.DuesAtRest.{rests_are_due}
 use Rattle.settle_law.proofs.ServedPasts.{pasts_are_served}

@@ -56,12 +56,12 @@ use Rattle.settle_law.proofs.Lefts.{lefts_keep}
 use Rattle.settle_law.proofs.LivingSenders.{LeftLater, all_held}
 use Rattle.settle_law.proofs.TriedFiles.{event_tried}
 use Rattle.settle_law.proofs.TriedKnown.{known_tried, known_tried_stay}
-use Rattle.settle_law.specs.Lefts.{HoldsTried, KeepsTried, StillReads}
-use Rattle.settle_law.specs.Rests.{BeginsTurn}
+use Rattle.settle_law.specs.inside.Lefts.{HoldsTried, KeepsTried, StillReads}
+use Rattle.settle_law.specs.inside.Rests.{BeginsTurn}
 use Rattle.settle_law.specs.Settled.{HasUndone}
 use Rattle.settle_law.specs.Suffices.{IsKnown, desk_of}
-use Rattle.settle_law.specs.TriedStay.{tried_at}
-use Rattle.settle_law.specs.Undone.{KnownAreUndone}
+use Rattle.settle_law.specs.inside.TriedStay.{tried_at}
+use Rattle.settle_law.specs.inside.Undone.{KnownAreUndone}
 use Rattle.settle_law.specs.Well.{goes_well}
 
 -- by a sender's past, of the disk of now

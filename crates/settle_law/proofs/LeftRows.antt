@@ -43,7 +43,7 @@ use Rattle.send_parts.specs.declared.reply.Way.TheVariants as way
 use Rattle.send_parts.specs.declared.reply.Way.{Way}
 use Rattle.send_runs.proofs.Steady.{sent_jobs}
 use Rattle.settle_law.proofs.Lefts.{lefts_keep}
-use Rattle.settle_law.specs.Lefts.{AreLeft, HasLeft, HoldsTried, KeepsTried, RowsHoldTried, StillReads}
+use Rattle.settle_law.specs.inside.Lefts.{AreLeft, HasLeft, HoldsTried, KeepsTried, RowsHoldTried, StillReads}
 use Rattle.spawn_protocol.specs.Report.{counted, read_on as reports_on}
 use Rattle.spawn_protocol.specs.declared.report.Report.{Report}
 

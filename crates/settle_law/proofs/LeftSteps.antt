@@ -39,7 +39,7 @@ use Rattle.send_runs.proofs.Calm.{point_fresh}
 use Rattle.send_runs.proofs.Kept.{IsFree, IsStill, fresh_free, kept_row}
 use Rattle.settle_law.proofs.LeftRows.{rows_hold_tried}
 use Rattle.settle_law.proofs.Lefts.{lefts_keep}
-use Rattle.settle_law.specs.Lefts.{HasLeft, HoldsTried, IsSure, KeepsTried, StillReads}
+use Rattle.settle_law.specs.inside.Lefts.{HasLeft, HoldsTried, IsSure, KeepsTried, StillReads}
 
 -- Rows before a write
 

@@ -21,7 +21,7 @@ use Rattle.send_jobs.specs.declared.attempts.Attempt.{Attempt}
 use Rattle.send_jobs.specs.declared.attempts.Mark.{Mark}
 use Rattle.send_jobs.specs.declared.jobs.Job.{Job}
 use Rattle.send_jobs.specs.declared.lane.Lane.{Lane}
-use Rattle.settle_law.specs.Lefts.{AreLeft, HasLeft, LeftsKeep}
+use Rattle.settle_law.specs.inside.Lefts.{AreLeft, HasLeft, LeftsKeep}
 
 inside : (slots : List (Option Attempt)) (slot : ℕ) (a : Attempt) → attempt_in slots slot ≡ Some a → slot < length slots
 inside slots slot a there = ⊎_elim

@@ -54,8 +54,8 @@ use Rattle.world_law.proofs.Pipes.{away_same}
 use Rattle.world_law.proofs.Ran.{HaveRun, have_run}
 use Rattle.world_law.proofs.Starts.{is_cleaner, is_local, is_remote, is_sender}
 use Rattle.world_law.proofs.Tenants.{some_actor}
-use Rattle.settle_law.specs.Living.{RunsAs, Servant, ServantsLive, servant_name}
-use Rattle.settle_law.specs.Living.Servant.{Cleans, Spawns}
+use Rattle.settle_law.specs.inside.Living.{RunsAs, Servant, ServantsLive, servant_name}
+use Rattle.settle_law.specs.inside.Living.Servant.{Cleans, Spawns}
 use Rattle.settle_law.specs.Well.{came_well, goes_well}
 use Rattle.settle_law.proofs.Carried.{Posts}
 use Rattle.settle_law.proofs.Flying.{posts_in}

@@ -50,7 +50,7 @@ use Rattle.todo_pass.specs.declared.row.Why.TheVariants as left
 use Rattle.todo_pass.specs.Table.{Pass, command_text, moved as pass_moved, moved_at}
 use Rattle.todo_pass.specs.Table as pass_table
 use Rattle.settle_law.proofs.ScanSteps.{IsUnderWay, Looks, leads_comes, start_comes}
-use Rattle.settle_law.specs.Met.{Comes, ScanComes, ScanShows, Shows, StaysMet}
+use Rattle.settle_law.specs.inside.Met.{Comes, ScanComes, ScanShows, Shows, StaysMet}
 use Rattle.settle_law.specs.Suffices.{desk_of}
 
 or_true : (b : Bool) → (b || true) ≡ true

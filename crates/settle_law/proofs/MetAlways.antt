@@ -35,7 +35,7 @@ use Rattle.settle_law.proofs.OthersFiled.{other_filed}
 use Rattle.settle_law.proofs.OthersInfos.{other_left}
 use Rattle.settle_law.proofs.OwnFiled.{own_filed, own_gone, own_shows}
 use Rattle.settle_law.proofs.Removals.{none_removed, started_shows}
-use Rattle.settle_law.specs.Met.{AreMet, Comes, IsFiled, Removes, Shows}
+use Rattle.settle_law.specs.inside.Met.{AreMet, Comes, IsFiled, Removes, Shows}
 use Rattle.settle_law.specs.Suffices.{desk_of}
 
 -- what a living sender has met that left no todo pass

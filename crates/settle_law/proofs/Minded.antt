@@ -40,10 +40,10 @@ use Rattle.world_law.proofs.Pipes.{away_same}
 use Rattle.world_law.proofs.Standing.{injections_are_in_time}
 use Rattle.world_law.proofs.Starts.{is_cleaner}
 use Rattle.world_law.proofs.Tenants.{some_actor}
-use Rattle.settle_law.specs.HalfWay.{HalfWaysAreMinded, IsHalfWay, IsMinded, is_answer}
-use Rattle.settle_law.specs.HalfWay.IsMinded.{Gives, Injects, Waits}
-use Rattle.settle_law.specs.Living.{IsServed}
-use Rattle.settle_law.specs.Living.Servant.{Cleans}
+use Rattle.settle_law.specs.inside.HalfWay.{HalfWaysAreMinded, IsHalfWay, IsMinded, is_answer}
+use Rattle.settle_law.specs.inside.HalfWay.IsMinded.{Gives, Injects, Waits}
+use Rattle.settle_law.specs.inside.Living.{IsServed}
+use Rattle.settle_law.specs.inside.Living.Servant.{Cleans}
 use Rattle.settle_law.specs.Suffices.{desk_of}
 use Rattle.settle_law.specs.Well.{GoesWell, goes_well}
 use Rattle.settle_law.proofs.CleanPipe.{open_always, output_left, reply_pipe, start_left}

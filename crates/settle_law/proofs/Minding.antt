@@ -69,10 +69,10 @@ use Rattle.world_law.specs.Inv.{Inv}
 use Rattle.world_law.specs.Standing.{number_at}
 use Rattle.world_law.proofs.Standing.{relies_by}
 use Rattle.world_law.proofs.Tenants.{some_actor}
-use Rattle.settle_law.specs.HalfWay.{IsHalfWay, IsMinded, IsNumber, is_answer}
-use Rattle.settle_law.specs.HalfWay.IsMinded.{Gives, Injects, Waits}
-use Rattle.settle_law.specs.Living.{IsServed}
-use Rattle.settle_law.specs.Living.Servant.{Cleans}
+use Rattle.settle_law.specs.inside.HalfWay.{IsHalfWay, IsMinded, IsNumber, is_answer}
+use Rattle.settle_law.specs.inside.HalfWay.IsMinded.{Gives, Injects, Waits}
+use Rattle.settle_law.specs.inside.Living.{IsServed}
+use Rattle.settle_law.specs.inside.Living.Servant.{Cleans}
 use Rattle.settle_law.specs.Suffices.{desk_of}
 use Rattle.settle_law.specs.Well.{came_well}
 use Rattle.settle_law.proofs.CleanPipe.{IsCalm, IsOpen, Sends, calm_left, pipe_left, reply_pipe}

@@ -38,11 +38,11 @@ use Rattle.scenario.specs.Deeds.{Deed, after, history_of}
 use Rattle.scenario.specs.Turns.{is_search_call}
 use Rattle.world_law.proofs.Ran.{have_run}
 use Rattle.world_law.proofs.Tenants.{some_actor}
-use Rattle.settle_law.specs.Begins.{GoesOn}
-use Rattle.settle_law.specs.HalfWay.{IsHalfWay, IsMinded, NoneIsHalfWay}
-use Rattle.settle_law.specs.HalfWay.IsMinded.{Gives, Injects, Waits}
+use Rattle.settle_law.specs.inside.Begins.{GoesOn}
+use Rattle.settle_law.specs.inside.HalfWay.{IsHalfWay, IsMinded, NoneIsHalfWay}
+use Rattle.settle_law.specs.inside.HalfWay.IsMinded.{Gives, Injects, Waits}
 use Rattle.settle_law.specs.Promised.{OthersWait}
-use Rattle.settle_law.specs.Rests.{BeginsTurn}
+use Rattle.settle_law.specs.inside.Rests.{BeginsTurn}
 use Rattle.settle_law.specs.Suffices.{desk_of}
 use Rattle.settle_law.specs.Well.{GoesWell, goes_well}
 use Rattle.settle_law.proofs.FedSlots.{IsFed, IsFeeding, fed_always}

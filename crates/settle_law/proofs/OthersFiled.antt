@@ -64,7 +64,7 @@ use Rattle.world_law.specs.Crew.{awaits_by, awaits_in as world_awaits, link_in, 
 use Rattle.world_law.specs.Fares.{DeliveryFares}
 use Rattle.world_law.specs.Inv.{Inv}
 use Rattle.settle_law.proofs.FiledCalls.{Keeps, call_keeps, some_of, texts_apart}
-use Rattle.settle_law.specs.Met.{Comes, IsFiled}
+use Rattle.settle_law.specs.inside.Met.{Comes, IsFiled}
 use Rattle.settle_law.specs.Suffices.{desk_of}
 
 some_number : (n k : ℕ) → ◌≡◌ {A = Option ℕ} (Some n) (Some k) → n ≡ k

@@ -75,7 +75,7 @@ use Rattle.settle_law.proofs.FiledCalls.{Keeps, call_keeps, some_of, texts_apart
 use Rattle.settle_law.proofs.InfoTexts.{info_reads}
 use Rattle.settle_law.proofs.Removals.{arrived_removes, removed_gone}
 use Rattle.settle_law.proofs.SenderRows.{comes as comes_there, due, stands}
-use Rattle.settle_law.specs.Met.{IsFiled, IsUpTo, Removes, ScanShows, Shows}
+use Rattle.settle_law.specs.inside.Met.{IsFiled, IsUpTo, Removes, ScanShows, Shows}
 
 -- A text that isn't above another one
 

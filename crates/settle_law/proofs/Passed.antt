@@ -73,7 +73,7 @@ use Rattle.settle_law.proofs.CleanAnswers.{IsPlus}
 use Rattle.settle_law.proofs.SmallNumbers.{numbers_are_small}
 use Rattle.settle_law.proofs.Texts.{todo_texts_are_read}
 use Rattle.settle_law.proofs.TodoAnswers.{todo_answers_are_well}
-use Rattle.settle_law.specs.Passed.{PassesGoOn}
+use Rattle.settle_law.specs.inside.Passed.{PassesGoOn}
 use Rattle.settle_law.specs.Well.{GoesWell, came_well, goes_well, is_well_answered}
 
 -- A pass goes on: it isn't left, nor about to be.

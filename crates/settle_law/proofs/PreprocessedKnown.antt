@@ -31,8 +31,8 @@ use Rattle.settle_law.proofs.FiledCalls.{some_of}
 use Rattle.settle_law.proofs.MetAlways.{all_met}
 use Rattle.settle_law.proofs.Passed.{passes_go_on}
 use Rattle.settle_law.proofs.SmallNumbers.{numbers_are_small}
-use Rattle.settle_law.specs.Met.{Comes, IsFiled, PreprocessedAreKnown}
-use Rattle.settle_law.specs.Rests.{BeginsTurn}
+use Rattle.settle_law.specs.inside.Met.{Comes, IsFiled, PreprocessedAreKnown}
+use Rattle.settle_law.specs.inside.Rests.{BeginsTurn}
 use Rattle.settle_law.specs.Suffices.{desk_of}
 
 -- It has an info file and no todo file

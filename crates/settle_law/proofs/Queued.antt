@@ -6,7 +6,7 @@ use Rattle.queue_paths.specs.Names.Part.{Bounce, Info, Intd, Local, Mess, Remote
 use Rattle.queue_states.specs.declared.state.State.TheVariants.{S4}
 use Rattle.queue_states.specs.States.{state_by, is_there}
 use Rattle.queue_states.proofs.MessageFiles.{is_part}
-use Rattle.settle_law.specs.Queued.{NoneIsQueued}
+use Rattle.settle_law.specs.inside.Queued.{NoneIsQueued}
 
 pub queued : (mess intd todo info local remote bounce : Bool) → state_by mess intd todo info local remote bounce ≡ S4 → todo ≡ true
 queued false false false false false false false e = absurd (cc)

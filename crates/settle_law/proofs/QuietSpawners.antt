@@ -64,7 +64,7 @@ use Rattle.world_law.proofs.PostPipes.{not_spawner}
 use Rattle.world_law.proofs.Ran.{have_run}
 use Rattle.world_law.proofs.Tenants.{some_actor}
 use Rattle.scenario.proofs.Carried.{lives_actor}
-use Rattle.settle_law.specs.Free.{OthersEnd, OthersRunNone}
+use Rattle.settle_law.specs.inside.Free.{OthersEnd, OthersRunNone}
 use Rattle.settle_law.specs.Promised.{OthersWait}
 use Rattle.settle_law.specs.Well.{GoesWell}
 use Rattle.settle_law.proofs.Dropping.{HasDrop, drops_always}

@@ -31,7 +31,7 @@ use Rattle.send_parts.specs.declared.rows.SweepRow.TheVariants as sweep
 use Rattle.todo_pass.specs.declared.row.Row.{Row as PassRow}
 use Rattle.todo_pass.specs.declared.row.Row.TheVariants as todo
 use Rattle.todo_pass.specs.Table.{Pass}
-use Rattle.settle_law.specs.Met.{Removes, Shows}
+use Rattle.settle_law.specs.inside.Met.{Removes, Shows}
 
 -- What the sender waits for tells that
 

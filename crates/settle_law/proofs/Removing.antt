@@ -30,7 +30,7 @@ use Rattle.queue_paths.specs.Names.{path}
 use Rattle.mail_world.specs.History.{ComesOf, State, disk_after}
 use Rattle.world_law.specs.Crew.{link_in, place_in}
 use Rattle.world_pipes.specs.Pipework.{Yields}
-use Rattle.settle_law.specs.HalfWay.{IsHalfWay, IsNumber, is_answer}
+use Rattle.settle_law.specs.inside.HalfWay.{IsHalfWay, IsNumber, is_answer}
 use Rattle.settle_law.specs.Well.{came_well, is_well_answered}
 use Rattle.settle_law.proofs.Injecting.{unlink_none}
 use Rattle.settle_law.proofs.ServedPasts.{by_answer}

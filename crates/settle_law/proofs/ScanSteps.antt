@@ -26,7 +26,7 @@ use Rattle.send_parts.specs.Files.{from_one, is_info, message_number}
 use Rattle.send_parts.specs.Readings.{read_on}
 use Rattle.send_parts.specs.Replies.{Said}
 use Rattle.send_parts.specs.Start.{act_start, by_way, control_read, file_after, greeted_local, greeted_remote, info_read, info_row, judged_by, next_file, remote_stated, scan_next, scan_row, scanned, start_failed}
-use Rattle.settle_law.specs.Met.{Comes, IsUpTo, LiesAhead, ScanComes, ScanShows}
+use Rattle.settle_law.specs.inside.Met.{Comes, IsUpTo, LiesAhead, ScanComes, ScanShows}
 
 -- the number that the text of a number is
 pub number_read : (n : ℕ) → 1 ≤ n → n < 2 ^ 64 → message_number (digits n) ≡ Some n

@@ -59,7 +59,7 @@ use Rattle.mail_world.specs.History.{Actor, ComesOf, Event, MayBear, MayDo, Stat
 use Rattle.mail_world.specs.Untouched.{queue}
 use Rattle.world_law.proofs.Ran.{have_run}
 use Rattle.world_law.specs.Inv.{Inv}
-use Rattle.settle_law.specs.Served.{PastsAreServed}
+use Rattle.settle_law.specs.inside.Served.{PastsAreServed}
 use Rattle.settle_law.specs.Well.{GoesWell, came_well, goes_well, is_well_answered}
 use Rattle.settle_law.proofs.LaneRecords.{marked_records}
 use Rattle.settle_law.proofs.Pasts.{sender_pasts}

@@ -37,7 +37,7 @@ use Rattle.mail_world.specs.History.{Actor, Allowed, ComesOf, Event, Legal, Life
 use Rattle.mail_world.specs.History.Event.{Start, Act, Child, Generation, Report, End, Stop, Moment, Halt}
 use Rattle.mail_world.specs.History.Life.{Over, Stopped}
 use Rattle.mail_world.proofs.Coming.{may_come}
-use Rattle.settle_law.specs.Numbers.{NumbersAreSmall}
+use Rattle.settle_law.specs.inside.Numbers.{NumbersAreSmall}
 use Rattle.settle_law.proofs.Injected.{Links, OfAll, OfOne, happens_of}
 use Rattle.settle_law.specs.Well.{came_well, goes_well, is_well_answered}
 

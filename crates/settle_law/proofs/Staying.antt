@@ -24,7 +24,8 @@ use Rattle.send_parts.specs.declared.rows.Search.{Search}
 use Rattle.send_parts.specs.Files.{message_number}
 use Rattle.send_parts.specs.Replies.{said}
 use Rattle.send_parts.specs.Rows.{is_again}
-use Rattle.settle_law.specs.Rests.{IsAtRest, PassRests, RestsStay}
+use Rattle.settle_law.specs.Rests.{IsAtRest, PassRests}
+use Rattle.settle_law.specs.inside.Rests.{RestsStay}
 use Rattle.settle_law.proofs.IdleTurns.{found_not, idle}
 
 pub record Keeps (d e : Desk) : Type 0 where

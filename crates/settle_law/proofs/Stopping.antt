@@ -24,7 +24,8 @@ use Rattle.scenario.proofs.Carried.{living_in}
 use Rattle.scenario.proofs.Outcomes.{alive_waits}
 use Rattle.scenario.proofs.StepKinds.{HasDone, has_stepped}
 use Rattle.scenario.proofs.StepKinds.HasDone.{Bears, Calls, Feeds, Finishes, Passes}
-use Rattle.settle_law.specs.Ends.{EndsIdle, FindsAll, SettleStops, StopsSo}
+use Rattle.settle_law.specs.Ends.{EndsIdle, FindsAll, StopsSo}
+use Rattle.settle_law.specs.inside.Steps.{SettleStops}
 use Rattle.settle_law.specs.Ends.StopsSo.{Rests, TooLong, TooMany}
 
 -- Who comes next in a turn lives.

@@ -48,11 +48,11 @@ use Rattle.world_law.proofs.Histories.{always}
 use Rattle.world_law.proofs.Leaves.{events_leave}
 use Rattle.world_law.proofs.Ran.{have_run}
 use Rattle.world_law.proofs.Tenants.{some_actor}
-use Rattle.settle_law.specs.Begins.{GoesOn}
-use Rattle.settle_law.specs.Rests.{BeginsTurn}
-use Rattle.settle_law.specs.Strays.{RestsBegin, TodoHasNumbers, TodoIsEmpty, todo_name}
+use Rattle.settle_law.specs.inside.Begins.{GoesOn}
+use Rattle.settle_law.specs.inside.Rests.{BeginsTurn}
+use Rattle.settle_law.specs.inside.Strays.{RestsBegin, TodoHasNumbers}
+use Rattle.settle_law.specs.Well.{TodoIsEmpty, todo_name, GoesWell, goes_well}
 use Rattle.settle_law.specs.Suffices.{desk_of}
-use Rattle.settle_law.specs.Well.{GoesWell, goes_well}
 use Rattle.settle_law.proofs.QuietTurns.{searches_begin}
 use Rattle.settle_law.proofs.SmallNumbers.{numbers_are_small}
 use Rattle.settle_law.proofs.Unqueued.{living_by}

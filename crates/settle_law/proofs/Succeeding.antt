@@ -22,8 +22,8 @@ use Rattle.mail_world.specs.History.Life.{Alive, Over, Stopped}
 use Rattle.world_law.proofs.Tenants.{some_actor}
 use Rattle.world_law.specs.Crew.{IsNamed}
 use Rattle.world_law.specs.Spawned.{spawner_name}
-use Rattle.settle_law.specs.Living.Servant.{Spawns}
-use Rattle.settle_law.specs.Succeeded.{HearsSuccess, IsSuccess, ReportsSucceed}
+use Rattle.settle_law.specs.inside.Living.Servant.{Spawns}
+use Rattle.settle_law.specs.inside.Succeeded.{HearsSuccess, IsSuccess, ReportsSucceed}
 use Rattle.settle_law.specs.Well.{AllSucceed, GoesWell, goes_well, is_spawner, succeeds, tells_success}
 use Rattle.settle_law.proofs.Greeted.{IsTaken}
 use Rattle.settle_law.proofs.Living.{servants_live}

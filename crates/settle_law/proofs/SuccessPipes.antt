@@ -33,7 +33,7 @@ use Rattle.spawner_parts.specs.declared.place.Place.{Place}
 use Rattle.spawner_parts.specs.declared.row.Row.{Row}
 use Rattle.spawner_parts.specs.declared.row.Row.TheVariants as at
 use Rattle.world_law.specs.Spawned.{stands_after}
-use Rattle.settle_law.specs.Succeeded.{IsSuccess}
+use Rattle.settle_law.specs.inside.Succeeded.{IsSuccess}
 use Rattle.settle_law.specs.Well.{tells_success}
 use Rattle.settle_law.proofs.Carried.{IsHeard, Posts, sent_given, sent_posts, served_given, served_posts}
 use Rattle.settle_law.proofs.Flying.{first, first_given}

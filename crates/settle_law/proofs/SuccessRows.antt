@@ -47,7 +47,7 @@ use Rattle.send_parts.specs.declared.rows.SweepRow.TheVariants as sweep
 use Rattle.send_runs.proofs.Kept.{IsStill, kept_row}
 use Rattle.spawn_protocol.specs.Report.{counted, read_on as reports_on}
 use Rattle.spawn_protocol.specs.declared.report.Report.{Report}
-use Rattle.settle_law.specs.Succeeded.{IsSuccess}
+use Rattle.settle_law.specs.inside.Succeeded.{IsSuccess}
 use Rattle.settle_law.proofs.StillFine.{IsAside, IsUnmarked, led_aside}
 use Rattle.settle_law.proofs.SuccessLanes.{HasNoNotes, HasRoom, Keeps, begun_keeps, empty_keeps, ended_keeps, made_keeps, owed_keeps, room_for, room_owed, sent_keeps, untried_by}
 

@@ -25,7 +25,8 @@ use Rattle.retry_law.specs.Retries.{has_file}
 use Rattle.retry_law.specs.Tried.{tried_in}
 use Rattle.mail_world.specs.History.{State}
 use Rattle.settle_law.specs.Settled.{HasUndone, IsTriedLater, WaitsForRetry}
-use Rattle.settle_law.specs.Suffices.{HasRest, IsKnown, RestsSuffice, desk_of}
+use Rattle.settle_law.specs.Suffices.{HasRest, IsKnown, desk_of}
+use Rattle.settle_law.specs.inside.Steps.{RestsSuffice}
 use Rattle.settle_law.proofs.FreeChannels.{rests_free}
 
 -- a message that isn't to be finished, and whose finish wasn't put off, has a channel file

@@ -12,7 +12,7 @@ use Rattle.queue_inject.specs.Texts.{envelope_of, envelope_text, intd_text, limi
 use Rattle.todo_pass.proofs.Todos.{read_if}
 use Rattle.todo_pass.specs.Sorting.{sort_todo, sorted_by}
 use Rattle.todo_pass.specs.Todo.{IsTodo, Todo, read_todo}
-use Rattle.settle_law.specs.Texts.{TodoTextsAreRead}
+use Rattle.settle_law.specs.inside.Texts.{TodoTextsAreRead}
 use Rattle.settle_law.proofs.SystemNumbers.{have_system_numbers}
 
 record IsRead (args : Arguments) : Type 0 where

@@ -62,9 +62,9 @@ use Rattle.world_law.proofs.Histories.{always}
 use Rattle.world_law.proofs.Pipes.{IsAway, away_same, child_away, else_by}
 use Rattle.world_law.proofs.Starts.{is_cleaner}
 use Rattle.world_law.proofs.Tenants.{some_actor}
-use Rattle.settle_law.specs.Cleaned.{TodoAnswersAreWell}
-use Rattle.settle_law.specs.Living.{IsServed}
-use Rattle.settle_law.specs.Living.Servant.{Cleans}
+use Rattle.settle_law.specs.inside.Cleaned.{TodoAnswersAreWell}
+use Rattle.settle_law.specs.inside.Living.{IsServed}
+use Rattle.settle_law.specs.inside.Living.Servant.{Cleans}
 use Rattle.settle_law.specs.Well.{GoesWell, came_well, goes_well, is_well_answered}
 use Rattle.settle_law.proofs.CleanAnswers.{Agrees, IsPlus, SaysNoElse, cleaned_agrees, no_bytes}
 use Rattle.settle_law.proofs.Living.{servants_live}

@@ -21,7 +21,7 @@ use Rattle.queue_paths.specs.Names.{Name, parse, path}
 use Rattle.retry_law.specs.Moments.{IsMomentAt, IsMomentOf, TellsMoments}
 use Rattle.world_events.specs.declared.event.Program.{Program}
 use Rattle.mail_world.specs.History.{ComesOf, Event, State, latest}
-use Rattle.settle_law.specs.Moments.{PastsTellMoments, Rises}
+use Rattle.settle_law.specs.inside.Moments.{PastsTellMoments, Rises}
 use Rattle.settle_law.proofs.InfoMoments.{Bounded, infos_bounded}
 use Rattle.settle_law.proofs.Pasts.{sender_pasts}
 

@@ -80,8 +80,8 @@ use Rattle.settle_law.proofs.OwnLanes.{IsApart, LeavesFiles, files_by, own_files
 use Rattle.settle_law.proofs.SenderRows.{comes as comes_there, due, stands}
 use Rattle.settle_law.proofs.ServedPasts.{by_answer, served}
 use Rattle.settle_law.proofs.TriedKnown.{known_tried, known_tried_stay}
-use Rattle.settle_law.specs.Lefts.{HoldsTried, KeepsTried}
-use Rattle.settle_law.specs.TriedStay.{tried_at}
+use Rattle.settle_law.specs.inside.Lefts.{HoldsTried, KeepsTried}
+use Rattle.settle_law.specs.inside.TriedStay.{tried_at}
 use Rattle.settle_law.specs.Well.{came_well, is_well_answered}
 
 -- it writes no mark

@@ -10,7 +10,7 @@ use Rattle.send_jobs.specs.Jobs.{job_of}
 use Rattle.send_jobs.specs.declared.channels.Channel.{Channel}
 use Rattle.send_runs.specs.Knowing.{known_in}
 use Rattle.settle_law.proofs.TriedStay.{known_before, tried_before}
-use Rattle.settle_law.specs.TriedStay.{tried_at}
+use Rattle.settle_law.specs.inside.TriedStay.{tried_at}
 
 abbrev pub known_tried : List Own → Channel → ℕ → Bool
 known_tried past c n = tried_at past c n && known_in past n

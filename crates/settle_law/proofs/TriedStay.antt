@@ -32,7 +32,7 @@ use Rattle.send_runs.specs.Files.{drops, has_by, has_in, there_in}
 use Rattle.send_runs.specs.Knowing.{known_by, known_in, looked_for}
 use Rattle.send_parts.specs.Steps.{remove_text}
 use Rattle.todo_pass.specs.Table.{command_text}
-use Rattle.settle_law.specs.TriedStay.{TriedStay, tried_at}
+use Rattle.settle_law.specs.inside.TriedStay.{TriedStay, tried_at}
 
 abbrev IsLearning : Shift → Type 0
 IsLearning (Learns moment) = Unit {0}

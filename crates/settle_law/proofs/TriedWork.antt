@@ -80,8 +80,8 @@ use Rattle.mail_world.specs.Untouched.{queue}
 use Rattle.world_law.proofs.Ran.{born_comes}
 use Rattle.world_law.specs.Inv.{Inv}
 use Rattle.retry_law.specs.Tried.{tried_in}
-use Rattle.settle_law.specs.Succeeded.{HearsSuccess, IsSuccess, TriedAreAtWork}
-use Rattle.settle_law.specs.TriedStay.{tried_at}
+use Rattle.settle_law.specs.inside.Succeeded.{HearsSuccess, IsSuccess, TriedAreAtWork}
+use Rattle.settle_law.specs.inside.TriedStay.{tried_at}
 use Rattle.settle_law.specs.Well.{came_well, goes_well, is_well_answered}
 use Rattle.settle_law.proofs.Pasts.{sender_pasts}
 use Rattle.settle_law.proofs.ServedPasts.{at_row, by_answer, comes_at, served, there}

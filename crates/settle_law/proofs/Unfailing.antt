@@ -54,7 +54,7 @@ use Rattle.mail_world.specs.History.{ComesOf, MayBear, MayDo, State, next_of}
 use Rattle.mail_world.specs.Untouched.{queue}
 use Rattle.world_law.proofs.Ran.{have_run}
 use Rattle.world_law.specs.Inv.{Inv}
-use Rattle.settle_law.specs.Finishes.{BouncesEnd, KnownFinishAtOnce}
+use Rattle.settle_law.specs.inside.Finishes.{BouncesEnd, KnownFinishAtOnce}
 use Rattle.settle_law.specs.Well.{came_well, goes_well, is_well_answered}
 use Rattle.settle_law.proofs.BouncesTaken.{bounces_end}
 use Rattle.settle_law.proofs.Pasts.{sender_pasts}

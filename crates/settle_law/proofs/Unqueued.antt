@@ -39,8 +39,9 @@ use Rattle.mail_world.specs.History.Event.{Act}
 use Rattle.mail_world.specs.History.{after as after_events}
 use Rattle.mail_world.specs.Untouched.{queue}
 use Rattle.scenario.specs.Deeds.{Deed, after, history_of}
-use Rattle.settle_law.specs.Queued.{RestsUnqueued}
-use Rattle.settle_law.specs.Rests.{BeginsTurn, IsAtRest}
+use Rattle.settle_law.specs.inside.Queued.{RestsUnqueued}
+use Rattle.settle_law.specs.inside.Rests.{BeginsTurn}
+use Rattle.settle_law.specs.Rests.{IsAtRest}
 use Rattle.settle_law.specs.Suffices.{desk_of}
 use Rattle.settle_law.specs.Well.{GoesWell, came_well, goes_well, is_well_answered}
 use Rattle.settle_law.proofs.Dirs.{same_dirs}

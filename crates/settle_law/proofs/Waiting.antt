@@ -10,7 +10,7 @@ use Rattle.spawner_parts.specs.declared.row.Row.{Row}
 use Rattle.spawner_parts.specs.declared.row.Row.TheVariants as at
 use Rattle.spawner_parts.specs.Asked.{runs_in}
 use Rattle.spawner_parts.specs.Table.{arrive, due_at, ended_by, is_asked, none_runs, resting, row_now, turning}
-use Rattle.settle_law.specs.Waiting.{SpawnersWait}
+use Rattle.settle_law.specs.inside.Waiting.{SpawnersWait}
 
 -- what waits is at the row between two steps
 waits_idle : (row : Row) (asked : ChildData) (p : Place) → due_at asked row p ≡ needs.Wait → row ≡ at.Idle

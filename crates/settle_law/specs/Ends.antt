@@ -1,7 +1,6 @@
 -- How `settle` ends.
 use Rattle.std.specs.Prelude.{◌≡◌, ℕ, List, [], ◌∷◌, ◌++◌, length, true, codes}
 use Rattle.call_fs.specs.Disk.{Disk}
-use Rattle.call_fs.specs.Plan.{Plan}
 use Rattle.call_fs.specs.declared.past.Own.{Own}
 use Rattle.mail_world.specs.Generations.{idled_by}
 use Rattle.mail_world.specs.History.{State}
@@ -11,7 +10,7 @@ use Rattle.scenario.specs.Deeds.{Deed, after}
 use Rattle.scenario.specs.Deeds.Deed.{Came}
 use Rattle.scenario.specs.Steps.{refusal_line}
 use Rattle.scenario.specs.Steps.Refusal.{Rounds, Steps}
-use Rattle.scenario.specs.Turns.{IsSettled, Round, events_in, is_idle, is_search_call, most_rounds}
+use Rattle.scenario.specs.Turns.{Round, events_in, is_idle, is_search_call, most_rounds}
 use Rattle.mail_world.specs.History.Event.{Act}
 
 -- The newest deed, after these, is the sender's search of `todo` that ended an idle turn of it.
@@ -35,7 +34,3 @@ pub data StopsSo (d : Disk) (h : List Deed) (letter : Letter) (rounds : List Rou
   Rests : text ≡ [] → (round : Round) (before : List Round) → rounds ≡ round ∷ before → is_idle d (events_in letter before ++ h) letter round ≡ true
       → (deed : Deed) (older : List Deed) → events_in letter rounds ++ h ≡ deed ∷ older → (ends : EndsIdle d deed older) → FindsAll (after d older) ends.own
       → StopsSo d h letter rounds text
-
-abbrev pub SettleStops : Type 0
-SettleStops = (d : Disk) (h : List Deed) (plan : Plan) (letter : Letter) (rounds : List Round) (text : List ℕ)
-    → IsSettled d h plan letter rounds text → StopsSo d h letter rounds text

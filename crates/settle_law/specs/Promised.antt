@@ -1,5 +1,5 @@
 -- What `settle` promises over a queue in which nothing fails, and of which facts it comes.
-use Rattle.std.specs.Prelude.{◌≡◌, ◌≢◌, ℕ, List, [], ◌∷◌, ◌++◌, true, Some, None, codes}
+use Rattle.std.specs.Prelude.{◌≡◌, ◌≢◌, ℕ, List, [], ◌∷◌, ◌++◌, Some, None, codes}
 use Rattle.address_rules.specs.declared.controls.Controls.{Controls}
 use Rattle.call_fs.specs.Disk.{Disk}
 use Rattle.call_fs.specs.Plan.{Plan}
@@ -10,12 +10,11 @@ use Rattle.mail_world.specs.History.Life.{Alive}
 use Rattle.mail_world.specs.Readiness.{found_in}
 use Rattle.script_words.specs.declared.letter.Letter.{Letter}
 use Rattle.scenario.specs.Deeds.{Deed, after, history_of}
-use Rattle.scenario.specs.Turns.{IsSettled, Round, events_in, is_idle}
+use Rattle.scenario.specs.Turns.{IsSettled, Round, events_in}
 use Rattle.settle_law.specs.Ends.{EndsIdle, FindsAll}
 use Rattle.settle_law.specs.Settled.{AllGone, Settled}
-use Rattle.settle_law.specs.Strays.{TodoIsEmpty}
+use Rattle.settle_law.specs.Well.{TodoIsEmpty, AllSucceed, GoesWell}
 use Rattle.settle_law.specs.Suffices.{HasRest}
-use Rattle.settle_law.specs.Well.{AllSucceed, GoesWell}
 
 -- What is promised
 
@@ -51,20 +50,6 @@ pub record IsRest (controls : Controls) (d : Disk) (deed : Deed) (before : List 
   pub idle : EndsIdle d deed before
   pub finds : FindsAll (after d before) idle.own
   pub others : OthersWait (after d (deed ∷ before))
-
--- After an idle round of `settle` nobody else has anything to do, whatever failed before.
-abbrev pub IdleRoundsRest : Type 0
-IdleRoundsRest = (d : Disk) (h : List Deed) (plan : Plan) (letter : Letter) (round : Round) (before : List Round)
-    → IsSettled d h plan letter (round ∷ before) [] → is_idle d (events_in letter before ++ h) letter round ≡ true
-    → OthersWait (after d (events_in letter (round ∷ before) ++ h))
-
--- Such a rest is settled; and if each report was of a success no message is left.
-abbrev pub RestsAreSettled : Type 0
-RestsAreSettled = (controls : Controls) (d : Disk) (deed : Deed) (before : List Deed) → IsRest controls d deed before → Settled (after d (deed ∷ before))
-
-abbrev pub RestsAreEmpty : Type 0
-RestsAreEmpty = (controls : Controls) (d : Disk) (deed : Deed) (before : List Deed) → IsRest controls d deed before → AllSucceed (history_of (deed ∷ before))
-    → AllGone (after d (deed ∷ before))
 
 -- At each such rest the facts hold of which a settled state comes, by what the sender keeps then.
 abbrev pub RestsHold : Type 0

@@ -21,7 +21,7 @@ use Rattle.retry_law.specs.Retries.{has_file}
 use Rattle.retry_law.specs.Tried.{tried_in}
 use Rattle.mail_world.specs.History.{State}
 use Rattle.settle_law.specs.Rests.{IsAtRest}
-use Rattle.settle_law.specs.Settled.{HasUndone, SettledBy}
+use Rattle.settle_law.specs.Settled.{HasUndone}
 
 -- what a sender that is never told to end keeps after its past
 abbrev pub desk_of : List Own → Desk
@@ -37,7 +37,7 @@ pub record IsDueSo (now : ℕ) (past : List Own) (c : Channel) (k : Known) : Typ
   pub retried : (begun : ℕ) → tried_in c k.n past ≡ Some begun → due ≡ next_retry k.birth begun (skip_of c)
   pub untried : tried_in c k.n past ≡ None → due ≤ now
 
--- That these facts hold at the end of an idle round isn't shown.
+-- Where nothing fails they hold at the end of an idle round of `settle` that ends an idle turn of the sender (`RestsHold`).
 pub record HasRest (s : State) (past : List Own) (ready : Ready) : Type 0 where
   -- each number is in one of the five states, and in none of those between
   pub safe : (n : ℕ) → state_of s.disk n ≢ Other
@@ -58,6 +58,3 @@ pub record HasRest (s : State) (past : List Own) (ready : Ready) : Type 0 where
   pub gone : (k : Known) (c : Channel) → IsKnown past k → has_file c k ≡ false → s.disk.names (path (Of (lane_part c) k.n)) ≡ None
   -- births are the moments of info files
   pub births : (k : Known) (info : ℕ) → IsKnown past k → s.disk.names (path (Of Info k.n)) ≡ Some info → (s.disk.files info).moment ≡ k.birth
-
-abbrev pub RestsSuffice : Type 0
-RestsSuffice = (s : State) (past : List Own) (ready : Ready) → HasRest s past ready → SettledBy s past

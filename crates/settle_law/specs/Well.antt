@@ -1,5 +1,5 @@
--- Histories in which nothing fails, and in which each delivery succeeds.
-use Rattle.std.specs.Prelude.{◌≡◌, ◌<◌, ◌^◌, ℕ, List, ◌∷◌, Bool, true, false, not, ◌&&◌, ◌||◌, ◌==◌, bytes_eq, codes, nat_lt}
+-- Histories in which nothing fails, and in which each delivery succeeds; and disks without a name in `todo`.
+use Rattle.std.specs.Prelude.{◌≡◌, ◌<◌, ◌^◌, ℕ, List, ◌∷◌, ◌++◌, None, Bool, true, false, not, ◌&&◌, ◌||◌, ◌==◌, bytes_eq, codes, nat_lt}
 use Rattle.std.specs.List.{list_all}
 use Rattle.address_rules.specs.declared.controls.Controls.{Controls}
 use Rattle.call_fs.specs.Disk.{Disk}
@@ -11,6 +11,7 @@ use Rattle.call_fs.specs.declared.past.GotData.TheVariants as came
 use Rattle.call_fs.specs.declared.past.NeedData.{NeedData}
 use Rattle.call_fs.specs.declared.past.NeedData.TheVariants as needs
 use Rattle.call_fs.specs.declared.program.Port.TheVariants.{Output}
+use Rattle.queue_law.specs.Cleaners.{IsOnePart}
 use Rattle.program_law.specs.Sender.Control.{AreControls}
 use Rattle.world_events.specs.declared.event.Program.{Program}
 use Rattle.world_events.specs.declared.event.Program.TheVariants.{Injector}
@@ -79,3 +80,13 @@ succeeds other = true
 -- each report that a spawner gave is of a success: also that of a local delivery, which is no event of its own
 abbrev pub AllSucceed : List Event → Type 0
 AllSucceed h = list_all succeeds h ≡ true
+
+-- No name in `todo`
+
+-- a name in the directory `todo`
+abbrev pub todo_name : List ℕ → List ℕ
+todo_name part = codes "todo" ++ 47 ∷ part
+
+-- The directory is empty: an opening disk has no numbers there, but may have other names.
+abbrev pub TodoIsEmpty : Disk → Type 0
+TodoIsEmpty d = (part : List ℕ) → IsOnePart part → d.names (todo_name part) ≡ None

@@ -7,3 +7,5 @@ mod paced_posts;
 mod rows;
 mod senders;
 mod spawners;
+mod told;
+mod told_calls;

@@ -16,6 +16,7 @@ mod injector;
 mod long_messages;
 mod name_disk;
 mod netstring_heads;
+mod paces;
 mod posts;
 mod queue_names;
 mod real_queue;

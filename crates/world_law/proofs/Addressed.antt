@@ -52,24 +52,24 @@ module _ (args : LocalArgs) (plain : HasPlainArgs args) where
 
 module _ (b : Books) (valid : (q : Injection) → IsInjected b q → q.accepted ≡ true → IsValid q.args) (args : LocalArgs) (past : List Own) (plain : HasPlainArgs args) where
   abbrev from : List ℕ
-  from = forward_sender args (told_names past)
+  from = forward_sender args (told_names args.home past)
 
   forward_of : (message : List ℕ) (addresses : List (List ℕ)) → ArePlain addresses → IsForwarded b (net_text (forward_text args message) ++ net_text (envelope from addresses))
       → IsForwardOf b args past message addresses
   forward_of message addresses each h =
       let texts = two_texts h.args.message h.args.envelope (forward_text args message) (envelope from addresses) (sym h.input_is) in
       let fine : IsValid h.args = subst (λ (z : Arguments). IsValid z) h.accepted.3 (valid h.accepted.0 h.accepted.1 h.accepted.4) in
-      let w = addressed h.args from addresses (sender_plain args plain (told_names past)) each texts.1 fine in
+      let w = addressed h.args from addresses (sender_plain args plain (told_names args.home past)) each texts.1 fine in
       record { actor = h.actor; words = h.args; accepted = h.accepted; message_is = texts.0; from = w.0; to = w.1 }
 
-  one_each : (message : List ℕ) (addresses : List (List ℕ)) → ArePlain addresses → HasOne args (injection_to args (told_names past) message addresses) past
+  one_each : (message : List ℕ) (addresses : List (List ℕ)) → ArePlain addresses → HasOne args (injection_to args (told_names args.home past) message addresses) past
       → ((input : List ℕ) → feeds past ≡ input ∷ [] → statuses past ≡ 0 ∷ [] → IsForwarded b input) → IsForwardedTo b args past message addresses
   one_each message [] each one forwarded = tt
   one_each message (address ∷ more) each one forwarded =
       forward_of message (address ∷ more) each (forwarded (net_text (forward_text args message) ++ net_text (envelope from (address ∷ more))) one.1.0 one.1.1)
 
   -- and it is all that was started and given
-  injected_each : (message : List ℕ) (addresses : List (List ℕ)) → ArePlain addresses → HasOne args (injection_to args (told_names past) message addresses) past
+  injected_each : (message : List ℕ) (addresses : List (List ℕ)) → ArePlain addresses → HasOne args (injection_to args (told_names args.home past) message addresses) past
       → ((input : List ℕ) → feeds past ≡ input ∷ [] → statuses past ≡ 0 ∷ [] → IsForwarded b input) → WereInjected b args past message addresses
   unfolding forward_of
   injected_each message [] each one forwarded = one
@@ -83,7 +83,7 @@ module _ (b : Books) (valid : (q : Injection) → IsInjected b q → q.accepted 
         ended = one.1.1;
       }
 
-  one_of : (message : List ℕ) (lines : List Line) → HasOne args (injection_of args (told_names past) message lines) past → HasOne args (injection_to args (told_names past) message (forwards lines)) past
+  one_of : (message : List ℕ) (lines : List Line) → HasOne args (injection_of args (told_names args.home past) message lines) past → HasOne args (injection_to args (told_names args.home past) message (forwards lines)) past
   unfolding injection_of
   one_of message lines h = h
 

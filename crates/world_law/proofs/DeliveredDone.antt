@@ -53,6 +53,7 @@ use Rattle.world_law.specs.Inv.{Inv}
 use Rattle.world_law.specs.Deliveries.{IsCarriedOut}
 use Rattle.world_law.specs.Headline.{EndsWell}
 use Rattle.world_law.specs.inside.Posts.{IsDeliveryFor, PostsStand, WasDone, desk_in, sends_in}
+use Rattle.world_law.proofs.Born.{IsBorn}
 use Rattle.world_law.proofs.Columns.{IsLiving}
 use Rattle.world_law.proofs.Delivered.{routed_there}
 use Rattle.world_law.proofs.DeliveredBooks.{HasDelivered, IsAmongThem, IsSaid, all_channel, all_delivered, call_delivered, said_at, said_heard}
@@ -60,7 +61,7 @@ use Rattle.world_law.proofs.Entered.{given_in, messages_always, took_entered}
 use Rattle.world_law.proofs.EnteredStands.{MessagesStand, sends_on}
 use Rattle.world_law.proofs.Histories.{always}
 use Rattle.world_law.proofs.PostHeard.{link_hears, link_on}
-use Rattle.world_law.proofs.Safe.{inv_is_safe}
+use Rattle.world_law.proofs.Safe.{end_well}
 use Rattle.world_law.proofs.Starts.{no_member}
 use Rattle.world_law.proofs.Tenants.{some_actor}
 use Rattle.mail_world.proofs.Members.{four_other}
@@ -191,11 +192,11 @@ some_injection x y e = cc
 pub took_message : (controls : Controls) (s : State) → Inv controls s → (x : Done) (was : WasDone s x) → (m : List ℕ) × (message_in (taken was.is_for.delivery.past) ≡ Some m)
 took_message controls s I x was =
     let it : EndsWell s.books x.task.name was.is_for.delivery.program was.is_for.delivery.past =
-    (inv_is_safe controls s I).0.ends x.task.name was.is_for.delivery was.is_for.is was.over in
+    end_well controls s I x.task.name was.is_for.delivery was.is_for.is was.over in
     let carried : IsCarriedOut s.books was.is_for.args was.is_for.delivery.past = subst (λ (z : Program). EndsWell s.books x.task.name z was.is_for.delivery.past) was.is_for.program it in
     (carried.carried.message, carried.carried.input)
 
-module _ (controls : Controls) (s : State) (I : Inv controls s) (M : MessagesStand s) (own : Own) (wrote began : ℕ) (past : List Own) (is : s.actors (codes "sender") ≡ Some (sender began past))
+module _ (B : ℕ → List ℕ → Type 0) (controls : Controls) (s : State) (I : Inv controls s) (M : MessagesStand B s) (own : Own) (wrote began : ℕ) (past : List Own) (is : s.actors (codes "sender") ≡ Some (sender began past))
     (due : due_at (row_now (sender_after None past) own.read own.ready) (sender_after None past) ≡ own.due) (comes : ComesOf s (codes "sender") own.due own.came wrote) where
   abbrev P : PostsStand s
   P = M.posts
@@ -227,9 +228,9 @@ module _ (controls : Controls) (s : State) (I : Inv controls s) (M : MessagesSta
         living.2 there r here z.place_is in
         let was = P.was z.it z.among in
         let flies = shown z.it.slot ∙ ap (attempt_in (lane Local d.slots).slots) z.slot_is ∙ z.flies in
-        let given = given_in controls s I M on z.it z.attempt flies ((M.done on).was z.it z.among) in
+        let given = given_in B controls s I M on z.it z.attempt flies ((M.done on).was z.it z.among) in
         let w = took_message controls s I z.it was in
-        let it = took_entered controls s I M on z.it was z.attempt.n given w.0 w.1 in
+        let it = took_entered B controls s I M on z.it was z.attempt.n given w.0 w.1 in
         let same : it.injection ≡ living.0 = some_injection it.injection living.0 (sym it.lives ∙ number) in
         record {
           task = z.it.task;
@@ -262,46 +263,46 @@ abbrev DeliveredStand : Controls → State → Type 0
 DeliveredStand controls s = (of : Arguments) (r : Recipient of) → (spot_of controls of r).channel ≡ Local → HasDelivered s.books of (spot_of controls of r) → IsDoneFor s of (routed controls of r)
 
 -- by whom it is told
-said_by : (controls : Controls) (s : State) (I : Inv controls s) → MessagesStand s → (a : List ℕ) (own : Own) (wrote : ℕ) (program : Program) (past : List Own) (life : Life)
+said_by : (B : ℕ → List ℕ → Type 0) (controls : Controls) (s : State) (I : Inv controls s) → MessagesStand B s → (a : List ℕ) (own : Own) (wrote : ℕ) (program : Program) (past : List Own) (life : Life)
     → life ≡ Alive → IsNamed a program → s.actors a ≡ Some (record { program = program; past = past; life = life })
     → next_of program past own.read own.ready ≡ own.due → ComesOf s a own.due own.came wrote
     → (of : Arguments) (r : Recipient of) → (spot_of controls of r).channel ≡ Local → IsSaidBy program past own.read own.ready own.came s.books of (spot_of controls of r)
     → IsDoneFor s of (routed controls of r)
-said_by controls s I M a own wrote (Sender since) past Alive alive named is due comes of r on said =
-    said_now controls s I M own wrote since past (subst (λ (b : List ℕ). s.actors b ≡ Some (sender since past)) named is) due
+said_by B controls s I M a own wrote (Sender since) past Alive alive named is due comes of r on said =
+    said_now B controls s I M own wrote since past (subst (λ (b : List ℕ). s.actors b ≡ Some (sender since past)) named is) due
     (subst (λ (b : List ℕ). ComesOf s b own.due own.came wrote) named comes) of r said.0 said.2 on said.1
-said_by controls s I M a own wrote (Sender since) past life alive named is due comes of r on said = absurd (cc)
-said_by controls s I M a own wrote program past life alive named is due comes of r on said = absurd said
+said_by B controls s I M a own wrote (Sender since) past life alive named is due comes of r on said = absurd (cc)
+said_by B controls s I M a own wrote program past life alive named is due comes of r on said = absurd said
 
-act_done : (controls : Controls) (s : State) (I : Inv controls s) → MessagesStand s → DeliveredStand controls s → (a : List ℕ) (own : Own) (wrote : ℕ) (may : MayDo s a own wrote)
+act_done : (B : ℕ → List ℕ → Type 0) (controls : Controls) (s : State) (I : Inv controls s) → MessagesStand B s → DeliveredStand controls s → (a : List ℕ) (own : Own) (wrote : ℕ) (may : MayDo s a own wrote)
     → (of : Arguments) (r : Recipient of) → (spot_of controls of r).channel ≡ Local
     → HasDelivered (acted s a own wrote (Some may.actor)).books of (spot_of controls of r) → IsDoneFor s of (routed controls of r)
-act_done controls s I M D a own wrote may of r on h =
+act_done B controls s I M D a own wrote may of r on h =
     let x = may.actor in
     ⊎_elim
     (λ (old : HasDelivered s.books of (spot_of controls of r)). D of r on old)
     (λ (new : IsSaidBy x.program x.past own.read own.ready own.came s.books of (spot_of controls of r)).
-    said_by controls s I M a own wrote x.program x.past x.life may.reads.alive (I.crew a x may.reads.is) may.reads.is may.due may.came of r on new)
+    said_by B controls s I M a own wrote x.program x.past x.life may.reads.alive (I.crew a x may.reads.is) may.reads.is may.due may.came of r on new)
     (books_back (bouncer_of s a) s.books a x.program x.past own.read own.ready own.due own.came of (spot_of controls of r) h)
 
 -- what holds of the state before holds of the one after
-event_done : (e : Event) (controls : Controls) (s : State) (I : Inv controls s) → MessagesStand s → DeliveredStand controls s → Allowed s e → (of : Arguments) (r : Recipient of)
+event_done : (B : ℕ → List ℕ → Type 0) (e : Event) (controls : Controls) (s : State) (I : Inv controls s) → MessagesStand B s → DeliveredStand controls s → Allowed s e → (of : Arguments) (r : Recipient of)
     → (spot_of controls of r).channel ≡ Local → HasDelivered (happens s e).books of (spot_of controls of r) → IsDoneFor s of (routed controls of r)
-event_done (Act a own wrote) controls s I M D may of r on h =
-    act_done controls s I M D a own wrote may of r on (subst (λ (o : Option Actor). HasDelivered (acted s a own wrote o).books of (spot_of controls of r)) may.reads.is h)
-event_done (Child parent own a program) controls s I M D may of r on h =
+event_done B (Act a own wrote) controls s I M D may of r on h =
+    act_done B controls s I M D a own wrote may of r on (subst (λ (o : Option Actor). HasDelivered (acted s a own wrote o).books of (spot_of controls of r)) may.reads.is h)
+event_done B (Child parent own a program) controls s I M D may of r on h =
     let x = may.actor in
     let same : (acted s parent own 0 (Some x)).books ≡ s.books = λ i. books_after (bouncer_of s parent) s.books parent x.program x.past own.read own.ready (may.starts i) own.came in
     let there = subst (λ (o : Option Actor). HasDelivered (acted s parent own 0 o).books of (spot_of controls of r)) may.reads.is h in
     D of r on (subst (λ (b : Books). HasDelivered b of (spot_of controls of r)) same there)
-event_done (Start a program) controls s I M D may of r on h = D of r on h
-event_done (Generation first second third last) controls s I M D may of r on h = D of r on h
-event_done (Report slot output) controls s I M D may of r on h = D of r on h
-event_done (End a read ready status) controls s I M D may of r on h =
+event_done B (Start a program) controls s I M D may of r on h = D of r on h
+event_done B (Generation first second third last) controls s I M D may of r on h = D of r on h
+event_done B (Report slot output) controls s I M D may of r on h = D of r on h
+event_done B (End a read ready status) controls s I M D may of r on h =
     D of r on (subst (λ (o : Option Actor). HasDelivered (finished s a (Over status) o).books of (spot_of controls of r)) may.reads.is h)
-event_done (Stop a) controls s I M D may of r on h = D of r on (subst (λ (o : Option Actor). HasDelivered (finished s a Stopped o).books of (spot_of controls of r)) may.is h)
-event_done (Moment m) controls s I M D may of r on h = D of r on h
-event_done (Halt how contents) controls s I M D may of r on h = D of r on h
+event_done B (Stop a) controls s I M D may of r on h = D of r on (subst (λ (o : Option Actor). HasDelivered (finished s a Stopped o).books of (spot_of controls of r)) may.is h)
+event_done B (Moment m) controls s I M D may of r on h = D of r on h
+event_done B (Halt how contents) controls s I M D may of r on h = D of r on h
 
 delivered_always : (controls : Controls) (d : Disk) (before : List Event) → AreControls controls d → Legal d before → DeliveredStand controls (after d before)
 delivered_always controls d [] has legal of r on h = ⊎_elim
@@ -311,7 +312,7 @@ delivered_always controls d [] has legal of r on h = ⊎_elim
 delivered_always controls d (e ∷ before) has legal of r on h =
     let s = after d before in
     let I = always controls d before has legal.0 in
-    let w = event_done e controls s I (messages_always controls d before has legal.0) (delivered_always controls d before has legal.0) legal.1 of r on h in
+    let w = event_done (IsBorn before) e controls s I (messages_always controls d before has legal.0) (delivered_always controls d before has legal.0) legal.1 of r on h in
     done_keeps e controls s I legal.1 of (routed controls of r) w
 
 pub done_for : (controls : Controls) (d : Disk) (before : List Event) → AreControls controls d → Legal d before → (i : Injection) → IsInjected (after d before).books i

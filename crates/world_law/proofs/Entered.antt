@@ -24,13 +24,15 @@ use Rattle.call_fs.specs.Maps.{put_at}
 use Rattle.call_fs.proofs.Maps.{put_at_other}
 use Rattle.world_events.specs.declared.event.Program.{Program}
 use Rattle.world_events.specs.declared.event.Program.TheVariants.{Cleaner, Delivery, Injector, LocalSpawner, RemoteSpawner, Sender}
-use Rattle.mail_world.specs.History.{Actor, Allowed, Event, IsLocalSpawner, IsSender, Legal, MayDo, State, acted, after, happens, newborn, opening, stopped}
+use Rattle.mail_world.specs.History.{Actor, Allowed, Event, IsLocalSpawner, IsSender, Legal, MayDo, State, acted, after, happens, newborn, opening, slot_by, stopped}
 use Rattle.mail_world.specs.History.Event.{Act, Child, End, Generation, Halt, Moment, Report as Tells, Start, Stop}
 use Rattle.mail_world.specs.History.Life.{Alive}
 use Rattle.world_law.specs.Crew.{IsNamed}
 use Rattle.world_law.specs.Entered.{IsEntered}
 use Rattle.world_law.specs.Inv.{Inv}
+use Rattle.world_law.specs.Started.{Stays}
 use Rattle.world_law.specs.inside.Posts.{PostsStand, View, WasDone, desk_in, place_in, post_of}
+use Rattle.world_law.proofs.Born.{IsBorn, born_now, born_on, neither_sends, others_stay}
 use Rattle.world_law.proofs.EnteredStands.{Begins, FeedsLast, IsGivenFor, MessagesStand, NothingComes, has_message, received, sends_on}
 use Rattle.world_law.proofs.Histories.{always}
 use Rattle.world_law.proofs.EnteredFlights.{one_number}
@@ -76,7 +78,7 @@ given_to s name t (Some r) asks h = record {
   begins = h.begins;
 }
 
-module _ (controls : Controls) (s : State) (I : Inv controls s) (M : MessagesStand s) (on : sends_on s ≡ true) where
+module _ (B : ℕ → List ℕ → Type 0) (controls : Controls) (s : State) (I : Inv controls s) (M : MessagesStand B s) (on : sends_on s ≡ true) where
   abbrev P : PostsStand s
   P = M.posts
 
@@ -96,8 +98,8 @@ module _ (controls : Controls) (s : State) (I : Inv controls s) (M : MessagesSta
 
 -- What is held and given stands after each legal history.
 
-opening_holds : (controls : Controls) (d : Disk) → AreControls controls d → Legal d [] → MessagesStand (opening d)
-opening_holds controls d has legal = record {
+opening_holds : (C : ℕ → List ℕ → Type 0) (controls : Controls) (d : Disk) → AreControls controls d → Legal d [] → MessagesStand C (opening d)
+opening_holds C controls d has legal = record {
   posts = posts_always controls d [] has legal;
   new = newcomers_always controls d [] has legal;
   hold = λ on. absurd (cc);
@@ -108,7 +110,7 @@ none_runs : (k : Task) → ◌≡◌ {A = Option Task} None (Some k) → ⊥
 none_runs k e = cc
 
 -- a generation starts: nothing is at work, and nothing is remembered
-module _ (controls : Controls) (s : State) (I : Inv controls s) (M : MessagesStand s) (first second third last : ℕ) where
+module _ (B C : ℕ → List ℕ → Type 0) (controls : Controls) (s : State) (I : Inv controls s) (M : MessagesStand B s) (first second third last : ℕ) where
   abbrev begun_posts : PostsStand (four_begun controls s I M.posts first second third last)
   begun_posts = record {
     tasks = λ slot. None;
@@ -128,50 +130,60 @@ module _ (controls : Controls) (s : State) (I : Inv controls s) (M : MessagesSta
   greets : let work = (place_in ((four_begun controls s I M.posts first second third last).actors (codes "lspawn"))).work in FeedsLast M.posts.last work.row work
   greets = subst (λ (o : Option Actor). FeedsLast M.posts.last (place_in o).work.row (place_in o).work) (sym (lspawn_is controls s I M.posts first second third last)) tt
 
-  generation_messages : NothingComes (four_begun controls s I M.posts first second third last) → MessagesStand (four_begun controls s I M.posts first second third last)
+  generation_messages : NothingComes (four_begun controls s I M.posts first second third last) → MessagesStand C (four_begun controls s I M.posts first second third last)
   generation_messages N = record {
     posts = begun_posts;
     new = N;
-    hold = λ on goes. record { work = λ has. absurd (idle has); feeds = greets; runs = λ slot t is runs. absurd (cc) };
-    done = λ on. record { was = λ x among. absurd among; gone = λ x among slot runs. absurd among };
+    hold = λ on goes. record { work = λ has. absurd (idle has); feeds = greets; runs = λ slot t is runs. absurd (cc); started = λ slot t is runs. absurd (cc) };
+    done = λ on. record { was = λ x among. absurd among; started = λ x among. absurd among; gone = λ x among slot runs. absurd among };
   }
 
 -- an event of an actor, by its program
-act_messages : (controls : Controls) (s : State) → Inv controls s → MessagesStand s → (a : List ℕ) (own : Own) (wrote : ℕ) → MayDo s a own wrote → Inv controls (happens s (Act a own wrote))
-    → NothingComes (happens s (Act a own wrote)) → MessagesStand (happens s (Act a own wrote))
-act_messages controls s I M a own wrote may =
-    subst (λ (o : Option Actor). Inv controls (acted s a own wrote o) → NothingComes (acted s a own wrote o) → MessagesStand (acted s a own wrote o)) (sym may.reads.is)
+act_messages : (B C : ℕ → List ℕ → Type 0) (controls : Controls) (s : State) → Inv controls s → MessagesStand B s → (a : List ℕ) (own : Own) (wrote : ℕ)
+    → ((slot : ℕ) (name : List ℕ) → Stays slot (Act a own wrote) → B slot name → C slot name) → MayDo s a own wrote → Inv controls (happens s (Act a own wrote))
+    → NothingComes (happens s (Act a own wrote)) → MessagesStand C (happens s (Act a own wrote))
+act_messages B C controls s I M a own wrote carry may =
+    subst (λ (o : Option Actor). Inv controls (acted s a own wrote o) → NothingComes (acted s a own wrote o) → MessagesStand C (acted s a own wrote o)) (sym may.reads.is)
     (by_kind may.actor.program refl)
   where
-    neither : IsNeither may.actor.program → NothingComes (acted s a own wrote (Some may.actor)) → MessagesStand (acted s a own wrote (Some may.actor))
-    neither it N = neither_messages controls s I M a own wrote may it N
+    carried : (IsSender may.actor.program → ⊥) → (slot : ℕ) (name : List ℕ) → B slot name → C slot name
+    carried apart slot name = carry slot name (others_stay may.actor.program apart may.actor.past own wrote a slot may.due)
+
+    neither : IsNeither may.actor.program → NothingComes (acted s a own wrote (Some may.actor)) → MessagesStand C (acted s a own wrote (Some may.actor))
+    neither it N = neither_messages B C (carried (neither_sends may.actor.program it)) controls s I M a own wrote may it N
 
     by_kind : (program : Program) → may.actor.program ≡ program → Inv controls (acted s a own wrote (Some may.actor)) → NothingComes (acted s a own wrote (Some may.actor))
-        → MessagesStand (acted s a own wrote (Some may.actor))
+        → MessagesStand C (acted s a own wrote (Some may.actor))
     by_kind (Sender began) e J N =
-        sender_messages controls s I a own wrote may.actor may.reads.is may.reads.alive (subst IsSender (sym e) tt) may.reads.no_later may.due may.came
-        (acts_held controls s I M a own wrote may (λ same. names_apart (codes "lspawn") (codes "sender") refl (same ∙ subst (IsNamed a) e (I.crew a may.actor may.reads.is)))) M N
+        sender_messages B C controls s I a own wrote may.actor may.reads.is may.reads.alive (subst IsSender (sym e) tt) may.reads.no_later may.due may.came carry
+        (acts_held B controls s I M a own wrote may (λ same. names_apart (codes "lspawn") (codes "sender") refl (same ∙ subst (IsNamed a) e (I.crew a may.actor may.reads.is)))) M N
     by_kind (LocalSpawner began) e J N =
-        spawner_messages controls s I a own wrote may.actor may.reads.is may.reads.alive (subst IsLocalSpawner (sym e) tt) may.due may.came M J N
+        spawner_messages B C (carried (λ sends. subst IsSender e sends)) controls s I a own wrote may.actor may.reads.is may.reads.alive (subst IsLocalSpawner (sym e) tt) may.due may.came M J N
     by_kind (Injector args) e J N = neither (subst IsNeither (sym e) tt) N
     by_kind (Cleaner began) e J N = neither (subst IsNeither (sym e) tt) N
     by_kind (RemoteSpawner began) e J N = neither (subst IsNeither (sym e) tt) N
     by_kind (Delivery began args) e J N = neither (subst IsNeither (sym e) tt) N
 
-messages_keep : (e : Event) (controls : Controls) (s : State) → HaveRun s.actors → Inv controls s → Inv controls (happens s e) → NothingComes (happens s e)
-    → MessagesStand s → Allowed s e → MessagesStand (happens s e)
-messages_keep (Moment m) controls s R I J N M may = messages_left s (happens s (Moment m)) (record { view = refl; keeps = λ a x is. (x, is, refl, λ h. h); homes = λ a x is. refl; slots = λ d. refl })
+-- whom the local spawner starts with an event
+abbrev IsBegun : (ℕ → List ℕ → Type 0) → Event → Type 0
+IsBegun C (Child parent own a program) = parent ≡ codes "lspawn" → C (slot_by own.due) a
+IsBegun C e = Unit {0}
+
+messages_keep : (B C : ℕ → List ℕ → Type 0) (e : Event) → ((slot : ℕ) (name : List ℕ) → Stays slot e → B slot name → C slot name) → IsBegun C e
+    → (controls : Controls) (s : State) → HaveRun s.actors → Inv controls s → Inv controls (happens s e) → NothingComes (happens s e)
+    → MessagesStand B s → Allowed s e → MessagesStand C (happens s e)
+messages_keep B C (Moment m) carry begun controls s R I J N M may = messages_left B C (λ slot name. carry slot name tt) s (happens s (Moment m)) (record { view = refl; keeps = λ a x is. (x, is, refl, λ h. h); homes = λ a x is. refl; slots = λ d. refl })
     (λ on n m flies h. record { injection = h.injection; lives = h.lives; accepted = h.accepted; text = h.text }) (λ goes fd how h. record { opened = h.opened; held = h.held })
     (λ k it y there. ap (λ (z : Actor). received s k.name z) (some_actor y it.delivery (sym there ∙ it.is))) M N
-messages_keep (Tells slot output) controls s R I J N M may =
-    messages_left s (happens s (Tells slot output)) (record { view = refl; keeps = λ a x is. (x, is, refl, λ h. h); homes = λ a x is. refl; slots = λ d. refl })
+messages_keep B C (Tells slot output) carry begun controls s R I J N M may =
+    messages_left B C (λ n name. carry n name tt) s (happens s (Tells slot output)) (record { view = refl; keeps = λ a x is. (x, is, refl, λ h. h); homes = λ a x is. refl; slots = λ d. refl })
     (λ on n m flies h. record { injection = h.injection; lives = h.lives; accepted = h.accepted; text = h.text }) (λ goes fd how h. record { opened = h.opened; held = h.held })
     (λ k it y there.
     ap (λ (z : Actor). taken z.past ++ ((happens s (Tells slot output)).pipework.pipes k.name port.Input).bytes) (some_actor y it.delivery (sym there ∙ it.is))
     ∙ ap (λ (p : Pipe). taken it.delivery.past ++ p.bytes)
     (away_same s.pipework.pipes (Some (mouth (codes "rspawn") (port.Program slot))) (λ pipe. closed (given output pipe)) k.name port.Input refl))
     M N
-messages_keep (Start a (Injector args)) controls s R I J N M may = messages_left s (happens s (Start a (Injector args)))
+messages_keep B C (Start a (Injector args)) carry begun controls s R I J N M may = messages_left B C (λ slot name. carry slot name tt) s (happens s (Start a (Injector args)))
     (record {
       view = view_same s.actors (put_at s.actors a (Some (newborn (Injector args)))) s.pipework s.pipework (put_seen halves s.actors a (newborn (Injector args)) (codes "sender") seen)
           (put_seen halves s.actors a (newborn (Injector args)) (codes "lspawn") seen) refl refl;
@@ -190,8 +202,8 @@ messages_keep (Start a (Injector args)) controls s R I J N M may = messages_left
 
     apart : (name : List ℕ) (x : Actor) → s.actors name ≡ Some x → name ≢ a
     apart name x is same = let both : ◌≡◌ {A = Option Actor} None (Some x) = sym may.new ∙ ap s.actors (sym same) ∙ is in absurd (cc)
-messages_keep (Start a program) controls s R I J N M may = absurd may.runs
-messages_keep (Halt how contents) controls s R I J N M may = record {
+messages_keep B C (Start a program) carry begun controls s R I J N M may = absurd may.runs
+messages_keep B C (Halt how contents) carry begun controls s R I J N M may = record {
   posts = halts_stand s M.posts how contents;
   new = N;
   hold = λ on. absurd (off on);
@@ -202,26 +214,39 @@ messages_keep (Halt how contents) controls s R I J N M may = record {
     off on =
         let none : true ≡ false = sym on ∙ ap (λ (b : Bool). b && is_on (desk_in (option_map stopped (s.actors (codes "sender")))).row) (sends_halted (s.actors (codes "sender"))) in
         absurd (cc)
-messages_keep (Generation sender clean lspawn rspawn) controls s R I J N M may =
+messages_keep B C (Generation sender clean lspawn rspawn) carry begun controls s R I J N M may =
     let one = is_sender sender may.kinds.0 in
     let two = is_cleaner clean may.kinds.1 in
     let three = is_local lspawn may.kinds.2 in
     let four = is_remote rspawn may.kinds.3 in
-    subst (λ (p : Program). NothingComes (happens s (Generation p clean lspawn rspawn)) → MessagesStand (happens s (Generation p clean lspawn rspawn))) (sym one.1)
-    (subst (λ (p : Program). NothingComes (happens s (Generation (Sender one.0) p lspawn rspawn)) → MessagesStand (happens s (Generation (Sender one.0) p lspawn rspawn))) (sym two.1)
-    (subst (λ (p : Program). NothingComes (happens s (Generation (Sender one.0) (Cleaner two.0) p rspawn)) → MessagesStand (happens s (Generation (Sender one.0) (Cleaner two.0) p rspawn)))
+    subst (λ (p : Program). NothingComes (happens s (Generation p clean lspawn rspawn)) → MessagesStand C (happens s (Generation p clean lspawn rspawn))) (sym one.1)
+    (subst (λ (p : Program). NothingComes (happens s (Generation (Sender one.0) p lspawn rspawn)) → MessagesStand C (happens s (Generation (Sender one.0) p lspawn rspawn))) (sym two.1)
+    (subst (λ (p : Program). NothingComes (happens s (Generation (Sender one.0) (Cleaner two.0) p rspawn)) → MessagesStand C (happens s (Generation (Sender one.0) (Cleaner two.0) p rspawn)))
     (sym three.1)
     (subst (λ (p : Program). NothingComes (happens s (Generation (Sender one.0) (Cleaner two.0) (LocalSpawner three.0) p))
-    → MessagesStand (happens s (Generation (Sender one.0) (Cleaner two.0) (LocalSpawner three.0) p))) (sym four.1)
-    (generation_messages controls s I M one.0 two.0 three.0 four.0)))) N
-messages_keep (Act a own wrote) controls s R I J N M may = act_messages controls s I M a own wrote may J N
-messages_keep (End a read ready status) controls s R I J N M may = end_messages controls s I M a read ready status may N
-messages_keep (Stop a) controls s R I J N M may = stop_messages controls s I M a may N
-messages_keep (Child parent own a program) controls s R I J N M may = child_messages controls s I M R parent own a program may J N
+    → MessagesStand C (happens s (Generation (Sender one.0) (Cleaner two.0) (LocalSpawner three.0) p))) (sym four.1)
+    (generation_messages B C controls s I M one.0 two.0 three.0 four.0)))) N
+messages_keep B C (Act a own wrote) carry begun controls s R I J N M may = act_messages B C controls s I M a own wrote carry may J N
+messages_keep B C (End a read ready status) carry begun controls s R I J N M may = end_messages B C (λ slot name. carry slot name tt) controls s I M a read ready status may N
+messages_keep B C (Stop a) carry begun controls s R I J N M may = stop_messages B C (λ slot name. carry slot name tt) controls s I M a may N
+messages_keep B C (Child parent own a program) carry begun controls s R I J N M may = child_messages B C (λ slot name. carry slot name tt) controls s I M R parent own a program may begun J N
 
-pub messages_always : (controls : Controls) (d : Disk) (before : List Event) → AreControls controls d → Legal d before → MessagesStand (after d before)
-messages_always controls d [] has legal = opening_holds controls d has legal
+-- the newest event is the start of whom the local spawner starts with it
+begun_now : (before : List Event) (e : Event) → IsBegun (IsBorn (e ∷ before)) e
+begun_now before (Child parent own a program) = λ same. born_now before parent same own a program
+begun_now before (Start a program) = tt
+begun_now before (Act a own wrote) = tt
+begun_now before (Generation sender clean lspawn rspawn) = tt
+begun_now before (Tells slot output) = tt
+begun_now before (End a read ready status) = tt
+begun_now before (Stop a) = tt
+begun_now before (Moment m) = tt
+begun_now before (Halt how contents) = tt
+
+pub messages_always : (controls : Controls) (d : Disk) (before : List Event) → AreControls controls d → Legal d before → MessagesStand (IsBorn before) (after d before)
+messages_always controls d [] has legal = opening_holds (IsBorn []) controls d has legal
 messages_always controls d (e ∷ before) has legal =
-    messages_keep e controls (after d before) (have_run d before legal.0) (always controls d before has legal.0) (always controls d (e ∷ before) has legal)
+    messages_keep (IsBorn before) (IsBorn (e ∷ before)) e (λ slot name stays born. born_on before e slot name stays born) (begun_now before e)
+    controls (after d before) (have_run d before legal.0) (always controls d before has legal.0) (always controls d (e ∷ before) has legal)
     (newcomers_always controls d (e ∷ before) has legal)
     (messages_always controls d before has legal.0) legal.1

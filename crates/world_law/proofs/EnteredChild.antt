@@ -89,9 +89,11 @@ starts_now row w ready e = e
 
 -- The local spawner starts a delivery
 
-module _ (controls : Controls) (s : State) (I : Inv controls s) (M : MessagesStand s) (own : Own) (began : ℕ) (past : List Own) (is : s.actors (codes "lspawn") ≡ Some (spawner began past))
+module _ (B C : ℕ → List ℕ → Type 0) (carry : (slot : ℕ) (name : List ℕ) → B slot name → C slot name)
+    (controls : Controls) (s : State) (I : Inv controls s) (M : MessagesStand B s) (own : Own) (began : ℕ) (past : List Own) (is : s.actors (codes "lspawn") ≡ Some (spawner began past))
     (due : due_by (place_after past) own.ready ≡ own.due) (slot : ℕ) (words : DeliveryWordsData) (uid pid : ℕ) (starts : own.due ≡ needs.Start (child.Local slot words uid)) (came : own.came ≡ got.Started pid)
-    (a : List ℕ) (new : s.actors a ≡ None) (start : ℕ) (ran : IsRunBy (Next tt) past) (comes : MayCome own.due own.came) where
+    (a : List ℕ) (new : s.actors a ≡ None) (start : ℕ) (ran : IsRunBy (Next tt) past) (comes : MayCome own.due own.came)
+    (born_now : C (slot_by own.due) a) where
   abbrev name : List ℕ
   name = codes "lspawn"
 
@@ -228,7 +230,7 @@ module _ (controls : Controls) (s : State) (I : Inv controls s) (M : MessagesSta
       let at_feed : KnownAt work_at.Feed fed counts.owed counts.dealt = subst (λ (w : Work). KnownAt w.row w counts.owed counts.dealt) moved_is counts.at in
       at_feed.1
 
-  module _ (J : Inv controls t) (h : MessagesHold s P) where
+  module _ (J : Inv controls t) (h : MessagesHold B s P) where
     message : HoldsMessage s P.tasks p.work
     message = subst (λ (o : Option Actor). HoldsMessage s P.tasks (place_in o).work) is
         (h.work (ap (λ (o : Option Actor). has_message (place_in o).work.row) is ∙ ap has_message row_is))
@@ -285,16 +287,26 @@ module _ (controls : Controls) (s : State) (I : Inv controls s) (M : MessagesSta
         given_then k d (P.run d k was).is_for (h.runs d k was (runs_before d c.0 runs)))
         (put_cases P.tasks slot (Some (task_of a words)) d)
 
-    hold_then : MessagesHold t posts
+    started_then : (d : ℕ) (k : Task) → tasks d ≡ Some k → runs_in (place_in (t.actors name)).work.running d ≡ true → C d k.name
+    started_then d k there runs = ⊎_elim
+        (λ (c : (d ≡ slot) × (tasks d ≡ Some (task_of a words))).
+        let both : ◌≡◌ {A = Option Task} (Some (task_of a words)) (Some k) = sym c.1 ∙ there in
+        let same : task_of a words ≡ k = cc in
+        subst (λ (z : Task). C d z.name) same (subst (λ (n : ℕ). C n a) (ap slot_by starts ∙ sym c.0) born_now))
+        (λ (c : (d ≢ slot) × (tasks d ≡ P.tasks d)). carry d k.name (h.started d k (sym c.1 ∙ there) (runs_before d c.0 runs)))
+        (put_cases P.tasks slot (Some (task_of a words)) d)
+
+    hold_then : MessagesHold C t posts
     unfolding spawner_starts
     hold_then = record {
       work = λ has. subst (λ (w : Work). HoldsMessage t tasks w) (sym work_is) work_then;
       feeds = subst (λ (w : Work). FeedsLast P.last w.row w) (sym work_is) (runs_now, last_is);
       runs = runs_then;
+      started = started_then;
     }
 
   -- none of those that ended runs, and the new one hasn't ended
-  not_run : DoneHold s P → (x : Done) → Among x P.done → (d : ℕ) → t.pipework.programs name d ≡ Some (Runs x.task.name) → (b : Bool) → (d == slot) ≡ b → ⊥
+  not_run : DoneHold B s P → (x : Done) → Among x P.done → (d : ℕ) → t.pipework.programs name d ≡ Some (Runs x.task.name) → (b : Bool) → (d == slot) ≡ b → ⊥
   not_run h x among d runs true e =
       let both : ◌≡◌ {A = Option Tenant} (Some (Runs a)) (Some (Runs x.task.name)) =
       sym (runs_by controls s I P own 0 began past is due slot words uid pid starts came a new start d true e) ∙ runs in
@@ -306,14 +318,15 @@ module _ (controls : Controls) (s : State) (I : Inv controls s) (M : MessagesSta
       (sym (runs_by controls s I P own 0 began past is due slot words uid pid starts came a new start d false e ∙ beside_is controls s I P own 0 began past is due slot words uid pid starts came a new start d)
       ∙ runs)
 
-  done_then : DoneHold s P → DoneHold t posts
+  done_then : DoneHold B s P → DoneHold C t posts
   unfolding spawner_starts
   done_then h = record {
     was = λ x among. given_then x.task x.slot (P.was x among).is_for (h.was x among);
+    started = λ x among. carry x.slot x.task.name (h.started x among);
     gone = λ x among d runs. not_run h x among d runs (d == slot) refl;
   }
 
-  delivery_starts : Inv controls t → NothingComes t → MessagesStand t
+  delivery_starts : Inv controls t → NothingComes t → MessagesStand C t
   delivery_starts J N = record {
     posts = posts;
     new = N;
@@ -321,28 +334,29 @@ module _ (controls : Controls) (s : State) (I : Inv controls s) (M : MessagesSta
     done = λ on. done_then (M.done (on_before on));
   }
 
-by_local : (controls : Controls) (s : State) (I : Inv controls s) → MessagesStand s → (parent : List ℕ) (program : Program) (past : List Own) (life : Life) (own : Own) → IsLocalSpawner program
+by_local : (B C : ℕ → List ℕ → Type 0) → ((slot : ℕ) (name : List ℕ) → B slot name → C slot name) → (controls : Controls) (s : State) (I : Inv controls s) → MessagesStand B s → (parent : List ℕ) (program : Program) (past : List Own) (life : Life) (own : Own) → IsLocalSpawner program
     → IsNamed parent program → life ≡ Alive → s.actors parent ≡ Some (record { program = program; past = past; life = life }) → next_of program past own.read own.ready ≡ own.due
     → IsRunBy (next_of program) past → MayCome own.due own.came → (asked : ChildData) → own.due ≡ needs.Start asked → (pid : ℕ) → own.came ≡ got.Started pid → (a : List ℕ) → s.actors a ≡ None
-    → (borne : Program) → IsProgramOf asked pid borne
-    → let t = bears (acted s parent own 0 (Some (record { program = program; past = past; life = life }))) parent own a borne in Inv controls t → NothingComes t → MessagesStand t
-by_local controls s I M parent (LocalSpawner began) past Alive own it named alive is due ran comes asked starts pid came a new borne runs =
+    → (borne : Program) → IsProgramOf asked pid borne → C (slot_by own.due) a
+    → let t = bears (acted s parent own 0 (Some (record { program = program; past = past; life = life }))) parent own a borne in Inv controls t → NothingComes t → MessagesStand C t
+by_local B C carry controls s I M parent (LocalSpawner began) past Alive own it named alive is due ran comes asked starts pid came a new borne runs born_now =
     let due_is : IsLocalDue (needs.Start asked) = subst IsLocalDue (due ∙ starts) (local_due (place_after past).row own.ready (place_after past)) in
     let w = local_asked asked due_is in
     let d = delivery_is w.0 w.1 w.2 pid borne (subst (λ (c : ChildData). IsProgramOf c pid borne) w.3 runs) in
     subst (λ (b : List ℕ). Inv controls (bears (acted s b own 0 (Some (spawner began past))) b own a borne) → NothingComes (bears (acted s b own 0 (Some (spawner began past))) b own a borne)
-    → MessagesStand (bears (acted s b own 0 (Some (spawner began past))) b own a borne)) (sym named)
+    → MessagesStand C (bears (acted s b own 0 (Some (spawner began past))) b own a borne)) (sym named)
     (subst (λ (z : Program). Inv controls (bears (acted s (codes "lspawn") own 0 (Some (spawner began past))) (codes "lspawn") own a z)
     → NothingComes (bears (acted s (codes "lspawn") own 0 (Some (spawner began past))) (codes "lspawn") own a z)
-    → MessagesStand (bears (acted s (codes "lspawn") own 0 (Some (spawner began past))) (codes "lspawn") own a z)) (sym d.1)
-    (delivery_starts controls s I M own began past (subst (λ (b : List ℕ). s.actors b ≡ Some (spawner began past)) named is) due
-    w.0 w.1 w.2 pid (starts ∙ ap needs.Start w.3) came a new d.0 ran comes))
-by_local controls s I M parent (LocalSpawner began) past life own it named alive is due ran comes asked starts pid came a new borne runs = absurd (cc)
-by_local controls s I M parent other past life own it named alive is due ran comes asked starts pid came a new borne runs = absurd it
+    → MessagesStand C (bears (acted s (codes "lspawn") own 0 (Some (spawner began past))) (codes "lspawn") own a z)) (sym d.1)
+    (delivery_starts B C carry controls s I M own began past (subst (λ (b : List ℕ). s.actors b ≡ Some (spawner began past)) named is) due
+    w.0 w.1 w.2 pid (starts ∙ ap needs.Start w.3) came a new d.0 ran comes born_now))
+by_local B C carry controls s I M parent (LocalSpawner began) past life own it named alive is due ran comes asked starts pid came a new borne runs born_now = absurd (cc)
+by_local B C carry controls s I M parent other past life own it named alive is due ran comes asked starts pid came a new borne runs born_now = absurd it
 
 -- By the program that starts it
 
-module _ (controls : Controls) (s : State) (I : Inv controls s) (M : MessagesStand s) (parent : List ℕ) (own : Own) (a : List ℕ) (program : Program) (may : MayBear s parent own a program) where
+module _ (B C : ℕ → List ℕ → Type 0) (carry : (slot : ℕ) (name : List ℕ) → B slot name → C slot name)
+    (controls : Controls) (s : State) (I : Inv controls s) (M : MessagesStand B s) (parent : List ℕ) (own : Own) (a : List ℕ) (program : Program) (may : MayBear s parent own a program) where
   abbrev x : Actor
   x = may.actor
 
@@ -364,41 +378,42 @@ module _ (controls : Controls) (s : State) (I : Inv controls s) (M : MessagesSta
   nothing_comes : NothingComes moved_state
   nothing_comes = acts controls s I M.new parent own 0 x
 
-  then_borne : MessagesStand moved_state → parent ≢ codes "lspawn" → NothingComes borne_state → MessagesStand borne_state
+  then_borne : MessagesStand C moved_state → parent ≢ codes "lspawn" → NothingComes borne_state → MessagesStand C borne_state
   then_borne Q apart N =
       let unborn = still_new controls s I M.posts parent own a program may in
-      messages_left moved_state borne_state (bears_leaves moved_state parent apart own a program (child_neither may.asked may.pid program may.is) unborn)
+      messages_left C C (λ slot b born. born) moved_state borne_state (bears_leaves moved_state parent apart own a program (child_neither may.asked may.pid program may.is) unborn)
       (λ on n m flies h. record { injection = h.injection; lives = h.lives; accepted = h.accepted; text = h.text }) (λ goes fd how h. record { opened = h.opened; held = h.held })
       (received_bears moved_state parent own a program unborn) Q N
 
-  by_neither : IsNeither x.program → parent ≢ codes "lspawn" → NothingComes borne_state → MessagesStand borne_state
+  by_neither : IsNeither x.program → parent ≢ codes "lspawn" → NothingComes borne_state → MessagesStand C borne_state
   by_neither it apart =
       then_borne
-      (neither_moves controls s I M parent own 0 x may.reads.is it may.due (λ on n m flies. none_entered n m) (λ off. none_held)
+      (neither_moves B C carry controls s I M parent own 0 x may.reads.is it may.due (λ on n m flies. none_entered n m) (λ off. none_held)
       (λ runs. subst (λ (n : NeedData). InputYields (s.pipework.pipes parent port.Input) n own.came) (sym may.starts) tt) nothing_comes)
       apart
 
-  bears_by : (z : Program) → x.program ≡ z → IsNamed parent z → HasRun x → Inv controls borne_state → NothingComes borne_state → MessagesStand borne_state
-  bears_by (Sender began) e named ran J N =
+  bears_by : (z : Program) → x.program ≡ z → IsNamed parent z → HasRun x → (parent ≡ codes "lspawn" → C (slot_by own.due) a) → Inv controls borne_state → NothingComes borne_state → MessagesStand C borne_state
+  bears_by (Sender began) e named ran born J N =
       then_borne
-      (sender_moves_messages controls s I parent own 0 x may.reads.is may.reads.alive (subst IsSender (sym e) tt) may.reads.no_later may.due (born_comes s parent own a program may)
-      (λ taken. let both : needs.Start may.asked ≡ needs.Take port.Lspawn = sym may.starts ∙ taken in absurd (cc)) none_held M nothing_comes)
+      (sender_moves_messages B C controls s I parent own 0 x may.reads.is may.reads.alive (subst IsSender (sym e) tt) may.reads.no_later may.due (born_comes s parent own a program may)
+      (λ taken. let both : needs.Start may.asked ≡ needs.Take port.Lspawn = sym may.starts ∙ taken in absurd (cc)) (λ slot b apart. carry slot b) none_held M nothing_comes)
       (λ same. names_apart (codes "sender") (codes "lspawn") refl (sym named ∙ same)) N
-  bears_by (LocalSpawner began) e named ran J N =
-      by_local controls s I M parent x.program x.past x.life own (subst IsLocalSpawner (sym e) tt) (subst (IsNamed parent) (sym e) named) may.reads.alive may.reads.is may.due ran
-      (born_comes s parent own a program may) may.asked may.starts may.pid may.came a may.new program may.is J N
-  bears_by (Injector args) e named ran J N =
+  bears_by (LocalSpawner began) e named ran born J N =
+      by_local B C carry controls s I M parent x.program x.past x.life own (subst IsLocalSpawner (sym e) tt) (subst (IsNamed parent) (sym e) named) may.reads.alive may.reads.is may.due ran
+      (born_comes s parent own a program may) may.asked may.starts may.pid may.came a may.new program may.is (born named) J N
+  bears_by (Injector args) e named ran born J N =
       let due : next_of (Injector args) x.past own.read own.ready ≡ needs.Start may.asked = subst (λ (p : Program). next_of p x.past own.read own.ready ≡ needs.Start may.asked) e (may.due ∙ may.starts) in
       let none : ⊥ = subst IsAlone due (next_alone args x.past own.read own.ready) in
       absurd none
-  bears_by (Cleaner began) e named ran J N = by_neither (subst IsNeither (sym e) tt) (λ same. names_apart (codes "clean") (codes "lspawn") refl (sym named ∙ same)) N
-  bears_by (RemoteSpawner began) e named ran J N = by_neither (subst IsNeither (sym e) tt) (λ same. names_apart (codes "rspawn") (codes "lspawn") refl (sym named ∙ same)) N
-  bears_by (Delivery began args) e named ran J N = by_neither (subst IsNeither (sym e) tt)
+  bears_by (Cleaner began) e named ran born J N = by_neither (subst IsNeither (sym e) tt) (λ same. names_apart (codes "clean") (codes "lspawn") refl (sym named ∙ same)) N
+  bears_by (RemoteSpawner began) e named ran born J N = by_neither (subst IsNeither (sym e) tt) (λ same. names_apart (codes "rspawn") (codes "lspawn") refl (sym named ∙ same)) N
+  bears_by (Delivery began args) e named ran born J N = by_neither (subst IsNeither (sym e) tt)
       (λ same. named (subst (λ (n : List ℕ). Contains members n) (sym same) (member_contained (codes "lspawn") refl))) N
 
-pub child_messages : (controls : Controls) (s : State) → Inv controls s → MessagesStand s → HaveRun s.actors → (parent : List ℕ) (own : Own) (a : List ℕ) (program : Program) → MayBear s parent own a program
-    → Inv controls (happens s (Child parent own a program)) → NothingComes (happens s (Child parent own a program)) → MessagesStand (happens s (Child parent own a program))
-child_messages controls s I M R parent own a program may =
+pub child_messages : (B C : ℕ → List ℕ → Type 0) → ((slot : ℕ) (name : List ℕ) → B slot name → C slot name) → (controls : Controls) (s : State) → Inv controls s → MessagesStand B s → HaveRun s.actors → (parent : List ℕ) (own : Own) (a : List ℕ) (program : Program) → MayBear s parent own a program
+    → (parent ≡ codes "lspawn" → C (slot_by own.due) a)
+    → Inv controls (happens s (Child parent own a program)) → NothingComes (happens s (Child parent own a program)) → MessagesStand C (happens s (Child parent own a program))
+child_messages B C carry controls s I M R parent own a program may born =
     subst (λ (o : Option Actor). Inv controls (bears (acted s parent own 0 o) parent own a program) → NothingComes (bears (acted s parent own 0 o) parent own a program)
-    → MessagesStand (bears (acted s parent own 0 o) parent own a program)) (sym may.reads.is)
-    (bears_by controls s I M parent own a program may may.actor.program refl (I.crew parent may.actor may.reads.is) (R parent may.actor may.reads.is))
+    → MessagesStand C (bears (acted s parent own 0 o) parent own a program)) (sym may.reads.is)
+    (bears_by B C carry controls s I M parent own a program may may.actor.program refl (I.crew parent may.actor may.reads.is) (R parent may.actor may.reads.is) born)

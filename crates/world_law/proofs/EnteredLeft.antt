@@ -18,8 +18,9 @@ use Rattle.world_law.proofs.EnteredKept.{KeepsHeld, ReceivedSame, given_left, me
 use Rattle.world_law.proofs.EnteredStands.{DoneHold, FeedsLast, HoldsMessage, IsGivenFor, MessagesHold, MessagesStand, NothingComes, has_message, sends_on, serves_on}
 use Rattle.world_law.proofs.PostViews.{Leaves, task_kept, was_kept}
 
-module _ (s t : State) (L : Leaves s t) (entered : sends_on s ≡ true → (n : ℕ) (m : List ℕ) → IsFlying s n → IsEntered s n m → IsEntered t n m)
-    (held : serves_on s ≡ true → KeepsHeld s t) (same : ReceivedSame s t) (M : MessagesStand s) (N : NothingComes t) where
+module _ (B C : ℕ → List ℕ → Type 0) (carry : (slot : ℕ) (name : List ℕ) → B slot name → C slot name)
+    (s t : State) (L : Leaves s t) (entered : sends_on s ≡ true → (n : ℕ) (m : List ℕ) → IsFlying s n → IsEntered s n m → IsEntered t n m)
+    (held : serves_on s ≡ true → KeepsHeld s t) (same : ReceivedSame s t) (M : MessagesStand B s) (N : NothingComes t) where
   abbrev P : PostsStand s
   P = M.posts
 
@@ -65,13 +66,13 @@ module _ (s t : State) (L : Leaves s t) (entered : sends_on s ≡ true → (n : 
     task_left slot k it h =
         subst (λ (d : Desk). IsGivenFor t k.name (flies_by d slot) (P.last slot)) (sym desk_same) (given_for_left slot k it (flies_in slot) (P.last slot) refl refl h)
 
-    work_left : serves_on s ≡ true → MessagesHold s P → has_message (place_in (s.actors (codes "lspawn"))).work.row ≡ true → HoldsMessage t P.tasks (place_in (s.actors (codes "lspawn"))).work
+    work_left : serves_on s ≡ true → MessagesHold B s P → has_message (place_in (s.actors (codes "lspawn"))).work.row ≡ true → HoldsMessage t P.tasks (place_in (s.actors (codes "lspawn"))).work
     work_left goes h has =
         let it = h.work has in
         message_left s t same (held goes) P.tasks (λ slot k is. (P.run slot k is).is_for) (place_in (s.actors (codes "lspawn"))).work it
         (entered on it.n it.message (work_flies s P on goes has h.feeds it.n it.mess) it.is)
 
-    hold_left : serves_on s ≡ true → MessagesHold s P → MessagesHold t then_posts
+    hold_left : serves_on s ≡ true → MessagesHold B s P → MessagesHold C t then_posts
     hold_left goes h = record {
       work = λ has.
           subst (λ (z : LocalPlace). HoldsMessage t P.tasks z.work) (sym place_same)
@@ -79,15 +80,17 @@ module _ (s t : State) (L : Leaves s t) (entered : sends_on s ≡ true → (n : 
       feeds = subst (λ (z : LocalPlace). FeedsLast P.last z.work.row z.work) (sym place_same) h.feeds;
       runs = λ slot k is runs.
           task_left slot k (P.run slot k is).is_for (h.runs slot k is (ap (λ (z : LocalPlace). runs_in z.work.running slot) (sym place_same) ∙ runs));
+      started = λ slot k is runs. carry slot k.name (h.started slot k is (ap (λ (z : LocalPlace). runs_in z.work.running slot) (sym place_same) ∙ runs));
     }
 
-    done_left : DoneHold s P → DoneHold t then_posts
+    done_left : DoneHold B s P → DoneHold C t then_posts
     done_left h = record {
       was = λ x among. task_left x.slot x.task (P.was x among).is_for (h.was x among);
+      started = λ x among. carry x.slot x.task.name (h.started x among);
       gone = λ x among slot runs. h.gone x among slot (sym (L.slots slot) ∙ runs);
     }
 
-  pub messages_left : MessagesStand t
+  pub messages_left : MessagesStand C t
   messages_left = record {
     posts = then_posts;
     new = N;

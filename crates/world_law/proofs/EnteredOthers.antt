@@ -85,16 +85,17 @@ neither_apart s a x is it goes same =
     ap (λ (n : List ℕ). serves_in (s.actors n)) same ∙ ap serves_in is ∙ ap (λ (h : Halves). h.serves) (neither_seen x.program it x.past x.life) in
     absurd (cc)
 
-module _ (controls : Controls) (s : State) (I : Inv controls s) (M : MessagesStand s) (a : List ℕ) (own : Own) (wrote : ℕ) (x : Actor) (is : s.actors a ≡ Some x) where
+module _ (B C : ℕ → List ℕ → Type 0) (carry : (slot : ℕ) (name : List ℕ) → B slot name → C slot name)
+    (controls : Controls) (s : State) (I : Inv controls s) (M : MessagesStand B s) (a : List ℕ) (own : Own) (wrote : ℕ) (x : Actor) (is : s.actors a ≡ Some x) where
   abbrev then_state : State
   then_state = acted s a own wrote (Some x)
 
   -- whatever comes of what is due, also the start of a child
   pub neither_moves : IsNeither x.program → next_of x.program x.past own.read own.ready ≡ own.due
       → (sends_on s ≡ true → (n : ℕ) (m : List ℕ) → IsFlying s n → IsEntered s n m → IsEntered then_state n m) → (codes "lspawn" ≢ a → KeepsHeld s then_state)
-      → (IsDelivery x.program → InputYields (s.pipework.pipes a port.Input) own.due own.came) → NothingComes then_state → MessagesStand then_state
+      → (IsDelivery x.program → InputYields (s.pipework.pipes a port.Input) own.due own.came) → NothingComes then_state → MessagesStand C then_state
   neither_moves it due entered held yields N =
-      messages_left s then_state (neither_leaves controls s I a own wrote x is it due) entered (λ goes. held (neither_apart s a x is it goes))
+      messages_left B C carry s then_state (neither_leaves controls s I a own wrote x is it due) entered (λ goes. held (neither_apart s a x is it goes))
       (received_acts controls s I a own wrote x is (λ k for. fed_not controls s I a x is (not_local x.program it) k for own.due) yields) M N
 
   module _ (L : LeavesMost s (Act a own wrote)) where
@@ -118,21 +119,22 @@ module _ (controls : Controls) (s : State) (I : Inv controls s) (M : MessagesSta
     entered_by (LocalSpawner since) e it on n m flies h = absurd it
     entered_by program e it on n m flies h = unwritten (subst WritesNone (sym e) tt) n m h
 
-pub acts_held : (controls : Controls) (s : State) → Inv controls s → MessagesStand s → (a : List ℕ) (own : Own) (wrote : ℕ) (may : MayDo s a own wrote) → codes "lspawn" ≢ a
+pub acts_held : (B : ℕ → List ℕ → Type 0) (controls : Controls) (s : State) → Inv controls s → MessagesStand B s → (a : List ℕ) (own : Own) (wrote : ℕ) (may : MayDo s a own wrote) → codes "lspawn" ≢ a
     → KeepsHeld s (acted s a own wrote (Some may.actor))
-acts_held controls s I M a own wrote may apart = held_left controls s I M a own wrote may.actor may.reads.is (leaves controls s I (Act a own wrote) may) apart
+acts_held B controls s I M a own wrote may apart = held_left B B (λ slot name born. born) controls s I M a own wrote may.actor may.reads.is (leaves controls s I (Act a own wrote) may) apart
 
-pub neither_messages : (controls : Controls) (s : State) → Inv controls s → MessagesStand s → (a : List ℕ) (own : Own) (wrote : ℕ) (may : MayDo s a own wrote) → IsNeither may.actor.program
-    → NothingComes (acted s a own wrote (Some may.actor)) → MessagesStand (acted s a own wrote (Some may.actor))
-neither_messages controls s I M a own wrote may it N =
+pub neither_messages : (B C : ℕ → List ℕ → Type 0) → ((slot : ℕ) (name : List ℕ) → B slot name → C slot name) → (controls : Controls) (s : State) → Inv controls s → MessagesStand B s → (a : List ℕ) (own : Own) (wrote : ℕ) (may : MayDo s a own wrote) → IsNeither may.actor.program
+    → NothingComes (acted s a own wrote (Some may.actor)) → MessagesStand C (acted s a own wrote (Some may.actor))
+neither_messages B C carry controls s I M a own wrote may it N =
     let x = may.actor in
     let L = leaves controls s I (Act a own wrote) may in
-    neither_moves controls s I M a own wrote x may.reads.is it may.due (entered_by controls s I M a own wrote x may.reads.is L x.program refl it)
-    (acts_held controls s I M a own wrote may) (λ runs. input_yields s a own.due own.came wrote may.came) N
+    neither_moves B C carry controls s I M a own wrote x may.reads.is it may.due (entered_by B C carry controls s I M a own wrote x may.reads.is L x.program refl it)
+    (acts_held B controls s I M a own wrote may) (λ runs. input_yields s a own.due own.came wrote may.came) N
 
 -- An end or a stop
 
-module _ (controls : Controls) (s : State) (I : Inv controls s) (M : MessagesStand s) (a : List ℕ) (x : Actor) (is : s.actors a ≡ Some x) (alive : x.life ≡ Alive) (life : Life) (dead : is_alive life ≡ false)
+module _ (B C : ℕ → List ℕ → Type 0) (carry : (slot : ℕ) (name : List ℕ) → B slot name → C slot name)
+    (controls : Controls) (s : State) (I : Inv controls s) (M : MessagesStand B s) (a : List ℕ) (x : Actor) (is : s.actors a ≡ Some x) (alive : x.life ≡ Alive) (life : Life) (dead : is_alive life ≡ false)
     (held : codes "lspawn" ≢ a → KeepsHeld s (finished s a life (Some x))) (N : NothingComes (finished s a life (Some x))) where
   abbrev gone : Actor
   gone = record { program = x.program; past = x.past; life = life }
@@ -140,12 +142,12 @@ module _ (controls : Controls) (s : State) (I : Inv controls s) (M : MessagesSta
   abbrev over : State
   over = finished s a life (Some x)
 
-  neither_over : IsNeither x.program → MessagesStand over
-  neither_over it = messages_left s over (neither_ends s M.posts a x is alive life dead it) (λ on n m flies h. record { injection = h.injection; lives = h.lives; accepted = h.accepted; text = h.text })
+  neither_over : IsNeither x.program → MessagesStand C over
+  neither_over it = messages_left B C carry s over (neither_ends s M.posts a x is alive life dead it) (λ on n m flies h. record { injection = h.injection; lives = h.lives; accepted = h.accepted; text = h.text })
       (λ goes. held (neither_apart s a x is it goes)) (received_ends s a life x is) M N
 
   -- the sender
-  sender_gone : (began : ℕ) → x.program ≡ Sender began → a ≡ codes "sender" → MessagesStand over
+  sender_gone : (began : ℕ) → x.program ≡ Sender began → a ≡ codes "sender" → MessagesStand C over
   sender_gone began runs name = record {
     posts = sender_over s M.posts a x is alive life dead began runs name;
     new = N;
@@ -163,7 +165,7 @@ module _ (controls : Controls) (s : State) (I : Inv controls s) (M : MessagesSta
           absurd (cc)
 
   -- the local spawner
-  spawner_gone : (began : ℕ) → x.program ≡ LocalSpawner began → a ≡ codes "lspawn" → MessagesStand over
+  spawner_gone : (began : ℕ) → x.program ≡ LocalSpawner began → a ≡ codes "lspawn" → MessagesStand C over
   unfolding spawner_over
   spawner_gone began runs name = record {
     posts = spawner_over s M.posts a x is alive life dead began runs name;
@@ -184,36 +186,39 @@ module _ (controls : Controls) (s : State) (I : Inv controls s) (M : MessagesSta
           let some : serves_in (over.actors (codes "lspawn")) ≡ true = goes_serves (serves_in (over.actors (codes "lspawn"))) (place_in (over.actors (codes "lspawn"))).work.row goes in
           absurd (cc)
 
-      still : DoneHold s M.posts → DoneHold over (spawner_over s M.posts a x is alive life dead began runs name)
+      still : DoneHold B s M.posts → DoneHold C over (spawner_over s M.posts a x is alive life dead began runs name)
       still h = record {
         was = λ d among.
             subst (λ (o : Option Actor). IsGivenFor over d.task.name (attempt_in (lane Local (desk_in o).slots).slots d.slot) (M.posts.last d.slot)) (sym there)
             (given_for_left s over (received_ends s a life x is) d.task (M.posts.was d among).is_for (attempt_in (lane Local (desk_in (s.actors (codes "sender"))).slots).slots d.slot) (M.posts.last d.slot)
             (λ r g. record { injection = g.is.injection; lives = g.is.lives; accepted = g.is.accepted; text = g.is.text }) (h.was d among));
+        started = λ d among. carry d.slot d.task.name (h.started d among);
         gone = λ d among slot runs. h.gone d among slot runs;
       }
 
-  over_messages : (program : Program) → x.program ≡ program → IsNamed a program → MessagesStand over
+  over_messages : (program : Program) → x.program ≡ program → IsNamed a program → MessagesStand C over
   over_messages (Sender began) runs name = sender_gone began runs name
   over_messages (LocalSpawner began) runs name = spawner_gone began runs name
   over_messages program runs name = neither_over (subst IsNeither (sym runs) tt)
 
-pub end_messages : (controls : Controls) (s : State) → Inv controls s → MessagesStand s → (a : List ℕ) (read : ℕ) (ready : Ready) (status : ℕ) → MayEnd s a read ready status
-    → NothingComes (happens s (End a read ready status)) → MessagesStand (happens s (End a read ready status))
-end_messages controls s I M a read ready status may =
+pub end_messages : (B C : ℕ → List ℕ → Type 0) → ((slot : ℕ) (name : List ℕ) → B slot name → C slot name)
+    → (controls : Controls) (s : State) → Inv controls s → MessagesStand B s → (a : List ℕ) (read : ℕ) (ready : Ready) (status : ℕ) → MayEnd s a read ready status
+    → NothingComes (happens s (End a read ready status)) → MessagesStand C (happens s (End a read ready status))
+end_messages B C carry controls s I M a read ready status may =
     let x = may.actor in
     let L = leaves controls s I (End a read ready status) may in
-    subst (λ (o : Option Actor). NothingComes (finished s a (Over status) o) → MessagesStand (finished s a (Over status) o)) (sym may.reads.is)
-    (λ N. over_messages controls s I M a x may.reads.is may.reads.alive (Over status) refl
+    subst (λ (o : Option Actor). NothingComes (finished s a (Over status) o) → MessagesStand C (finished s a (Over status) o)) (sym may.reads.is)
+    (λ N. over_messages B C carry controls s I M a x may.reads.is may.reads.alive (Over status) refl
     (λ apart fd how h. subst (λ (o : Option Actor). IsHeld (finished s a (Over status) o).disk.opens (finished s a (Over status) o).holder (codes "lspawn") fd how) may.reads.is
     (L.opens (codes "lspawn") fd how apart h))
     N x.program refl (I.crew a x may.reads.is))
 
-pub stop_messages : (controls : Controls) (s : State) → Inv controls s → MessagesStand s → (a : List ℕ) → IsLiving s a → NothingComes (happens s (Stop a)) → MessagesStand (happens s (Stop a))
-stop_messages controls s I M a may =
+pub stop_messages : (B C : ℕ → List ℕ → Type 0) → ((slot : ℕ) (name : List ℕ) → B slot name → C slot name)
+    → (controls : Controls) (s : State) → Inv controls s → MessagesStand B s → (a : List ℕ) → IsLiving s a → NothingComes (happens s (Stop a)) → MessagesStand C (happens s (Stop a))
+stop_messages B C carry controls s I M a may =
     let x = may.actor in
     let L = leaves controls s I (Stop a) may in
-    subst (λ (o : Option Actor). NothingComes (finished s a Stopped o) → MessagesStand (finished s a Stopped o)) (sym may.is)
-    (λ N. over_messages controls s I M a x may.is may.alive Stopped refl
+    subst (λ (o : Option Actor). NothingComes (finished s a Stopped o) → MessagesStand C (finished s a Stopped o)) (sym may.is)
+    (λ N. over_messages B C carry controls s I M a x may.is may.alive Stopped refl
     (λ apart fd how h. subst (λ (o : Option Actor). IsHeld (finished s a Stopped o).disk.opens (finished s a Stopped o).holder (codes "lspawn") fd how) may.is (L.opens (codes "lspawn") fd how apart h))
     N x.program refl (I.crew a x may.is))

@@ -1,6 +1,6 @@
 -- An event of the sender keeps what is held and given of messages: what it gives is a request for the lowest free slot, of which nothing is in hand,
 -- and what it takes frees slots.
-use Rattle.std.proofs.Common.{◌≡◌, ⊎_elim, ℕ, ◌≤◌, List, ◌∷◌, true, ◌&&◌, Option, Some, None, refl, sym, ap, ◌∙◌, subst, codes}
+use Rattle.std.proofs.Common.{◌≡◌, ◌≢◌, ⊎_elim, ℕ, ◌≤◌, List, [], ◌∷◌, true, ◌&&◌, Option, Some, None, refl, sym, ap, ◌∙◌, subst, codes}
 use Rattle.address_rules.specs.declared.controls.Controls.{Controls}
 use Rattle.call_fs.proofs.Maps.{put_at_other, put_at_same}
 use Rattle.call_fs.specs.Program.{MayCome}
@@ -13,15 +13,19 @@ use Rattle.call_fs.specs.declared.program.Port.TheVariants as port
 use Rattle.call_fs.specs.declared.program.Ready.{Ready}
 use Rattle.local_spawn.specs.declared.place.Place.{Place as LocalPlace}
 use Rattle.program_law.specs.Post.Posts.{Post, Posted, Task, goes_at}
-use Rattle.program_law.specs.Post.Senders.{IsSome, Sends, is_on}
+use Rattle.program_law.specs.Post.Senders.{AsksFor, IsSome, Sends, is_on}
 use Rattle.queue_law.specs.Books.{Books, Child as Bouncer}
 use Rattle.send_core.specs.Booked.{booked_at}
 use Rattle.send_core.specs.declared.desk.Desk.{Desk}
+use Rattle.send_core.specs.Past.{Happening}
+use Rattle.send_core.specs.Past.Happening.{Gives}
 use Rattle.send_core.specs.Table.{place_after as sender_after, due_at, moved, row_now}
 use Rattle.send_jobs.specs.declared.attempts.Attempt.{Attempt}
 use Rattle.send_jobs.specs.declared.channels.Channel.TheVariants.{Local}
 use Rattle.send_jobs.specs.Sending.{lane}
 use Rattle.send_jobs.specs.Slots.{attempt_in, lowest}
+use Rattle.send_parts.specs.Requests.{request_of, to_slot}
+use Rattle.send_runs.specs.Reports.{given_by as given_at}
 use Rattle.spawn_protocol.specs.declared.request.Request.{Request}
 use Rattle.spawner_parts.specs.declared.place.Place.{Place}
 use Rattle.spawner_parts.specs.declared.row.Row.{Row as SpawnRow}
@@ -42,7 +46,7 @@ use Rattle.world_law.proofs.EnteredKept.{KeepsHeld, ReceivedSame, given_for_kept
 use Rattle.world_law.proofs.EnteredStands.{DoneHold, FeedsLast, HoldsMessage, IsGivenFor, MessagesHold, MessagesStand, NothingComes, has_message, sends_on, serves_on}
 use Rattle.world_law.proofs.Forgets.{among_left, forget, lowest_forgotten, lowest_is_free, not_lowest}
 use Rattle.world_law.proofs.PostPipes.{names_apart, programs_left}
-use Rattle.world_law.proofs.PostSends.{sender_event, sender_post, sender_posted, seen_so, sent, some_of}
+use Rattle.world_law.proofs.PostSends.{gives, sender_event, sender_post, sender_posted, seen_so, sent, some_of}
 use Rattle.world_law.proofs.Received.{fed_not, received_acts}
 use Rattle.world_law.proofs.SendersPut.{sender}
 use Rattle.world_law.proofs.SpawnedSlots.{on_before as goes_on}
@@ -58,11 +62,30 @@ module _ (child : Option Bouncer) (b : Books) (n : ℕ) (message : List ℕ) (h 
   entered_after (needs.Take from) came = entered_stays n message child (booked_at (row_now keeps read ready) came keeps) b h
   entered_after due came = h
 
+-- What it gives is for the lowest free slot
+
+at_slot : (slot k : ℕ) (text rest : List ℕ) → k ∷ rest ≡ to_slot slot text → k ≡ slot
+at_slot slot k [] rest e = absurd (cc)
+at_slot slot k (b ∷ text) rest e = cc
+
+gives_low : (d : Desk) (due : NeedData) (came : GotData) (slot : ℕ) → ((text : List ℕ) → due ≡ needs.Give port.Lspawn text → AsksFor Local d text) → given_at due came Local ≡ Gives slot
+    → lowest (lane Local d.slots).slots ≡ Some slot
+gives_low d (needs.Give port.Lspawn (k ∷ rest)) got.Gave slot asks e =
+    let it = asks (k ∷ rest) refl in
+    let given_is : ◌≡◌ {A = Happening} (Gives k) (Gives slot) = e in
+    let one : k ≡ slot = cc in
+    it.free ∙ ap Some (sym (at_slot it.slot k (request_of it.attempt.n it.sender it.attempt.address) rest it.is) ∙ one)
+gives_low d (needs.Give port.Lspawn (k ∷ rest)) came slot asks e = absurd (cc)
+gives_low d (needs.Give port.Lspawn []) came slot asks e = absurd (cc)
+gives_low d (needs.Give p text) came slot asks e = absurd (cc)
+gives_low d due came slot asks e = absurd (cc)
+
 -- An event
 
-module _ (controls : Controls) (s : State) (I : Inv controls s) (M : MessagesStand s) (own : Own) (wrote began : ℕ) (past : List Own) (is : s.actors (codes "sender") ≡ Some (sender began past))
+module _ (B C : ℕ → List ℕ → Type 0) (controls : Controls) (s : State) (I : Inv controls s) (M : MessagesStand B s) (own : Own) (wrote began : ℕ) (past : List Own) (is : s.actors (codes "sender") ≡ Some (sender began past))
     (soon : own.read ≤ s.now) (due : due_at (row_now (sender_after None past) own.read own.ready) (sender_after None past) ≡ own.due)
-    (may : MayCome own.due own.came) (takes : own.due ≡ needs.Take port.Lspawn → IsSome own.came (s.pipework.pipes (codes "sender") port.Lspawn).bytes) where
+    (may : MayCome own.due own.came) (takes : own.due ≡ needs.Take port.Lspawn → IsSome own.came (s.pipework.pipes (codes "sender") port.Lspawn).bytes)
+    (carry : (slot : ℕ) (name : List ℕ) → (given_at own.due own.came Local ≢ Gives slot) → B slot name → C slot name) where
   abbrev P : PostsStand s
   P = M.posts
 
@@ -159,6 +182,11 @@ module _ (controls : Controls) (s : State) (I : Inv controls s) (M : MessagesSta
   same_last : (slot : ℕ) → (low ≡ Some slot → ⊥) → sends.last slot ≡ P.last slot
   same_last slot apart = ⊎_elim (λ (same : sends.last slot ≡ P.last slot). same) (λ (free : low ≡ Some slot). absurd (apart free)) (sends.asks slot)
 
+  -- a delivery that was started in one stays so
+  carry_on : (slot : ℕ) (name : List ℕ) → (low ≡ Some slot → ⊥) → B slot name → C slot name
+  carry_on slot name apart born =
+      carry slot name (λ given. apart (gives_low d own.due own.came slot (gives controls s I left own wrote began past is soon due may takes) given)) born
+
   feeds_by : (row : SpawnRow) (p : Place) → ((slot : ℕ) → runs_in p.running slot ≡ true → low ≡ Some slot → ⊥) → FeedsLast P.last row p → FeedsLast sends.last row p
   feeds_by spawn.Feed p apart h = (h.0, same_last p.request.slot (apart p.request.slot h.0) ∙ h.1)
   feeds_by row p apart h = tt
@@ -193,7 +221,7 @@ module _ (controls : Controls) (s : State) (I : Inv controls s) (M : MessagesSta
       runs_apart slot runs free =
           runs_not_free p before goes serves posted.fares slot runs (lowest_is_free flying slot free)
 
-      hold_then : MessagesHold s P → MessagesHold then_state then_posts
+      hold_then : MessagesHold B s P → MessagesHold C then_state then_posts
       unfolding sender_event
       hold_then h = record {
         work = λ has.
@@ -204,20 +232,24 @@ module _ (controls : Controls) (s : State) (I : Inv controls s) (M : MessagesSta
         runs = λ slot k there runs.
             let now : runs_in p.running slot ≡ true = ap (λ (z : LocalPlace). runs_in z.work.running slot) (sym place_then) ∙ runs in
             given_then k (P.run slot k there).is_for slot (runs_apart slot now) (h.runs slot k there now);
+        started = λ slot k there runs.
+            let now : runs_in p.running slot ≡ true = ap (λ (z : LocalPlace). runs_in z.work.running slot) (sym place_then) ∙ runs in
+            carry_on slot k.name (runs_apart slot now) (h.started slot k there now);
       }
 
-    done_then : DoneHold s P → DoneHold then_state then_posts
+    done_then : DoneHold B s P → DoneHold C then_state then_posts
     unfolding sender_event
     done_then h = record {
       was = λ x among.
           let old = among_left low x P.done among in
           given_then x.task (P.was x old).is_for x.slot (not_lowest low x P.done among) (h.was x old);
+      started = λ x among. carry_on x.slot x.task.name (not_lowest low x P.done among) (h.started x (among_left low x P.done among));
       gone = λ x among slot runs.
           h.gone x (among_left low x P.done among) slot
           (sym (programs_left s.pipework (codes "sender") (codes "lspawn") own.due own.came slot (names_apart (codes "sender") (codes "lspawn") refl)) ∙ runs);
     }
 
-  event_messages : KeepsHeld s then_state → NothingComes then_state → MessagesStand then_state
+  event_messages : KeepsHeld s then_state → NothingComes then_state → MessagesStand C then_state
   event_messages held N = record {
     posts = then_posts;
     new = N;
@@ -225,30 +257,35 @@ module _ (controls : Controls) (s : State) (I : Inv controls s) (M : MessagesSta
     done = λ on. done_then (on_then on) held (M.done on_before);
   }
 
-by_program : (controls : Controls) (s : State) → Inv controls s → (a : List ℕ) (wrote : ℕ) (program : Program) (past : List Own) (life : Life) (own : Own) → IsSender program → IsNamed a program
+by_program : (B C : ℕ → List ℕ → Type 0) (controls : Controls) (s : State) → Inv controls s → (a : List ℕ) (wrote : ℕ) (program : Program) (past : List Own) (life : Life) (own : Own) → IsSender program → IsNamed a program
     → life ≡ Alive → s.actors a ≡ Some (record { program = program; past = past; life = life }) → own.read ≤ s.now → next_of program past own.read own.ready ≡ own.due → MayCome own.due own.came
     → (own.due ≡ needs.Take port.Lspawn → IsSome own.came (s.pipework.pipes a port.Lspawn).bytes)
-    → KeepsHeld s (acted s a own wrote (Some (record { program = program; past = past; life = life }))) → MessagesStand s
+    → ((slot : ℕ) (name : List ℕ) → (given_at own.due own.came Local ≢ Gives slot) → B slot name → C slot name)
+    → KeepsHeld s (acted s a own wrote (Some (record { program = program; past = past; life = life }))) → MessagesStand B s
     → NothingComes (acted s a own wrote (Some (record { program = program; past = past; life = life })))
-    → MessagesStand (acted s a own wrote (Some (record { program = program; past = past; life = life })))
-by_program controls s I a wrote (Sender began) past Alive own it named alive is soon due may takes held M N =
+    → MessagesStand C (acted s a own wrote (Some (record { program = program; past = past; life = life })))
+by_program B C controls s I a wrote (Sender began) past Alive own it named alive is soon due may takes carry held M N =
     let x : Actor = sender began past in
     subst (λ (b : List ℕ). s.actors b ≡ Some x → (own.due ≡ needs.Take port.Lspawn → IsSome own.came (s.pipework.pipes b port.Lspawn).bytes) → KeepsHeld s (acted s b own wrote (Some x))
-    → NothingComes (acted s b own wrote (Some x)) → MessagesStand (acted s b own wrote (Some x))) (sym named)
-    (λ is takes held N. event_messages controls s I M own wrote began past is soon due may takes held N) is takes held N
-by_program controls s I a wrote (Sender began) past life own it named alive is soon due may takes held M N = absurd (cc)
-by_program controls s I a wrote other past life own it named alive is soon due may takes held M N = absurd it
+    → NothingComes (acted s b own wrote (Some x)) → MessagesStand C (acted s b own wrote (Some x))) (sym named)
+    (λ is takes held N. event_messages B C controls s I M own wrote began past is soon due may takes carry held N) is takes held N
+by_program B C controls s I a wrote (Sender began) past life own it named alive is soon due may takes carry held M N = absurd (cc)
+by_program B C controls s I a wrote other past life own it named alive is soon due may takes carry held M N = absurd it
 
 -- whatever comes of what is due, also the start of a child
-pub sender_moves_messages : (controls : Controls) (s : State) → Inv controls s → (a : List ℕ) (own : Own) (wrote : ℕ) (x : Actor) → s.actors a ≡ Some x → x.life ≡ Alive → IsSender x.program
+pub sender_moves_messages : (B C : ℕ → List ℕ → Type 0) (controls : Controls) (s : State) → Inv controls s → (a : List ℕ) (own : Own) (wrote : ℕ) (x : Actor) → s.actors a ≡ Some x → x.life ≡ Alive → IsSender x.program
     → own.read ≤ s.now → next_of x.program x.past own.read own.ready ≡ own.due → MayCome own.due own.came
-    → (own.due ≡ needs.Take port.Lspawn → IsSome own.came (s.pipework.pipes a port.Lspawn).bytes) → KeepsHeld s (acted s a own wrote (Some x)) → MessagesStand s
-    → NothingComes (acted s a own wrote (Some x)) → MessagesStand (acted s a own wrote (Some x))
-sender_moves_messages controls s I a own wrote x is alive it soon due may takes held M N =
-    by_program controls s I a wrote x.program x.past x.life own it (I.crew a x is) alive is soon due may takes held M N
+    → (own.due ≡ needs.Take port.Lspawn → IsSome own.came (s.pipework.pipes a port.Lspawn).bytes)
+    → ((slot : ℕ) (name : List ℕ) → (given_at own.due own.came Local ≢ Gives slot) → B slot name → C slot name)
+    → KeepsHeld s (acted s a own wrote (Some x)) → MessagesStand B s
+    → NothingComes (acted s a own wrote (Some x)) → MessagesStand C (acted s a own wrote (Some x))
+sender_moves_messages B C controls s I a own wrote x is alive it soon due may takes carry held M N =
+    by_program B C controls s I a wrote x.program x.past x.life own it (I.crew a x is) alive is soon due may takes carry held M N
 
-pub sender_messages : (controls : Controls) (s : State) → Inv controls s → (a : List ℕ) (own : Own) (wrote : ℕ) (x : Actor) → s.actors a ≡ Some x → x.life ≡ Alive → IsSender x.program
-    → own.read ≤ s.now → next_of x.program x.past own.read own.ready ≡ own.due → ComesOf s a own.due own.came wrote → KeepsHeld s (acted s a own wrote (Some x)) → MessagesStand s
-    → NothingComes (acted s a own wrote (Some x)) → MessagesStand (acted s a own wrote (Some x))
-sender_messages controls s I a own wrote x is alive it soon due comes held M N = sender_moves_messages controls s I a own wrote x is alive it soon due (may_come s a own.due own.came wrote comes)
-    (λ e. some_of (s.pipework.pipes a port.Lspawn) own.came (subst (λ (n : NeedData). ComesOf s a n own.came wrote) e comes)) held M N
+pub sender_messages : (B C : ℕ → List ℕ → Type 0) (controls : Controls) (s : State) → Inv controls s → (a : List ℕ) (own : Own) (wrote : ℕ) (x : Actor) → s.actors a ≡ Some x → x.life ≡ Alive → IsSender x.program
+    → own.read ≤ s.now → next_of x.program x.past own.read own.ready ≡ own.due → ComesOf s a own.due own.came wrote
+    → ((slot : ℕ) (name : List ℕ) → (given_at own.due own.came Local ≢ Gives slot) → B slot name → C slot name)
+    → KeepsHeld s (acted s a own wrote (Some x)) → MessagesStand B s
+    → NothingComes (acted s a own wrote (Some x)) → MessagesStand C (acted s a own wrote (Some x))
+sender_messages B C controls s I a own wrote x is alive it soon due comes carry held M N = sender_moves_messages B C controls s I a own wrote x is alive it soon due (may_come s a own.due own.came wrote comes)
+    (λ e. some_of (s.pipework.pipes a port.Lspawn) own.came (subst (λ (n : NeedData). ComesOf s a n own.came wrote) e comes)) carry held M N

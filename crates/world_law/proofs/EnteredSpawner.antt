@@ -75,7 +75,8 @@ not_feeding last row p apart = tt
 
 -- An event
 
-module _ (controls : Controls) (s : State) (I : Inv controls s) (M : MessagesStand s) (own : Own) (wrote began : ℕ) (past : List Own) (is : s.actors (codes "lspawn") ≡ Some (spawner began past)) where
+module _ (B C : ℕ → List ℕ → Type 0) (carry : (slot : ℕ) (name : List ℕ) → B slot name → C slot name)
+    (controls : Controls) (s : State) (I : Inv controls s) (M : MessagesStand B s) (own : Own) (wrote began : ℕ) (past : List Own) (is : s.actors (codes "lspawn") ≡ Some (spawner began past)) where
   abbrev name : List ℕ
   name = codes "lspawn"
 
@@ -187,7 +188,7 @@ module _ (controls : Controls) (s : State) (I : Inv controls s) (M : MessagesSta
     on_before on = ap (λ (o : Option Actor). sends_in o && is_on (desk_in o).row) (sym there) ∙ on
 
     module _ (on : sends_on s ≡ true) where
-      abbrev hold : MessagesHold s P
+      abbrev hold : MessagesHold B s P
       hold = M.hold on serving
 
       work : has_message p.row ≡ true → HoldsMessage s P.tasks p
@@ -198,6 +199,9 @@ module _ (controls : Controls) (s : State) (I : Inv controls s) (M : MessagesSta
 
       given_so : (slot : ℕ) (k : Task) → P.tasks slot ≡ Some k → runs_in p.running slot ≡ true → IsGivenFor s k.name (flies slot) (P.last slot)
       given_so slot k run running = hold.runs slot k run (ap (λ (z : LocalPlace). runs_in z.work.running slot) (ap place_in is) ∙ running)
+
+      started_so : (slot : ℕ) (k : Task) → P.tasks slot ≡ Some k → runs_in p.running slot ≡ true → B slot k.name
+      started_so slot k run running = hold.started slot k run (ap (λ (z : LocalPlace). runs_in z.work.running slot) (ap place_in is) ∙ running)
 
       asked : has_message p.row ≡ true → IsAsked s p.request
       asked has = subst (λ (z : LocalPlace). has_message z.work.row ≡ true → FeedsLast P.last z.work.row z.work → IsAsked s z.work.request) (ap place_in is) (work_stays controls s I P on serving) has feeds
@@ -271,6 +275,12 @@ module _ (controls : Controls) (s : State) (I : Inv controls s) (M : MessagesSta
           (given_so x.slot x.task now.ran (ran x now)))
           (done_cases own.due own.came P.tasks P.done x among)
 
+      started_then : (x : Done) → Among x (done_by own.due own.came P.tasks P.done) → B x.slot x.task.name
+      started_then x among = ⊎_elim
+          (λ (older : Among x P.done). (M.done on).started x older)
+          (λ (now : IsDoneNow own.due own.came P.tasks x). started_so x.slot x.task now.ran (ran x now))
+          (done_cases own.due own.came P.tasks P.done x among)
+
       -- whose slot is free then
       freed : (x : Done) → IsDoneNow own.due own.came P.tasks x → then_state.pipework.programs name x.slot ≡ None
       freed x now =
@@ -305,7 +315,7 @@ module _ (controls : Controls) (s : State) (I : Inv controls s) (M : MessagesSta
             subst (λ (z : LocalPlace). has_message z.work.row ≡ true → FeedsLast posts_then.last z.work.row z.work → IsAsked then_state z.work.request) (ap place_in now_here)
             (work_stays controls then_state J posts_then on goes) has (not_feeding posts_then.last to.work.row to.work led.unfed)
 
-        hold_then : serves_on then_state ≡ true → MessagesHold then_state posts_then
+        hold_then : serves_on then_state ≡ true → MessagesHold C then_state posts_then
         unfolding spawner_event
         hold_then goes = record {
           work = subst (λ (z : LocalPlace). has_message z.work.row ≡ true → HoldsMessage then_state tasks_then z.work) (sym (ap place_in now_here)) (led.holds (asked_then goes));
@@ -314,38 +324,42 @@ module _ (controls : Controls) (s : State) (I : Inv controls s) (M : MessagesSta
               subst (λ (o : Option Actor). IsGivenFor then_state k.name (attempt_in (lane channel.Local (desk_in o).slots).slots slot) (P.last slot)) (sym there)
               (runs_then (on_before on) slot k (task_stays s.pipework own.due own.came P.tasks starts_no slot k run).0
               (led.runs slot (ap (λ (z : LocalPlace). runs_in z.work.running slot) (sym (ap place_in now_here)) ∙ running)));
+          started = λ slot k run running.
+              carry slot k.name (started_so (on_before on) slot k (task_stays s.pipework own.due own.came P.tasks starts_no slot k run).0
+              (led.runs slot (ap (λ (z : LocalPlace). runs_in z.work.running slot) (sym (ap place_in now_here)) ∙ running)));
         }
 
-        done_then : DoneHold then_state posts_then
+        done_then : DoneHold C then_state posts_then
         unfolding spawner_event
         done_then = record {
           was = λ x among.
               subst (λ (o : Option Actor). IsGivenFor then_state x.task.name (attempt_in (lane channel.Local (desk_in o).slots).slots x.slot) (P.last x.slot)) (sym there)
               (was_then (on_before on) x among);
+          started = λ x among. carry x.slot x.task.name (started_then (on_before on) x among);
           gone = gone_then (on_before on);
         }
 
-      spawner_stands : MessagesStand then_state
+      spawner_stands : MessagesStand C then_state
       spawner_stands = record { posts = posts_then; new = N; hold = hold_then; done = done_then }
 
 -- By its program
 
-messages_by : (controls : Controls) (s : State) (I : Inv controls s) (a : List ℕ) (own : Own) (wrote : ℕ) (program : Program) (past : List Own) (life : Life) → IsLocalSpawner program
+messages_by : (B C : ℕ → List ℕ → Type 0) → ((slot : ℕ) (name : List ℕ) → B slot name → C slot name) → (controls : Controls) (s : State) (I : Inv controls s) (a : List ℕ) (own : Own) (wrote : ℕ) (program : Program) (past : List Own) (life : Life) → IsLocalSpawner program
     → IsNamed a program → life ≡ Alive → s.actors a ≡ Some (record { program = program; past = past; life = life }) → next_of program past own.read own.ready ≡ own.due
-    → ComesOf s a own.due own.came wrote → MessagesStand s → Inv controls (acted s a own wrote (Some (record { program = program; past = past; life = life })))
+    → ComesOf s a own.due own.came wrote → MessagesStand B s → Inv controls (acted s a own wrote (Some (record { program = program; past = past; life = life })))
     → NothingComes (acted s a own wrote (Some (record { program = program; past = past; life = life })))
-    → MessagesStand (acted s a own wrote (Some (record { program = program; past = past; life = life })))
-messages_by controls s I a own wrote (LocalSpawner began) past Alive it named alive is due comes M J N =
-    subst (λ (b : List ℕ). MessagesStand (acted s b own wrote (Some (spawner began past)))) (sym named)
-    (spawner_stands controls s I M own wrote began past (subst (λ (b : List ℕ). s.actors b ≡ Some (spawner began past)) named is) due
+    → MessagesStand C (acted s a own wrote (Some (record { program = program; past = past; life = life })))
+messages_by B C carry controls s I a own wrote (LocalSpawner began) past Alive it named alive is due comes M J N =
+    subst (λ (b : List ℕ). MessagesStand C (acted s b own wrote (Some (spawner began past)))) (sym named)
+    (spawner_stands B C carry controls s I M own wrote began past (subst (λ (b : List ℕ). s.actors b ≡ Some (spawner began past)) named is) due
     (subst (λ (b : List ℕ). ComesOf s b own.due own.came wrote) named comes)
     (subst (λ (b : List ℕ). Inv controls (acted s b own wrote (Some (spawner began past)))) named J)
     (subst (λ (b : List ℕ). NothingComes (acted s b own wrote (Some (spawner began past)))) named N))
-messages_by controls s I a own wrote (LocalSpawner began) past life it named alive is due comes M J N = absurd (cc)
-messages_by controls s I a own wrote other past life it named alive is due comes M J N = absurd it
+messages_by B C carry controls s I a own wrote (LocalSpawner began) past life it named alive is due comes M J N = absurd (cc)
+messages_by B C carry controls s I a own wrote other past life it named alive is due comes M J N = absurd it
 
-pub spawner_messages : (controls : Controls) (s : State) → Inv controls s → (a : List ℕ) (own : Own) (wrote : ℕ) (x : Actor) → s.actors a ≡ Some x → x.life ≡ Alive → IsLocalSpawner x.program
-    → next_of x.program x.past own.read own.ready ≡ own.due → ComesOf s a own.due own.came wrote → MessagesStand s
-    → Inv controls (acted s a own wrote (Some x)) → NothingComes (acted s a own wrote (Some x)) → MessagesStand (acted s a own wrote (Some x))
-spawner_messages controls s I a own wrote x is alive it due comes M J N =
-    messages_by controls s I a own wrote x.program x.past x.life it (I.crew a x is) alive is due comes M J N
+pub spawner_messages : (B C : ℕ → List ℕ → Type 0) → ((slot : ℕ) (name : List ℕ) → B slot name → C slot name) → (controls : Controls) (s : State) → Inv controls s → (a : List ℕ) (own : Own) (wrote : ℕ) (x : Actor) → s.actors a ≡ Some x → x.life ≡ Alive → IsLocalSpawner x.program
+    → next_of x.program x.past own.read own.ready ≡ own.due → ComesOf s a own.due own.came wrote → MessagesStand B s
+    → Inv controls (acted s a own wrote (Some x)) → NothingComes (acted s a own wrote (Some x)) → MessagesStand C (acted s a own wrote (Some x))
+spawner_messages B C carry controls s I a own wrote x is alive it due comes M J N =
+    messages_by B C carry controls s I a own wrote x.program x.past x.life it (I.crew a x is) alive is due comes M J N

@@ -92,17 +92,19 @@ FeedsLast last at.Feed p = (runs_in p.running p.request.slot ≡ true) × (last 
 FeedsLast last row p = Unit {0}
 
 -- While both the sender and the local spawner live, and neither has ended or lost a link: the request at work has its message, and each delivery
--- that runs was given that of its request.
-pub record MessagesHold (s : State) (P : PostsStand s) : Type 0 where
+-- that runs was given that of its request, and was started since that was given: of which slots and names that is so is a parameter.
+pub record MessagesHold (B : ℕ → List ℕ → Type 0) (s : State) (P : PostsStand s) : Type 0 where
   pub work : has_message (place_in (s.actors (codes "lspawn"))).work.row ≡ true → HoldsMessage s P.tasks (place_in (s.actors (codes "lspawn"))).work
   pub feeds : FeedsLast P.last (place_in (s.actors (codes "lspawn"))).work.row (place_in (s.actors (codes "lspawn"))).work
   pub runs : (slot : ℕ) (t : Task) → P.tasks slot ≡ Some t → runs_in (place_in (s.actors (codes "lspawn"))).work.running slot ≡ true
       → IsGivenFor s t.name (attempt_in (lane Local (desk_in (s.actors (codes "sender"))).slots).slots slot) (P.last slot)
+  pub started : (slot : ℕ) (t : Task) → P.tasks slot ≡ Some t → runs_in (place_in (s.actors (codes "lspawn"))).work.running slot ≡ true → B slot t.name
 
 -- The deliveries that ended with 0 are remembered only until their slot has its next request, so that each was for the last one; and none of
 -- them runs in a slot any more. This holds also when the spawner has gone.
-pub record DoneHold (s : State) (P : PostsStand s) : Type 0 where
+pub record DoneHold (B : ℕ → List ℕ → Type 0) (s : State) (P : PostsStand s) : Type 0 where
   pub was : (x : Done) → Among x P.done → IsGivenFor s x.task.name (attempt_in (lane Local (desk_in (s.actors (codes "sender"))).slots).slots x.slot) (P.last x.slot)
+  pub started : (x : Done) → Among x P.done → B x.slot x.task.name
   pub gone : (x : Done) → Among x P.done → (slot : ℕ) → s.pipework.programs (codes "lspawn") slot ≡ Some (Runs x.task.name) → ⊥
 
 -- whether the sender goes on, and the local spawner
@@ -117,8 +119,8 @@ abbrev pub NothingComes : State → Type 0
 NothingComes s = (b : List ℕ) → s.actors b ≡ None → (Contains members b → ⊥) → (s.pipework.pipes b port.Input).bytes ≡ []
 
 -- What holds after each event beside what stands of posts.
-pub record MessagesStand (s : State) : Type 0 where
+pub record MessagesStand (B : ℕ → List ℕ → Type 0) (s : State) : Type 0 where
   pub posts : PostsStand s
   pub new : NothingComes s
-  pub hold : sends_on s ≡ true → serves_on s ≡ true → MessagesHold s posts
-  pub done : sends_on s ≡ true → DoneHold s posts
+  pub hold : sends_on s ≡ true → serves_on s ≡ true → MessagesHold B s posts
+  pub done : sends_on s ≡ true → DoneHold B s posts

@@ -98,11 +98,11 @@ always controls d (e ∷ before) has legal = event_keeps e controls (after d bef
 
 -- so each state is safe
 pub safe_always : (controls : Controls) (d : Disk) (before : List Event) → AreControls controls d → Legal d before → SafeState (after d before)
-safe_always controls d before has legal = (inv_is_safe controls (after d before) (always controls d before has legal)).0
+safe_always controls d before has legal = (inv_is_safe controls d before legal (always controls d before has legal)).0
 
 -- and each recipient is accounted for by the ledgers
 pub accounts_always : (controls : Controls) (d : Disk) (before : List Event) → AreControls controls d → Legal d before → AreAccounted controls (after d before)
-accounts_always controls d before has legal = (inv_is_safe controls (after d before) (always controls d before has legal)).1
+accounts_always controls d before has legal = (inv_is_safe controls d before legal (always controls d before has legal)).1
 
 -- Attempts
 

@@ -4,8 +4,16 @@ pub mod Begins
 pub mod Later
 -- what a delivery that ended with 0 did
 pub mod DeliveryEnds
+-- which deliveries were started since the last request for their slot
+pub mod Born
+-- what is in flight was asked for
+pub mod Asked
+-- no two attempts share a delivery
+pub mod Apart
 -- the state is safe
 pub mod Safe
+-- an injector whose link to todo was answered Ok
+pub mod Queuing
 -- who runs in the slots, and which members are there
 pub mod Tenants
 -- what a spawner holds open, through what others do

@@ -40,7 +40,7 @@ use Rattle.world_law.specs.Inv.{Inv}
 use Rattle.world_law.proofs.EnteredStands.{Begins, HoldsText, IsUnfed, reads}
 use Rattle.world_law.proofs.Pipes.{IsAway, away_same}
 use Rattle.world_law.proofs.PostPipes.{bytes_of, other_pipe, output_away}
-use Rattle.world_law.proofs.Safe.{inv_is_safe}
+use Rattle.world_law.proofs.Safe.{own_numbers}
 
 -- First bytes
 
@@ -142,7 +142,7 @@ module _ (controls : Controls) (s : State) (I : Inv controls s) (n : ℕ) (stays
   has_file =
       let h = taken_by (I.sound.fine n) in
       let it = found q.disk.names q.disk.files (Of Mess n) h.mess h.mess_there in
-      let number : h.mess.number ≡ n = (inv_is_safe controls s I).0.numbers n h.mess.number it.0 in
+      let number : h.mess.number ≡ n = own_numbers controls s I n h.mess.number it.0 in
       record {
         message = entered h.injection.args;
         is = record { injection = h.injection; lives = h.lives; accepted = h.accepted; text = refl };

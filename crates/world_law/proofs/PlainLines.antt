@@ -9,11 +9,12 @@ use Rattle.dot_qmail.specs.declared.line.Line.{Line}
 use Rattle.dot_qmail.specs.declared.line.Line.TheVariants as line
 use Rattle.dot_qmail.specs.Lines.{begins_blank, line_of, lines, path_line, plan_of, said, said_by, until_nul}
 use Rattle.mail_bytes.specs.Texts.{trimmed, HasNoNul}
-use Rattle.local_deliver.specs.Carried.{Reaches, instructions, of_choice, of_file}
+use Rattle.local_deliver.specs.Carried.{Reaches, instructions, of_choice, of_file, of_read}
 use Rattle.local_deliver.specs.Carried.Reaches.{AtEnd, AtStop, PastCommand, PastForward, PastMaildir}
-use Rattle.local_deliver.specs.Deeds.{Exited, bytes_read, told_names}
+use Rattle.local_deliver.specs.Deeds.{Exited, FileText, read_of, told_names}
+use Rattle.local_deliver.specs.Deeds.FileText.{Missing, SoFar, Unopened, Whole}
 use Rattle.local_parts.specs.declared.arguments.LocalArgs.{LocalArgs}
-use Rattle.local_parts.specs.Choosing.{chosen_by}
+use Rattle.local_parts.specs.Choosing.{chosen_by, file_name}
 use Rattle.local_parts.specs.Course.{default_text}
 use Rattle.local_parts.specs.Forwarding.{forwards}
 use Rattle.program_law.proofs.Post.Told.{first_plain}
@@ -71,10 +72,16 @@ file_plain : (args : LocalArgs) (bytes : List ℕ) (ls : List Line) → of_file 
 file_plain args [] ls e = plan_plain (default_text args) ls e
 file_plain args (b ∷ bytes) ls e = plan_plain (b ∷ bytes) ls e
 
-choice_plain : (args : LocalArgs) (o : Option Chosen) (bytes : List ℕ) (ls : List Line) → of_choice args o bytes ≡ Some ls → ArePlainLines ls
-choice_plain args None bytes ls e = absurd (cc)
-choice_plain args (Some chosen.Default) bytes ls e = plan_plain (default_text args) ls e
-choice_plain args (Some (chosen.File place)) bytes ls e = file_plain args bytes ls e
+read_plain : (args : LocalArgs) (read : FileText) (ls : List Line) → of_read args read ≡ Some ls → ArePlainLines ls
+read_plain args Unopened ls e = absurd (cc)
+read_plain args Missing ls e = absurd (cc)
+read_plain args (SoFar bytes) ls e = absurd (cc)
+read_plain args (Whole bytes) ls e = file_plain args bytes ls e
+
+choice_plain : (args : LocalArgs) (names : List (List ℕ)) (o : Option Chosen) (read : List ℕ → FileText) (ls : List Line) → of_choice args names o read ≡ Some ls → ArePlainLines ls
+choice_plain args names None read ls e = absurd (cc)
+choice_plain args names (Some chosen.Default) read ls e = plan_plain (default_text args) ls e
+choice_plain args names (Some (chosen.File place)) read ls e = read_plain args (read (file_name args names place)) ls e
 
 -- and those that were reached
 
@@ -94,4 +101,4 @@ addresses_plain (line.Mailbox path ∷ more) h = addresses_plain more h.1
 
 pub forwards_plain : (args : LocalArgs) (past : List Own) (ls : List Line) (es : List Exited) (rs : List Line) → instructions args past ≡ Some ls → Reaches ls es rs → ArePlain (forwards rs)
 forwards_plain args past ls es rs told reaches =
-    addresses_plain rs (reached_plain ls es rs reaches (choice_plain args (chosen_by args (told_names past)) (bytes_read past) ls told))
+    addresses_plain rs (reached_plain ls es rs reaches (choice_plain args (told_names args.home past) (chosen_by args (told_names args.home past)) (λ name. read_of name past) ls told))

@@ -204,7 +204,7 @@ module _ (controls : Controls) (s : State) (I : Inv controls s) (P : PostsStand 
   fares : SenderFares controls s.now q name d
   fares = I.fares name (sender began past) is
 
-  gives : (text : List ℕ) → own.due ≡ needs.Give port.Lspawn text → AsksFor Local d text
+  pub gives : (text : List ℕ) → own.due ≡ needs.Give port.Lspawn text → AsksFor Local d text
   gives text e = asks_for controls q d Local text I.sound.fine
       (requests_are_texts controls s.now q name d own.read own.ready Local text soon moment fares.stands fares.texts (due ∙ e))
 

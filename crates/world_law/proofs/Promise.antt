@@ -15,7 +15,7 @@ use Rattle.send_core.specs.declared.desk.Desk.{Desk}
 use Rattle.send_core.specs.Agrees.{task_of}
 use Rattle.send_core.specs.Desk.{told}
 use Rattle.send_core.specs.Past.{Account, Task, account, settle, settle_by}
-use Rattle.send_core.specs.Table.{Next}
+use Rattle.send_core.specs.Table.{Next, place_after as sender_after}
 use Rattle.send_runs.proofs.Reports.{Flies, flies_told}
 use Rattle.send_jobs.specs.declared.attempts.Attempt.{Attempt}
 use Rattle.send_jobs.specs.declared.channels.Channel.TheVariants.{Local}
@@ -34,8 +34,13 @@ use Rattle.mail_world.proofs.Waiting.{legal_before}
 use Rattle.world_law.specs.Carried.{AreTrue, Carried, DeliveredAreCarried, IsTrue, KReportsAreCarried, WasCarried, WasCarriedFor}
 use Rattle.world_law.specs.Headline.{EachPromised, Headline, IsBySender, Promise, WorldsAreSafe}
 use Rattle.world_law.specs.Inv.{Inv}
-use Rattle.world_law.specs.inside.Posts.{IsDeliveryFor, desk_in}
+use Rattle.world_law.specs.Crew.{IsNamed}
+use Rattle.world_law.specs.Started.{WasAsked}
+use Rattle.world_law.specs.inside.Posts.{IsDeliveryFor, desk_by, desk_in}
 use Rattle.world_law.proofs.Addressed.{deliveries_are_carried}
+use Rattle.world_law.proofs.Apart.{started_for}
+use Rattle.world_law.proofs.Asked.{asked_in}
+use Rattle.world_law.proofs.Born.{IsBorn}
 use Rattle.world_law.proofs.DeliveredDone.{done_for, took_message}
 use Rattle.world_law.proofs.Entered.{given_in, messages_always, took_entered}
 use Rattle.world_law.proofs.EnteredStands.{MessagesStand, sends_on}
@@ -78,24 +83,25 @@ module _ (controls : Controls) (d : Disk) (h : List Event) (has : AreControls co
   abbrev I : Inv controls s
   I = always controls d h has legal
 
-  abbrev M : MessagesStand s
+  abbrev M : MessagesStand (IsBorn h) s
   M = messages_always controls d h has legal
 
-  module _ (on : sends_on s ≡ true) where
-    abbrev slots : List (Option Attempt)
-    slots = (lane Local (desk_in (s.actors (codes "sender"))).slots).slots
+  abbrev slots : List (Option Attempt)
+  slots = (lane Local (desk_in (s.actors (codes "sender"))).slots).slots
 
+  module _ (on : sends_on s ≡ true) (asked : (slot : ℕ) (t : Attempt) → attempt_in slots slot ≡ Some t → WasAsked d h slot (task_of t)) where
     carried_in : (slot : ℕ) (t : Attempt) → attempt_in slots slot ≡ Some t → WasDelivered M.posts.done slot t.address → WasCarriedFor d h slot (task_of t)
     unfolding carried_for
     carried_in slot t flies w =
         let was = M.posts.was w.it w.among in
-        let given = given_in controls s I M on w.it t (ap (attempt_in slots) w.slot_is ∙ flies) ((M.done on).was w.it w.among) in
+        let given = given_in (IsBorn h) controls s I M on w.it t (ap (attempt_in slots) w.slot_is ∙ flies) ((M.done on).was w.it w.among) in
         let took = took_message controls s I w.it was in
         record {
           message = took.0;
-          entered = took_entered controls s I M on w.it was t.n given took.0 took.1;
+          entered = took_entered (IsBorn h) controls s I M on w.it was t.n given took.0 took.1;
           it = carried_for w.it.task.name t.address w.it.task.recipient w.it.task.sender took.0 was.is_for was.over w.recipient_is took.1;
           in_slot = was.in_slot ∙ ap (λ (n : ℕ). Some (record { parent = codes "lspawn"; number = n })) w.slot_is;
+          started = started_for d h w.it.task.name slot (task_of t) (asked slot t flies) (subst (λ (n : ℕ). IsBorn h n w.it.task.name) w.slot_is ((M.done on).started w.it w.among));
         }
 
     true_of : (r : Report) (o : Option Attempt) → ((t : Attempt) → o ≡ Some t → attempt_in slots r.slot ≡ Some t) → IsHeard Local M.posts.done r o → IsTrue d h r (option_map task_of o)
@@ -121,12 +127,19 @@ k_reports_are_carried controls d a own wrote before has legal x is start program
     subst (λ (p : Program). next_of p x.past own.read own.ready ≡ own.due) program
     (let may = legal.1 in let same : may.actor ≡ x = some_actor may.actor x (sym may.reads.is ∙ is) in subst (λ (y : Actor). next_of y.program y.past own.read own.ready ≡ own.due) same may.due) in
     let run : IsRunBy (Next None) x.past = subst (λ (p : Program). IsRunBy (next_of p) x.past) program (have_run d before legal.0 a x is) in
+    let name : a ≡ codes "sender" = subst (IsNamed a) program ((always controls d before has legal.0).crew a x is) in
+    let here : (after d before).actors (codes "sender") ≡ Some x = ap (after d before).actors (sym name) ∙ is in
+    let desk : desk_in ((after d before).actors (codes "sender")) ≡ sender_after None x.past = ap desk_in here ∙ ap (λ (p : Program). desk_by p x.past) program in
+    let flew = flies_now x.past run own due taking in
+    let asked : (slot : ℕ) (t : Attempt) → attempt_in (slots controls d before has legal.0) slot ≡ Some t → WasAsked d before slot (task_of t) =
+    λ slot t flies. asked_in slot (task_of t) controls d has before legal.0 x here
+    (sym (flew slot) ∙ ap (option_map task_of) (ap (λ (z : Desk). attempt_in (lane Local z.slots).slots slot) (sym desk) ∙ flies)) in
     let all = takes_reports controls (after d before) (always controls d before has legal.0) (messages_always controls d before has legal.0).posts
     (λ rs z. (y : Account) → Flies Local y z → AreTrue d before rs y) (λ z y flies. tt)
-    (λ on rs z same heard y flies. all_true controls d before has legal.0 on rs (lane Local z.slots).slots z y flies refl
+    (λ on rs z same heard y flies. all_true controls d before has legal.0 on asked rs (lane Local z.slots).slots z y flies refl
     (λ slot t there. ap (λ (l : List (Option Attempt)). attempt_in l slot) (sym same) ∙ there) heard)
     a own wrote legal.1 x is start program taking bytes came in
-    reports_now x.past run own due taking bytes came (λ rs. AreTrue d before rs (account Local x.past)) tt (all (account Local x.past) (flies_now x.past run own due taking))
+    reports_now x.past run own due taking bytes came (λ rs. AreTrue d before rs (account Local x.past)) tt (all (account Local x.past) flew)
 
 -- and whom ledgers have as delivered
 pub delivered_are_carried : DeliveredAreCarried

@@ -1,8 +1,9 @@
 -- The invariant says that the state is safe.
 use Rattle.std.proofs.Common.{◌≡◌, ◌≢◌, ℕ, List, Bool, true, false, Some, None, is_some, refl, ap}
 use Rattle.address_rules.specs.declared.controls.Controls.{Controls}
+use Rattle.call_fs.specs.Past.{IsRunBy}
 use Rattle.call_fs.specs.declared.past.Own.{Own}
-use Rattle.queue_paths.specs.Names.{Part}
+use Rattle.queue_paths.specs.Names.{Part, path}
 use Rattle.queue_paths.specs.Names.Name.{Of}
 use Rattle.queue_paths.specs.Names.Part.{Mess, Intd, Todo, Info, Local, Remote, Bounce}
 use Rattle.queue_states.specs.declared.state.State.TheVariants.{Other}
@@ -13,17 +14,19 @@ use Rattle.queue_law.specs.Numbers.{Entry, Queue, Role, Sound, about, entry}
 use Rattle.queue_law.proofs.Accounted.{all_accounted}
 use Rattle.queue_law.proofs.Claims.{sound_is_safe}
 use Rattle.queue_law.proofs.Looks.{find_some, found, not_found}
-use Rattle.mail_world.specs.Waiting.{IsBooked}
-use Rattle.mail_world.specs.History.{Actor, Life, State}
+use Rattle.mail_world.specs.History.{Actor, Life, State, after, next_of}
 use Rattle.mail_world.specs.History.Life.{Over}
 use Rattle.mail_world.specs.Untouched.{queue}
 use Rattle.world_events.specs.declared.event.Program.{Program}
 use Rattle.world_events.specs.declared.event.Program.TheVariants.{Delivery, Injector}
 use Rattle.world_law.specs.Crew.{is_well}
 use Rattle.world_law.specs.Fares.{FaresBy}
-use Rattle.world_law.specs.Headline.{EndsWell, SafeState}
+use Rattle.world_law.specs.Headline.{EndsWell, IsBooked, SafeState}
+use Rattle.world_law.specs.Inv.{Inv}
 use Rattle.world_law.specs.Laws.{AreAccounted, InvIsSafe}
 use Rattle.world_law.proofs.DeliveryEnds.{forwarded_in}
+use Rattle.world_law.proofs.Queuing.{has_queued}
+use Rattle.world_law.proofs.Ran.{have_run}
 
 fourth : (mess intd todo info local remote bounce : Bool) → mess ≡ true → todo ≡ true → bounce ≡ false → state_by mess intd todo info local remote bounce ≢ Other
 fourth true true true info local remote false m t b = λ e. absurd (cc)
@@ -69,9 +72,9 @@ module _ (q : Queue) (n : ℕ) where
   state_in (Fifth y z mess intd todo info) = fifth _ _ _ _ _ _ _ (there Mess y mess) (gone Intd intd) (gone Todo todo) (there Info z info)
 
 booked : (controls : Controls) (now : ℕ) (q : Queue) (a : List ℕ) (program : Program) (past : List Own) (life : Life) → FaresBy controls now q a program past life
-    → IsBooked q.books a program past
-booked controls now q a (Injector args) past life F = F.queued
-booked controls now q a other past life F = tt
+    → IsRunBy (next_of program) past → IsBooked q.books a program past
+booked controls now q a (Injector args) past life F run = λ made. F.queued (has_queued args past run made)
+booked controls now q a other past life F run = tt
 
 well : (controls : Controls) (now : ℕ) (q : Queue) (a : List ℕ) (program : Program) (past : List Own) (life : Life) → FaresBy controls now q a program past life
     → life ≡ Over 0 → EndsWell q.books a program past
@@ -97,9 +100,17 @@ safe_by controls s role sound queued ends =
       all_accounted controls q sound,
     )
 
+-- the name of a message is the file of its own number
+pub own_numbers : (controls : Controls) (s : State) → Inv controls s → (n i : ℕ) → s.disk.names (path (Of Mess n)) ≡ Some i → i ≡ n
+own_numbers controls s I n i h = (sound_is_safe controls (queue s I.role) I.sound).numbers n (entry s.disk.files i) (find_some s.disk.names s.disk.files (Of Mess n) i h)
+
+-- and an actor that has ended with 0 has ended as it says
+pub end_well : (controls : Controls) (s : State) → Inv controls s → (a : List ℕ) (x : Actor) → s.actors a ≡ Some x → x.life ≡ Over 0 → EndsWell s.books a x.program x.past
+end_well controls s I a x h over = well controls s.now (queue s I.role) a x.program x.past x.life (I.fares a x h) over
+
 pub inv_is_safe : InvIsSafe
-inv_is_safe controls s I =
-    let q = queue s I.role in
+inv_is_safe controls d before legal I =
+    let s = after d before in
     safe_by controls s I.role I.sound
-    (λ a x h. booked controls s.now q a x.program x.past x.life (I.fares a x h))
-    (λ a x h over. well controls s.now q a x.program x.past x.life (I.fares a x h) over)
+    (λ a x h. booked controls s.now (queue s I.role) a x.program x.past x.life (I.fares a x h) (have_run d before legal a x h))
+    (end_well controls s I)

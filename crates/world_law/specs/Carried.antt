@@ -37,6 +37,7 @@ use Rattle.mail_world.specs.History.Event.{Act}
 use Rattle.mail_world.specs.History.Life.{Over}
 use Rattle.world_law.specs.Deliveries.{IsForwardOf}
 use Rattle.world_law.specs.Entered.{IsEntered}
+use Rattle.world_law.specs.Started.{WasStartedFor}
 
 -- The links that an actor made in a history, in order: from which name to which, and the disk just before.
 
@@ -85,7 +86,8 @@ pub record Carried (d : Disk) (h : List Event) (name : List ℕ) (args : LocalAr
   -- the host is the one that control/me names, as it read that
   pub host : List ℕ
   pub host_is : host_read past ≡ Some host
-  -- the instructions are those of the file that is chosen among the names of its home, as it read that, or the default ones
+  -- the instructions are those of the file that is chosen among the names which its home told, by what it read of the home's file of that
+  -- name, or the default ones
   pub lines : List Line
   pub told : instructions args past ≡ Some lines
   -- Those that were reached are all of them, or those up to the first command that exited with 99. Each other command exited with 0.
@@ -110,13 +112,20 @@ pub record WasCarried (d : Disk) (h : List Event) (address message : List ℕ) :
   pub recipient : address ≡ args.local ++ 64 ∷ args.domain
   pub carried : Carried d h name args delivery.past message
 
--- There is one for the attempt at this record in this slot of the local spawner: for its recipient, and of the message that the accepted injection of
--- its number entered.
+-- There is one for the attempt at this record in this slot of the local spawner: for its recipient, of the message that the accepted injection of its
+-- number entered, and started since the attempt's request was given.
 pub record WasCarriedFor (d : Disk) (h : List Event) (slot : ℕ) (t : Task) : Type 0 where
   pub message : List ℕ
   pub entered : IsEntered (after d h) t.n message
   pub it : WasCarried d h t.address message
   pub in_slot : (after d h).pipework.slots it.name ≡ Some (record { parent = codes "lspawn"; number = slot })
+  pub started : WasStartedFor d h it.name slot t
+
+-- No two attempts share one: of two in a history that have the same delivery the request was given with the same event.
+abbrev pub DeliveriesAreApart : Type 0
+DeliveriesAreApart = (d : Disk) (h later before newer earlier : List Event) → Legal d h → later ++ before ≡ h → newer ++ earlier ≡ h → (i j : ℕ) (t u : Task)
+    → (v : WasCarriedFor d before i t) → (w : WasCarriedFor d earlier j u) → v.it.name ≡ w.it.name
+    → (i ≡ j) × (t ≡ u) × (v.started.asked.earlier ≡ w.started.asked.earlier)
 
 -- A report is of the attempt in flight in its slot, and if it tells of a success, there is such a delivery.
 abbrev pub IsTrue : Disk → List Event → Report → Option Task → Type 0

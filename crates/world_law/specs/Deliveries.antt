@@ -60,7 +60,7 @@ pub record IsForwardOf (b : Books) (args : LocalArgs) (past : List Own) (message
   pub words : Arguments
   pub accepted : HasQueued b actor words
   pub message_is : words.message ≡ forward_text args message
-  pub from : sender_of words ≡ forward_sender args (told_names past)
+  pub from : sender_of words ≡ forward_sender args (told_names args.home past)
   pub to : recipients_of words ≡ addresses
 
 -- there is one, if there are any addresses

@@ -6,10 +6,12 @@ use Rattle.call_fs.specs.declared.past.GotData.TheVariants as got
 use Rattle.call_fs.specs.declared.past.NeedData.TheVariants as needs
 use Rattle.call_fs.specs.declared.past.Own.{Own}
 use Rattle.call_fs.specs.declared.program.Port.TheVariants as port
+use Rattle.call_fs.specs.Past.{HasCall}
 use Rattle.local_parts.specs.declared.arguments.LocalArgs.{LocalArgs}
 use Rattle.queue_paths.specs.Names.{path}
 use Rattle.queue_paths.specs.Names.Part.{Mess}
 use Rattle.queue_paths.specs.Names.Name.{Of}
+use Rattle.queue_inject.specs.Causes.{IsQueuing}
 use Rattle.queue_inject.specs.Texts.{entered}
 use Rattle.queue_states.specs.declared.state.State.TheVariants.{Other}
 use Rattle.queue_states.specs.States.{state_of}
@@ -30,7 +32,7 @@ use Rattle.mail_world.specs.History.{Event, Actor, State, Legal, after}
 use Rattle.mail_world.specs.History.Event.{Act}
 use Rattle.mail_world.specs.History.Life.{Over}
 use Rattle.mail_world.specs.Untouched.{queue}
-use Rattle.mail_world.specs.Waiting.{EachWaiting, HasNoGeneration, IsBooked}
+use Rattle.mail_world.specs.Waiting.{EachWaiting, HasNoGeneration}
 use Rattle.mail_world.specs.World.{Happened, Seen}
 use Rattle.world_events.specs.declared.event.Program.{Program}
 use Rattle.world_events.specs.declared.event.Program.TheVariants.{Delivery, Injector, Sender}
@@ -38,6 +40,11 @@ use Rattle.world_law.specs.Carried.{Carried, HearsTrue, WasCarried}
 use Rattle.world_law.specs.Deliveries.{IsCarriedOut}
 use Rattle.world_law.specs.Ledger.{IsAccounted}
 use Rattle.world_law.specs.Reported.{WasTaken}
+
+-- What the past of a program has put into the books: of an injector whose link to todo was answered Ok, its accepted injection.
+abbrev pub IsBooked : Books → List ℕ → Program → List Own → Type 0
+IsBooked b a (Injector args) past = HasCall past IsQueuing → HasQueued b a args
+IsBooked b a other past = Unit {0}
 
 -- What a program's end with 0 says, after this past: an injector's, that it has an accepted injection; a delivery's, that its instructions
 -- were carried out, and that the injection of its forwards, if it has any, was accepted.

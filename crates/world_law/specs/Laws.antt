@@ -23,9 +23,9 @@ InvBegins = (controls : Controls) (d : Disk) → AreControls controls d → Open
 abbrev pub AreAccounted : Controls → State → Type 0
 AreAccounted controls s = (q : Injection) → IsInjected s.books q → q.accepted ≡ true → (r : Recipient q.args) → Accounted controls s.disk s.books q r
 
--- it says that the state is safe
+-- after a legal history it says that the state is safe
 abbrev pub InvIsSafe : Type 0
-InvIsSafe = (controls : Controls) (s : State) → Inv controls s → SafeState s × AreAccounted controls s
+InvIsSafe = (controls : Controls) (d : Disk) (before : List Event) → Legal d before → Inv controls (after d before) → SafeState (after d before) × AreAccounted controls (after d before)
 
 -- an event that may happen keeps it
 abbrev pub IsKeptBy : Event → Type 0

@@ -30,6 +30,8 @@ pub mod Standing
 pub mod Spawned
 -- the message that a local delivery took is the one entered
 pub mod Entered
+-- for which attempt a local delivery was started
+pub mod Started
 -- what a local delivery carried out
 pub mod Carried
 -- definitions that only proofs and private code need

@@ -1,7 +1,7 @@
 // Laws of the whole system. Each is the contract of a function that does nothing.
 ghost use Rattle.std.specs.Prelude.{false, true};
 ghost use Rattle.world_law.specs.Bounces.{BouncesAreAccepted, BouncesAreReadLast, ReturnedRecipientsAreNamed};
-ghost use Rattle.world_law.specs.Carried.{DeliveredAreCarried, KReportsAreCarried};
+ghost use Rattle.world_law.specs.Carried.{DeliveredAreCarried, DeliveriesAreApart, KReportsAreCarried};
 ghost use Rattle.world_law.specs.Deliveries.{DropsAreWhole, ForwardsAreAddressed};
 ghost use Rattle.world_law.specs.Headline.{AttemptsAreSound, Headline, SafeWithoutGenerations, WorldsAreSafe};
 ghost use Rattle.world_law.specs.Leaves.{EventsLeave};
@@ -17,7 +17,7 @@ pub fn inv_begins()
     ensures { InvBegins }
 {}
 
-/// It says that the state is safe.
+/// After a legal history it says that the state is safe.
 pub fn inv_is_safe()
     ensures { InvIsSafe }
 {}
@@ -147,9 +147,14 @@ pub fn drops_are_whole()
 
 /// Each report that the sender takes of the local spawner is of an attempt in flight in its slot; and if it tells of a success, a delivery
 /// that was started in that slot, for the attempt's recipient and with the message that the accepted injection of its number entered,
-/// has ended with 0 and has carried out its instructions.
+/// has ended with 0 and has carried out its instructions. It was started since the attempt's request was given, in the same generation.
 pub fn k_reports_are_carried()
     ensures { KReportsAreCarried }
+{}
+
+/// No two attempts share such a delivery.
+pub fn deliveries_are_apart()
+    ensures { DeliveriesAreApart }
 {}
 
 /// So each local recipient that is accounted for as delivered has such a delivery, for its routed address and of the message as entered.

@@ -52,8 +52,9 @@
 //! - A link is due to a local delivery only of a file that holds the lines of a maildir and the message that it
 //!   took, whole and on the disk, whatever others did meanwhile: the law `drops_are_whole`, by `DropsAreWhole`.
 //! - Each report that the sender takes of the local spawner is of the attempt in flight in its slot. If its letter
-//!   is `K`, there is a local delivery that was started in that slot, for the recipient of that attempt. It has
-//!   ended with 0, and has carried out its instructions (`Carried`) for the message that the accepted injection of
+//!   is `K`, there is a local delivery that was started in that slot, for the recipient of that attempt, since the
+//!   request of the attempt was given and in the same generation; no two attempts share one (the law
+//!   `deliveries_are_apart`). It has ended with 0, and has carried out its instructions (`Carried`) for the message that the accepted injection of
 //!   the attempt's number entered. This comes of what lies between the two in each state of a history: their two
 //!   pipes, the desk of the sender, the place of the spawner and the deliveries in its slots are as program_law says
 //!   (`PostsStand`). And while the sender goes on (`MessagesStand`), what the local spawner has read of a message
@@ -128,13 +129,14 @@ mod worlds;
 
 pub use laws::{
     always, attempts_are_sound, bounces_are_accepted, bounces_are_read_last, children_keep,
-    cleaners_keep, commands_rest, delivered_are_carried, delivered_were_taken, deliveries_keep,
-    drops_are_whole, events_leave, failed_were_taken, flights_stand, forwards_are_addressed,
-    halts_keep, hands_always_stand, headline, injections_are_apart, injections_are_in_time,
-    injectors_keep, inv_begins, inv_is_safe, k_reports_are_carried, ledgers_are_of_reports,
-    links_are_of_whole_files, locals_keep, moments_keep, pids_are_old, records_are_routed,
-    remotes_keep, reports_keep, requests_are_of_flights, requests_stand,
-    returned_recipients_are_named, safe_without_generations, senders_keep, starts_keep, stops_keep,
-    sweeps_are_old, taken_are_delivered, taken_have_failed, worlds_are_safe,
+    cleaners_keep, commands_rest, delivered_are_carried, delivered_were_taken,
+    deliveries_are_apart, deliveries_keep, drops_are_whole, events_leave, failed_were_taken,
+    flights_stand, forwards_are_addressed, halts_keep, hands_always_stand, headline,
+    injections_are_apart, injections_are_in_time, injectors_keep, inv_begins, inv_is_safe,
+    k_reports_are_carried, ledgers_are_of_reports, links_are_of_whole_files, locals_keep,
+    moments_keep, pids_are_old, records_are_routed, remotes_keep, reports_keep,
+    requests_are_of_flights, requests_stand, returned_recipients_are_named,
+    safe_without_generations, senders_keep, starts_keep, stops_keep, sweeps_are_old,
+    taken_are_delivered, taken_have_failed, worlds_are_safe,
 };
 pub use worlds::each_world_is_safe;

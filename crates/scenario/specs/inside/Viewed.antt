@@ -1,7 +1,7 @@
 -- The lines of the recipients of one message.
 use Rattle.std.specs.Prelude.{◌≡◌, ℕ, List}
 use Rattle.call_fs.specs.Disk.{Disk}
-use Rattle.crash_fs.specs.Crash.{crash_disk}
+use Rattle.mem_fs.specs.MemDisk.{disk_of}
 use Rattle.script_disks.specs.Controls.{controls_on}
 use Rattle.mail_world.specs.History.{Event, after}
 use Rattle.world_events.specs.declared.books.Entry.{Entry}
@@ -21,6 +21,6 @@ given_fates v mail = fates_of v mail.0 mail.1.envelope.now
 
 -- it was read of a world in which this happened, since it began with this disk
 pub record IsOf (o : Overview) (d : Disk) (h : List Event) : Type 0 where
-  pub disk : crash_disk o.disk.now ≡ (after d h).disk
+  pub disk : disk_of o.disk.now.held ≡ (after d h).disk
   pub controls : o.controls.now ≡ controls_on (after d h).disk
   pub fates : AreFates o.fates.now (after d h).books

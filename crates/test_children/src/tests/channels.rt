@@ -1,14 +1,14 @@
 // Children of a script: what their channels bring, and how they end.
 
-use super::scripted::{Script, Scripted, unordered};
+use super::scripted::{Closed, Script, Scripted, unordered};
 use super::yard::{Came, Yard, gather};
 use outside::{Gate, Gave, Post, Posts, Spawner, Started, Status};
 use proc_runner::{ChildPosts, MOST_PRINTED, OwnReading, read_own_input, share};
-use resting_gates::{RestingGate, drain_limit};
+use resting_gates::{RestingGate, drain_limit, idle_limit};
 use std::alloc::{AllocError, Global};
-use std::sync::Wait;
+use std::sync::{Arc, Wait};
 use std::test::*;
-use std::thread::Threads;
+use std::thread::{self, Threads};
 
 /// Four scripts, how many bytes come of each, whether its channel fails, its status, and how many are cut off.
 #[derive(Clone, Copy)]
@@ -84,6 +84,7 @@ const QUIET: Script = Script {
     asks: 0,
     code: 0,
     in_order: false,
+    takes: 10_000,
 };
 
 /// One that prints nothing, one that goes on after its output ended, one whose output breaks, and one of many pieces.
@@ -163,6 +164,62 @@ fn channels_of_four_children(rt: HostRuntime) {
             && holds(rt, rt.alloc(), 64, &FOUR)
             && holds(rt, rt.alloc(), 8, &PRINTING)
     );
+}
+
+/// One that takes two bytes of its input, and doesn't end by itself.
+const STUCK: Script = Script {
+    letter: b's',
+    asks: u64::MAX,
+    takes: 2,
+    ..QUIET
+};
+
+/// Feeds a child until that fails. Answers whether it does.
+fn fails_at_last<R: Wait + Drop>(yard: &mut Yard<R, Scripted>, chan: u32) -> bool {
+    for _ in 0..1_000_000 {
+        if yard.children.feed(chan, b"abc") == Gave::Failed {
+            return true;
+        }
+        thread::yield_now();
+    }
+    false
+}
+
+/// Whether a child that doesn't take all that it is fed is ended, and its input closed as one that isn't whole; and one that does is
+/// told that its input is.
+fn ends_what_is_cut<R: Threads + Wait + Copy + Send + Sync + Drop + 'static>(
+    rt: R,
+    alloc: Global,
+) -> Result<bool, AllocError> {
+    let system = unordered(alloc, [STUCK, QUIET, QUIET, QUIET])?;
+    let closed = Arc::try_clone(&system.closed)?;
+    let mut yard = Yard::new(rt, alloc, 4, system, 86_400_000)?;
+    let cut = yard.start(alloc, &[b"0"]);
+    let fails = fails_at_last(&mut yard, cut);
+    let is_ended = yard.collect() && yard.children.status(cut) == Status::Crashed;
+    let whole = yard.start(alloc, &[b"1"]);
+    let is_fed = yard.children.feed(whole, b"abc") == Gave::Done;
+    yard.children.finish(whole);
+    let is_well = yard.collect() && yard.children.status(whole) == Status::Ended(0);
+    let right = fails && is_ended && is_fed && is_well && are_closed(&closed, (1, 1));
+    drop(yard);
+    Ok(right)
+}
+
+/// Whether so many inputs were closed soon, as whole ones and as others.
+fn are_closed(closed: &Closed, counts: (u64, u64)) -> bool {
+    for _ in 0..1_000_000 {
+        if closed.counts() == counts {
+            return true;
+        }
+        thread::yield_now();
+    }
+    false
+}
+
+#[test]
+fn a_cut_input_ends_its_child(rt: HostRuntime) {
+    assert!(rt; ends_what_is_cut(rt, rt.alloc()) == Ok(true));
 }
 
 /// What comes of the program's own input, where the script is that of the first output: how many bytes, and whether it ended.
@@ -252,10 +309,15 @@ fn a_reader_that_is_not_started(rt: HostRuntime) {
 fn limits_that_are_told(rt: HostRuntime) {
     assert!(rt;
         drain_limit(None) == Some(600_000)
-            && drain_limit(Some(b"0")) == Some(0)
+            && drain_limit(Some(b"0")).is_none()
+            && drain_limit(Some(b"1")) == Some(1)
             && drain_limit(Some(b"86400000")) == Some(86_400_000)
             && drain_limit(Some(b"86400001")).is_none()
             && drain_limit(Some(b"10s")).is_none()
             && drain_limit(Some(b"")).is_none()
+            && idle_limit(None) == Some(0)
+            && idle_limit(Some(b"0")) == Some(0)
+            && idle_limit(Some(b"60000")) == Some(60_000)
+            && idle_limit(Some(b"60001")).is_none()
     );
 }

@@ -88,6 +88,9 @@ fn gets<R: Wait>(
 
 const THREE: [&[u8]; 3] = [b"one, ", b"", b"and another"];
 
+/// A text of which each write takes three bytes: 334 writes.
+const LONG: [u8; 1000] = [b'x'; 1000];
+
 #[test]
 fn texts_are_written_in_order(rt: HostRuntime) {
     let alloc = rt.alloc();
@@ -102,6 +105,7 @@ fn texts_are_written_in_order(rt: HostRuntime) {
             true
         ) == Ok(true)
             && gets(&rt, alloc, &THREE, Last::End, 7, b"one, an", false) == Ok(true)
+            && gets(&rt, alloc, &[&LONG], Last::End, 1000, &LONG, true) == Ok(true)
             && gets(&rt, alloc, &[b"first"], Last::Nothing, 0, b"", false) == Ok(true)
             && gets(&rt, alloc, &[b"first"], Last::GiveUp, 100, b"first", false) == Ok(true)
     );

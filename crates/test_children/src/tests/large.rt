@@ -125,8 +125,9 @@ pub fn counts<R: Wait + Drop, S: System>(
     right && yard.bytes.as_slice() == b"67108864\n".as_slice()
 }
 
-/// Whether commands that don't end are ended by the limit: one that reads nothing; and one that has closed its output too, which is
-/// fed this.
+/// Whether commands that don't end are ended by the limit: one that reads nothing; one that has closed its output too, which is
+/// fed this; and what they have started with them. One that has ended has the status that it has, though a child of its holds its
+/// output open, also one that has left its group.
 pub fn sleepers<R: Wait + Drop, S: System>(
     yard: &mut Yard<R, S>,
     alloc: Global,
@@ -134,6 +135,12 @@ pub fn sleepers<R: Wait + Drop, S: System>(
 ) -> bool {
     let open = b"exec sleep 1000".as_slice();
     let closed = b"exec sleep 1000 >&-".as_slice();
-    let is_ended = prints(yard, alloc, open, b"", b"", Status::Crashed);
-    prints(yard, alloc, closed, text, b"", Status::Crashed) && is_ended
+    let grouped = b"sleep 1000 & sleep 1000".as_slice();
+    let left = b"sleep 1000 & echo left; exit 3".as_slice();
+    let apart = b"setsid sleep 20 & sleep 0.02; echo apart; exit 4".as_slice();
+    let is_ended = prints(yard, alloc, open, b"", b"", Status::Crashed)
+        && prints(yard, alloc, grouped, b"", b"", Status::Crashed);
+    let is_told = prints(yard, alloc, left, b"", b"left\n", Status::Ended(3))
+        && prints(yard, alloc, apart, b"", b"apart\n", Status::Ended(4));
+    prints(yard, alloc, closed, text, b"", Status::Crashed) && is_ended && is_told
 }

@@ -1,6 +1,6 @@
 // Each order of the pieces and the ends of three channels.
 
-use super::scripted::{Script, Scripted, Turns};
+use super::scripted::{Closed, Script, Scripted, Turns};
 use super::yard::{POST, Yard};
 use outside::{Post, Posts, Spawner, Status};
 use std::alloc::{AllocError, Global};
@@ -51,6 +51,7 @@ const LETTERS: Script = Script {
     asks: 2,
     code: 0,
     in_order: true,
+    takes: 10_000,
 };
 
 /// The three, and one that isn't started.
@@ -156,6 +157,7 @@ fn tried<R: Threads + Wait + Copy + Send + Sync + Drop + 'static>(
     let system = Scripted {
         scripts: SCRIPTS,
         turns: Arc::try_clone(&turns)?,
+        closed: Arc::new(alloc, Closed::new())?,
     };
     let mut yard = Yard::new(rt, alloc, 4, system, 60_000)?;
     let kept = all_kept(&mut yard, alloc, &turns, all.as_slice());

@@ -4,7 +4,8 @@ use super::large::{MANY_TIMES, TEXT, counts, gives_back, sleepers};
 use super::many::all_print;
 use super::shells::{commands, floods, itself, keeps_apart, refuses, strangers};
 use super::yard::Yard;
-use proc_runner::{HostSystem, System};
+use host_children::HostSystem;
+use proc_runner::System;
 use std::alloc::{AllocError, Global};
 use std::process::{OpenProcess, Processes};
 use std::sync::Wait;
@@ -86,9 +87,10 @@ fn wrong<R: Wait + Drop, S: System>(
     }
 }
 
-/// The same over the system, where a child may run for so long after its input ended, in milliseconds.
+/// The same over the system, where a child may run for so long after its input ended, in milliseconds, and files lie in `/tmp`.
 fn wrong_over<R: Threads + Wait + Processes + Clock + Copy + Send + Sync + Drop + 'static>(
     rt: R,
+    files: &HostRuntime,
     alloc: Global,
     drain: u64,
     part: Part,
@@ -100,7 +102,8 @@ where
     <R::Started as OpenProcess>::Stderr: Send + 'static,
 {
     let text = text(alloc)?;
-    let mut yard = Yard::new(rt, alloc, 64, HostSystem::new(rt, 0), drain)?;
+    let system = HostSystem::new(rt, files, 0, String::from_str(alloc, "/tmp")?);
+    let mut yard = Yard::new(rt, alloc, 64, system, drain)?;
     let told = wrong(&mut yard, alloc, part, text.as_slice());
     drop(yard);
     Ok(told)
@@ -108,25 +111,25 @@ where
 
 #[test]
 fn one_after_the_other(rt: HostRuntime) {
-    assert!(rt; wrong_over(rt, rt.alloc(), 60_000, Part::Few) == Ok(""));
+    assert!(rt; wrong_over(rt, &rt, rt.alloc(), 60_000, Part::Few) == Ok(""));
 }
 
 #[test]
 fn many_at_once(rt: HostRuntime) {
-    assert!(rt; wrong_over(rt, rt.alloc(), 60_000, Part::Many) == Ok(""));
+    assert!(rt; wrong_over(rt, &rt, rt.alloc(), 60_000, Part::Many) == Ok(""));
 }
 
 #[test]
 fn much_that_comes_back(rt: HostRuntime) {
-    assert!(rt; wrong_over(rt, rt.alloc(), 60_000, Part::Back) == Ok(""));
+    assert!(rt; wrong_over(rt, &rt, rt.alloc(), 60_000, Part::Back) == Ok(""));
 }
 
 #[test]
 fn much_that_is_counted(rt: HostRuntime) {
-    assert!(rt; wrong_over(rt, rt.alloc(), 60_000, Part::Counted) == Ok(""));
+    assert!(rt; wrong_over(rt, &rt, rt.alloc(), 60_000, Part::Counted) == Ok(""));
 }
 
 #[test]
 fn ended_by_the_limit(rt: HostRuntime) {
-    assert!(rt; wrong_over(rt, rt.alloc(), 100, Part::Sleepers) == Ok(""));
+    assert!(rt; wrong_over(rt, &rt, rt.alloc(), 100, Part::Sleepers) == Ok(""));
 }

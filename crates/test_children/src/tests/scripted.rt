@@ -2,7 +2,7 @@
 ghost use Rattle.std.specs.Prelude.{◌<◌, IfSome};
 
 use piece_queue::ROOM;
-use proc_runner::{Born, Exit, Process, Readable, Start, System};
+use proc_runner::{Born, Closing, Exit, Process, Readable, Start, System};
 use std::alloc::{AllocError, Global};
 use std::io::{self, ErrorKind, Read, Write};
 use std::sync::Arc;
@@ -12,7 +12,7 @@ use std::time::Duration;
 
 /// What a process does: it prints so many bytes, all alike, at most so many at once, then closes its output or breaks it; and its end
 /// is told once it was asked for so often, or once it was killed. One whose end is told at once has exited before anybody can
-/// kill it. One that is in order reads only when it is its turn.
+/// kill it. One that is in order reads only when it is its turn. Its input takes so many bytes, and then no more.
 #[derive(Clone, Copy)]
 pub struct Script {
     pub letter: u8,
@@ -22,6 +22,7 @@ pub struct Script {
     pub asks: u64,
     pub code: u8,
     pub in_order: bool,
+    pub takes: usize,
 }
 
 /// Whose turn it is to be read: the scripts, one after the other, and at which of them it stands.
@@ -62,17 +63,23 @@ impl Turns {
     }
 }
 
-/// A system whose program named `0` follows the first script, `1` the second, and so on; no other can be started.
+/// A system whose program or member named `0` follows the first script, `1` the second, and so on; no other can be started.
 #[derive(Drop)]
 pub struct Scripted {
     pub scripts: [Script; 4],
     pub turns: Arc<Turns, Global>,
+    pub closed: Arc<Closed, Global>,
 }
 
 /// A system of these scripts, of which none is in order.
 pub fn unordered(alloc: Global, scripts: [Script; 4]) -> Result<Scripted, AllocError> {
     let turns = Arc::new(alloc, Turns::new(Vec::new(alloc)))?;
-    Ok(Scripted { scripts, turns })
+    let closed = Arc::new(alloc, Closed::new())?;
+    Ok(Scripted {
+        scripts,
+        turns,
+        closed,
+    })
 }
 
 /// A process of a script.
@@ -94,9 +101,38 @@ pub struct ScriptedOutput {
     from: u64,
 }
 
-/// The input of a process of a script: it takes up to 100 bytes at once.
+/// The input of a process of a script: it takes up to 100 bytes at once, and so many in all. It counts the inputs that were closed as
+/// whole ones, and as others.
 #[derive(Drop)]
-pub struct ScriptedInput;
+pub struct ScriptedInput {
+    left: usize,
+    closed: Arc<Closed, Global>,
+}
+
+/// How many inputs were closed as whole ones, and as others.
+#[derive(Drop)]
+pub struct Closed {
+    whole: AtomicU64,
+    cut: AtomicU64,
+}
+
+impl Closed {
+    /// None so far.
+    pub fn new() -> Self {
+        Closed {
+            whole: AtomicU64::new(0),
+            cut: AtomicU64::new(0),
+        }
+    }
+
+    /// How many were closed as whole ones, and as others.
+    pub fn counts(&self) -> (u64, u64) {
+        (
+            self.whole.load(Ordering::SeqCst),
+            self.cut.load(Ordering::SeqCst),
+        )
+    }
+}
 
 impl Scripted {
     /// What a program of the script at this place prints.
@@ -138,6 +174,10 @@ impl Process for ScriptedProcess {
         Ok(None)
     }
 
+    fn has_exited(&self) -> bool {
+        false
+    }
+
     fn kill(&self) {
         if self.script.asks > 0 {
             self.killed.store(1, Ordering::SeqCst);
@@ -148,6 +188,8 @@ impl Process for ScriptedProcess {
         self.kill();
         self.condemned.store(1, Ordering::SeqCst);
     }
+
+    fn cut(&self) {}
 
     fn nap(&self, _time: Duration) {
         thread::yield_now();
@@ -186,11 +228,24 @@ impl Readable for ScriptedOutput {
 
 impl Write for ScriptedInput {
     fn write(&mut self, buf: &[u8]) -> io::Result<usize> {
-        Ok(buf.len().min(100))
+        let count = buf.len().min(100).min(self.left);
+        self.left -= count;
+        Ok(count)
     }
 
     fn flush(&mut self) -> io::Result<()> {
         Ok(())
+    }
+}
+
+impl Closing for ScriptedInput {
+    fn close(self, is_whole: bool) {
+        let ScriptedInput { left: _, closed } = self;
+        if is_whole {
+            closed.whole.fetch_add(1, Ordering::SeqCst);
+        } else {
+            closed.cut.fetch_add(1, Ordering::SeqCst);
+        }
     }
 }
 
@@ -221,7 +276,10 @@ impl System for Scripted {
         Ok(Born {
             process: Arc::new(alloc, process)?,
             number: 1,
-            input: ScriptedInput,
+            input: ScriptedInput {
+                left: self.scripts[place as usize].takes,
+                closed: Arc::try_clone(&self.closed)?,
+            },
             output,
         })
     }
@@ -231,7 +289,7 @@ impl System for Scripted {
 fn place(words: &[&[u8]]) -> Option<u8>
     ensures { IfSome result (λ at. at < 4) }
 {
-    let name = words.first()?;
+    let name = words.iter().find(|word| !word.is_empty())?;
     match name.first()? {
         b'0' => Some(0),
         b'1' => Some(1),

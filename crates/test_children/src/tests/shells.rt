@@ -39,10 +39,11 @@ pub fn prints<R: Wait + Drop, S: System>(
 }
 
 /// Commands of a shell, what each is fed and prints, and its exit status: 3; 127; one whose words to descriptor 2 are lost; one that
-/// closes its output and runs on, and has ended when it exits; one whose output outlives it; one that reads nothing.
-const COMMANDS: [(&[u8], &[u8], &[u8], u8); 6] = [
+/// closes its output and runs on, and has ended when it exits; one whose output outlives it; one that reads nothing; one whose input
+/// is a file without a name; one whose child holds its output for longer than that is read.
+const COMMANDS: [(&[u8], &[u8], &[u8], u8); 8] = [
     (b"echo one; exit 3", b"", b"one\n", 3),
-    (b"/nonexistent", b"", b"", 127),
+    (b"/proc/self/none", b"", b"", 127),
     (
         b"echo forged >&2; readlink /proc/self/fd/2",
         b"",
@@ -52,6 +53,13 @@ const COMMANDS: [(&[u8], &[u8], &[u8], u8); 6] = [
     (b"exec >&-; sleep 0.3; exit 7", b"", b"", 7),
     (b"(sleep 0.3; echo late) & exit 5", b"", b"late\n", 5),
     (b"echo done", b"abc", b"done\n", 0),
+    (
+        b"test -f /dev/stdin && stat -L -c %h-%s /dev/stdin; cat",
+        b"abc",
+        b"0-3\nabc",
+        0,
+    ),
+    (b"sleep 1000 & exit 6", b"", b"", 6),
 ];
 
 /// Whether each of the commands does what it is to do, and one that ends itself by a signal has crashed.
@@ -82,17 +90,22 @@ pub fn floods<R: Wait + Drop, S: System>(yard: &mut Yard<R, S>, alloc: Global) -
     right && yard.posts.faults() == 0
 }
 
-/// Whether a remote program has a process group of its own, so that it ends nobody else; and whether one that can't be started, and
-/// one with a word that the system can't take, are told so.
+/// Whether a remote program has a process group of its own, so that it ends nobody else, and `/dev/null` as descriptor 2; and whether
+/// one that can't be started, a local delivery that can't, and one with a word that the system can't take, are told so.
 pub fn strangers<R: Wait + Drop, S: System>(yard: &mut Yard<R, S>, alloc: Global) -> bool {
     let killer = run(yard, alloc, &[b"/bin/sh", b"-c", b"kill -9 0", b"x"], b"");
-    let none = run(yard, alloc, &[b"/nonexistent", b"d", b"s", b"r"], b"");
+    let none = run(yard, alloc, &[b"/proc/self/none", b"d", b"s", b"r"], b"");
     let is_silent = yard.bytes.is_empty();
+    // a system that takes this process for number 0 finds no program of its own
+    let delivery = run(yard, alloc, &[b"", b"local", b"d"], b"");
+    let link: [&[u8]; 4] = [b"/bin/readlink", b"-n", b"-e", b"/proc/self/fd/2"];
+    let linked = run(yard, alloc, &link, b"");
+    let is_apart = linked == Status::Ended(0) && yard.bytes.as_slice() == b"/dev/null".as_slice();
     let wrong = yard
         .children
         .start(alloc, &[b"/bin/echo", b"d", b"s", b"\xff"]);
-    let are_crashed = killer == Status::Crashed && none == Status::Crashed;
-    are_crashed && is_silent && wrong == Started::Failed
+    let are_crashed = [killer, none, delivery] == [Status::Crashed; 3];
+    are_crashed && is_silent && is_apart && wrong == Started::Failed
 }
 
 /// Whether this same program is started as a member, and told its words: it prints, and ends, as when a shell starts the program
@@ -129,19 +142,22 @@ pub fn refuses<R: Wait + Drop, S: System>(yard: &mut Yard<R, S>, alloc: Global) 
 /// Prints its descriptors, and reads its input.
 const DESCRIPTORS: &[u8] = b"echo /proc/self/fd/*; exec cat";
 
-/// Whether two children end in the order in which their inputs are ended, where the second was started while the first one ran;
-/// and whether it has the descriptors that a child has which is alone.
+/// Whether two children end in the order in which their inputs are ended, where the second was asked for while the first one was, and
+/// begins while that runs; and whether it has the descriptors that a child has which is alone.
 pub fn keeps_apart<R: Wait + Drop, S: System>(yard: &mut Yard<R, S>, alloc: Global) -> bool {
     let words: [&[u8]; 3] = [b"sh", b"-c", DESCRIPTORS];
     let is_alone = run(yard, alloc, &words, b"") == Status::Ended(0);
-    let first = yard.start(alloc, &[b"sh", b"-c", b"exec cat"]);
+    let first = yard.start(alloc, &[b"sh", b"-c", b"sleep 0.5; exec cat"]);
     let second = yard.start(alloc, &words);
-    // the second one still holds all that it has when the first one's input ends
+    let third = yard.start(alloc, &[b"sh", b"-c", b"exec cat"]);
+    // the first one runs, and the third one's input is still open, when the second one begins
     yard.children.finish(first);
-    let is_first = yard.collect() && yard.children.status(first) == Status::Ended(0);
     yard.children.finish(second);
     let is_second = yard.collect() && yard.children.status(second) == Status::Ended(0);
-    is_alone && is_first && is_second && is_twice(yard.bytes.as_slice())
+    let is_first = yard.collect() && yard.children.status(first) == Status::Ended(0);
+    yard.children.finish(third);
+    let is_third = yard.collect() && yard.children.status(third) == Status::Ended(0);
+    is_alone && is_first && is_second && is_third && is_twice(yard.bytes.as_slice())
 }
 
 /// Whether these bytes are a text twice.

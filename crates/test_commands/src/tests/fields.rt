@@ -35,6 +35,14 @@ pub fn numbers(alloc: Global, row: &str, name: &str) -> Vec<u64> {
     all
 }
 
+/// Whether a part of the row that has this name has these numbers; or there is none.
+pub fn are_numbers(alloc: Global, row: &str, name: &str, found: &[u64]) -> bool {
+    let wanted = numbers(alloc, row, name);
+    let is_so = wanted.is_empty() || wanted.as_slice() == found;
+    drop(wanted);
+    is_so
+}
+
 /// The bytes of a text of a row, in which `%` and two hexadecimal digits are one byte, and `{letters}` stands for as many
 /// letters `a` as the part `letters` says.
 pub fn bytes(alloc: Global, row: &str, text: &str) -> Vec<u8> {

@@ -1,21 +1,35 @@
 // What a command is run over, as rows say it.
 
-use super::fields::{bytes, field, numbers};
+use super::fields::{bytes, field, number, numbers};
 use call_fs::{CallFs, DeliveryWordsData};
 use mail_bytes::ByteText;
 use mem_fs::MemFs;
 use outside::{MemChild, MemPosts, MemSource, MemSpawner, Status, Waiting};
 use std::alloc::Global;
 
-/// The posts of a row.
+/// The posts of a row, of which each of channel 1 that brings bytes comes as often as `times` says, once if it isn't there.
 pub fn posts_of(alloc: Global, row: &str) -> MemPosts {
     let mut posts = Vec::new(alloc);
     for word in field(row, "posts").split_whitespace() {
-        if let Some(post) = post_of(alloc, row, word) {
-            let _ = posts.push(post);
-        }
+        push_post(alloc, row, word, &mut posts);
     }
     MemPosts::new(posts)
+}
+
+/// Pushes a post, as often as it comes.
+fn push_post(alloc: Global, row: &str, word: &str, posts: &mut Vec<Waiting>) {
+    for _ in 0..number(row, "times").max(1) {
+        match post_of(alloc, row, word) {
+            Some(Waiting::Bytes { chan: 1, bytes }) => {
+                let _ = posts.push(Waiting::Bytes { chan: 1, bytes });
+            }
+            Some(post) => {
+                let _ = posts.push(post);
+                return;
+            }
+            None => return,
+        }
+    }
 }
 
 /// A post: its channel, and after `:` the end, a failure, or bytes.
@@ -103,7 +117,7 @@ pub fn words_of(alloc: Global) -> DeliveryWordsData {
 
 /// The directories of every row: those of a queue, of its controls and of the user `j`.
 const DIRS: &str =
-    "control home home/j home/j/Maildir home/j/Maildir/tmp home/j/Maildir/new users todo intd bounce info/0 info/1 \
+    "control home home/j home/j/Maildir home/j/Maildir/tmp home/j/Maildir/new users pid todo intd bounce info/0 info/1 \
     info/2 info/3 info/4 info/5 info/6 info/7 info/8 info/9 info/10 info/11 info/12 info/13 info/14 info/15 \
     info/16 info/17 info/18 info/19 info/20 info/21 info/22 mess/0 mess/1 mess/2 mess/3 mess/4 mess/5 mess/6 \
     mess/7 mess/8 mess/9 mess/10 mess/11 mess/12 mess/13 mess/14 mess/15 mess/16 mess/17 mess/18 mess/19 mess/20 \

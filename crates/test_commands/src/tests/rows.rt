@@ -1,14 +1,18 @@
 // Rows, each of a command that is run over what it says, with what comes of it.
 
 use super::counting_gate::CountingGate;
-use super::fields::{field, is_text, is_well_formed, number, numbers};
+use super::fields::{are_numbers, field, is_text, is_well_formed, number, numbers};
 use super::made::{make_dirs, posts_of, put_files, source_of, spawner_of, take_away, words_of};
 use super::paced_posts::{LateClock, PacedPosts};
+use super::told::{Posting, Spawning, Timing, are_told};
 use call_fs::CallFs;
+use clean_command::clean;
 use local_command::deliver;
 use mail_bytes::ByteText;
 use mem_fs::MemFs;
-use outside::{MemPosts, MemSink, MemSpawner, Posts, Sink, Spawner};
+use outside::{MemPosts, MemSink, MemSource, MemSpawner, Posts, Recorder, Sink, Spawner};
+use queue_command::{Form, inject};
+use received_line::Invoked;
 use send_command::send;
 use spawn_command::{spawn_local, spawn_remote};
 use std::alloc::Global;
@@ -19,26 +23,30 @@ pub const SLOW_ASKS: u64 = 12;
 /// What a row may say:
 ///
 /// - `run`: `rspawn` and the program, `lspawn` and the directory, `send` and how many turns, over the directory `d` with the
-///   program `p`, or `local`, a delivery to `j@localhost` from `a@x` in process 82, with the uid 1000;
+///   program `p`, `local`, a delivery to `j@localhost` from `a@x` in process 82, with the uid 1000, `queue`, an injection by
+///   this user from netstrings, or `clean`;
 /// - `lacks`: a directory that isn't there; `gone`: the names that were taken away since the run before; `mail`: the files that
 ///   are put there then, each a name and after `=` its bytes, or `queued` or `known`: message 1 as it is queued, or once it was
 ///   preprocessed;
-/// - `qmail`: the instructions of `j`; `input`: the input of a delivery;
+/// - `qmail`: the instructions of `j`; `input`: the input of a delivery, an injection or a cleaner;
 /// - `posts`: what the posts bring: a channel, and after `:` bytes, `end` or `failed`; `pace`: how often the command pauses at its
 ///   gate before each of them comes;
 /// - `moment`: what the clock tells after so many pauses as `later` says, and 0 before;
 /// - `children`: those that can be started: the number of the process, for how many bytes it has room, and the exit status,
 ///   `crashed`, or `failed` if it can't be had; `fails`, `disk_fails`: which calls for children, and which of the disk, fail;
 /// - `room`: for how many bytes the output has room, or the log of a sender;
+/// - `times`: how often each post of channel 1 that brings bytes comes, once if that isn't told;
 /// - `letters`: for how many letters `a` the `{letters}` of a text stands;
 /// - `status`, `given`: the exit status, and what the output got, or the log; `words`, `fed`, `words2`, `fed2`: the words of the
 ///   first and the second child that were started, of which `""` is an empty one, and what each was fed; `started`: how many
 ///   were started as a sender's, and what two more were fed is `fed3` and `fed4`; `dropped`: the file in the maildir. No other
 ///   child is started, and without `dropped` there is no file;
 /// - `counted`: how many calls have failed: of children, of the disk, of the posts and of the output;
+/// - `calls`: each call for a child, with what was answered, what it was fed in parts as one; `asked`: each answer of the posts, of which `-N` stands for N times
+///   nothing; `moments`: each moment that the clock told; `readings`: how many these were;
 /// - `rests`: how often it paused at its gate, and the sum of the steps, with a thousand for each that was of a mail;
 /// - `then`: what follows is another run over the same disk.
-const NAMES: [&str; 27] = [
+const NAMES: [&str; 32] = [
     "run",
     "lacks",
     "gone",
@@ -53,6 +61,7 @@ const NAMES: [&str; 27] = [
     "fails",
     "disk_fails",
     "room",
+    "times",
     "letters",
     "status",
     "given",
@@ -65,6 +74,10 @@ const NAMES: [&str; 27] = [
     "started",
     "dropped",
     "counted",
+    "calls",
+    "asked",
+    "moments",
+    "readings",
     "rests",
 ];
 
@@ -81,16 +94,16 @@ fn deliver_row(
     alloc: Global,
     row: &str,
     disk: &mut MemFs,
-    posts: &mut PacedPosts<'_>,
-    spawner: &mut MemSpawner,
+    clock: &mut Timing<'_>,
+    posts: &mut Posting<'_>,
+    spawner: &mut Spawning,
     output: &mut MemSink,
     gate: &CountingGate,
 ) -> u8 {
-    let mut clock = LateClock::new(gate, 0, 0, 82);
     let mut input = source_of(alloc, row);
     let words = words_of(alloc);
     let status = deliver(
-        alloc, b"d", words, 1000, disk, &mut input, output, &mut clock, posts, spawner, gate,
+        alloc, b"d", words, 1000, disk, &mut input, output, clock, posts, spawner, gate,
     );
     drop(input);
     status
@@ -101,16 +114,14 @@ fn spawn_remote_row(
     alloc: Global,
     row: &str,
     disk: &mut MemFs,
-    posts: &mut PacedPosts<'_>,
-    spawner: &mut MemSpawner,
+    clock: &mut Timing<'_>,
+    posts: &mut Posting<'_>,
+    spawner: &mut Spawning,
     output: &mut MemSink,
     gate: &CountingGate,
 ) -> u8 {
     let program = told(row).as_bytes();
-    let mut clock = LateClock::new(gate, 0, 0, 77);
-    spawn_remote(
-        alloc, program, disk, &mut clock, posts, spawner, output, gate,
-    )
+    spawn_remote(alloc, program, disk, clock, posts, spawner, output, gate)
 }
 
 /// Runs the local spawner; its exit status.
@@ -118,14 +129,14 @@ fn spawn_local_row(
     alloc: Global,
     row: &str,
     disk: &mut MemFs,
-    posts: &mut PacedPosts<'_>,
-    spawner: &mut MemSpawner,
+    clock: &mut Timing<'_>,
+    posts: &mut Posting<'_>,
+    spawner: &mut Spawning,
     output: &mut MemSink,
     gate: &CountingGate,
 ) -> u8 {
     let dir = told(row).as_bytes();
-    let mut clock = LateClock::new(gate, 0, 0, 77);
-    spawn_local(alloc, dir, disk, &mut clock, posts, spawner, output, gate)
+    spawn_local(alloc, dir, disk, clock, posts, spawner, output, gate)
 }
 
 /// Runs the sender; its exit status.
@@ -133,16 +144,66 @@ fn send_row(
     alloc: Global,
     row: &str,
     disk: &mut MemFs,
-    posts: &mut PacedPosts<'_>,
-    spawner: &mut MemSpawner,
+    clock: &mut Timing<'_>,
+    posts: &mut Posting<'_>,
+    spawner: &mut Spawning,
     output: &mut MemSink,
     gate: &CountingGate,
 ) -> u8 {
     let turns = told(row).parse::<u64>().unwrap_or(0);
-    let moment = field(row, "moment").parse::<u32>().unwrap_or(0);
-    let mut clock = LateClock::new(gate, number(row, "later"), moment, 77);
     send(
-        alloc, b"d", b"p", turns, disk, output, &mut clock, posts, spawner, gate,
+        alloc, b"d", b"p", turns, disk, output, clock, posts, spawner, gate,
+    )
+}
+
+/// Injects a message; the exit status.
+fn queue_row(alloc: Global, row: &str, disk: &mut MemFs, clock: &mut Timing<'_>) -> u8 {
+    let mut input = source_of(alloc, row);
+    let mut none = MemSource::new(Vec::new(alloc), Vec::new(alloc));
+    let invoked = Invoked::Uid(1000);
+    let status = inject(
+        alloc,
+        1000,
+        invoked,
+        Form::Netstrings,
+        disk,
+        &mut input,
+        &mut none,
+        clock,
+    );
+    drop(input);
+    drop(none);
+    status
+}
+
+/// Runs the cleaner; its exit status.
+fn clean_row(
+    alloc: Global,
+    row: &str,
+    disk: &mut MemFs,
+    clock: &mut Timing<'_>,
+    output: &mut MemSink,
+) -> u8 {
+    let mut input = source_of(alloc, row);
+    let status = clean(alloc, disk, &mut input, output, clock);
+    drop(input);
+    status
+}
+
+/// Which command a row runs.
+fn name(row: &str) -> &str {
+    let run = field(row, "run");
+    let (name, _) = run.split_once(' ').unwrap_or((run, ""));
+    name
+}
+
+/// The clock of a row, whose readings are kept: that of process 82 for a delivery, of process 77 for others.
+fn clock_of<'a>(alloc: Global, row: &str, gate: &'a CountingGate) -> Timing<'a> {
+    let moment = field(row, "moment").parse::<u32>().unwrap_or(0);
+    let pid = if name(row) == "local" { 82 } else { 77 };
+    Recorder::new(
+        alloc,
+        LateClock::new(gate, number(row, "later"), moment, pid),
     )
 }
 
@@ -157,17 +218,19 @@ fn run(
     alloc: Global,
     row: &str,
     disk: &mut MemFs,
-    posts: &mut PacedPosts<'_>,
-    spawner: &mut MemSpawner,
+    clock: &mut Timing<'_>,
+    posts: &mut Posting<'_>,
+    spawner: &mut Spawning,
     output: &mut MemSink,
     gate: &CountingGate,
 ) -> u8 {
-    let (name, _) = field(row, "run").split_once(' ').unwrap_or(("local", ""));
-    match name {
-        "rspawn" => spawn_remote_row(alloc, row, disk, posts, spawner, output, gate),
-        "lspawn" => spawn_local_row(alloc, row, disk, posts, spawner, output, gate),
-        "send" => send_row(alloc, row, disk, posts, spawner, output, gate),
-        _ => deliver_row(alloc, row, disk, posts, spawner, output, gate),
+    match name(row) {
+        "rspawn" => spawn_remote_row(alloc, row, disk, clock, posts, spawner, output, gate),
+        "lspawn" => spawn_local_row(alloc, row, disk, clock, posts, spawner, output, gate),
+        "send" => send_row(alloc, row, disk, clock, posts, spawner, output, gate),
+        "queue" => queue_row(alloc, row, disk, clock),
+        "clean" => clean_row(alloc, row, disk, clock, output),
+        _ => deliver_row(alloc, row, disk, clock, posts, spawner, output, gate),
     }
 }
 
@@ -233,14 +296,6 @@ fn is_dropped(alloc: Global, row: &str, disk: &MemFs) -> bool {
     }
 }
 
-/// Whether a part of the row that has this name has these numbers; or there is none.
-fn are_numbers(alloc: Global, row: &str, name: &str, found: &[u64]) -> bool {
-    let wanted = numbers(alloc, row, name);
-    let is_so = wanted.is_empty() || wanted.as_slice() == found;
-    drop(wanted);
-    is_so
-}
-
 /// Whether a run over this disk into this output does what it says.
 fn is_right_by(
     alloc: Global,
@@ -248,12 +303,16 @@ fn is_right_by(
     asks: u64,
     disk: &mut MemFs,
     posts: &mut MemPosts,
-    spawner: &mut MemSpawner,
+    spawner: &mut Spawning,
     output: &mut MemSink,
 ) -> bool {
     let gate = CountingGate::new();
-    let mut paced = PacedPosts::new(posts, &gate, asks, number(row, "pace"));
-    let status = run(alloc, row, disk, &mut paced, spawner, output, &gate);
+    let mut clock = clock_of(alloc, row, &gate);
+    let paced = PacedPosts::new(posts, &gate, asks, number(row, "pace"));
+    let mut paced = Recorder::new(alloc, paced);
+    let status = run(
+        alloc, row, disk, &mut clock, &mut paced, spawner, output, &gate,
+    );
     let counted = [
         spawner.faults(),
         disk.faults(),
@@ -262,8 +321,9 @@ fn is_right_by(
     ];
     (u64::from(status) == number(row, "status"))
         & is_text(alloc, row, field(row, "given"), output.taken())
-        & are_started(alloc, row, spawner)
+        & are_started(alloc, row, spawner.inner())
         & is_dropped(alloc, row, disk)
+        & are_told(alloc, row, &clock, &paced, spawner)
         & are_numbers(alloc, row, "counted", &counted)
         & are_numbers(alloc, row, "rests", &[gate.pauses(), gate.steps()])
 }
@@ -279,7 +339,7 @@ fn is_right_into(
     let is_gone = take_away(disk, row);
     put_files(alloc, disk, row);
     let mut posts = posts_of(alloc, row);
-    let mut spawner = spawner_of(alloc, row);
+    let mut spawner = Recorder::new(alloc, spawner_of(alloc, row));
     let is_so = is_right_by(alloc, row, asks, disk, &mut posts, &mut spawner, output);
     drop(posts);
     drop(spawner);

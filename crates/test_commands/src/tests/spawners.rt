@@ -44,6 +44,10 @@ run lspawn d; posts 0:%051/1%00a@x%00k@h%00 0:end; children 78/100/0; room 60; s
 run lspawn d; posts 0:%05 0:{letters} 0:end; letters 4097; room 60; status 91; given x
 run lspawn d; posts 0:%051/1%00a%25@x%00j@h%00 1:did 1:failed 0:end; children 78/100/0; room 60; status 54; given x; words "" local d =j =home/j%2520n =j =- = =h =a%2525@x =./Maildir/ --uid 1000; fed 2:hi,"#;
 
+/// More than a thousand pieces that wait at once.
+const MANY: &str = r#"# a delivery that prints 1500 pieces
+run lspawn d; posts 0:%051/1%00a%25@x%00j@h%00 0:end 1:a 1:end; times 1500; letters 1500; children 78/100/0; room 1600; status 0; given x%05K{letters}%00; words "" local d =j =home/j%2520n =j =- = =h =a%2525@x =./Maildir/ --uid 1000; fed 2:hi,"#;
+
 #[test]
 fn remote_spawners_do_what_the_rows_say(rt: HostRuntime) {
     assert_eq!(rt; first_wrong(rt.alloc(), RSPAWN, 0), None);
@@ -55,4 +59,5 @@ fn remote_spawners_do_what_the_rows_say(rt: HostRuntime) {
 fn local_spawners_do_what_the_rows_say(rt: HostRuntime) {
     assert_eq!(rt; first_wrong(rt.alloc(), LSPAWN, 0), None);
     assert_eq!(rt; first_wrong(rt.alloc(), LSPAWN, SLOW_ASKS), None);
+    assert_eq!(rt; first_wrong(rt.alloc(), MANY, 0), None);
 }

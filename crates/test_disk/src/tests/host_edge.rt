@@ -3,17 +3,16 @@
 // open.
 use super::host_files::{is_dated, scratch, since_1970};
 use call_fs::{CallFs, Fd, FsError, How};
-use host_fs::{Facts, HostFs, System};
+use host_fs::{Facts, HostFs, Leaving, QueueFiles, System, start_helpers};
 use mail_bytes::NameBuf;
 use std::alloc::Global;
 use std::fs::{File, Metadata};
 use std::os::unix::fs::{MetadataExt, symlink};
 use std::process::Command;
+use std::sync::{Arc, Wait};
+use std::thread::Threads;
 use std::time::Duration;
 use std::{env, fs};
-
-/// A disk over real files.
-type Host = HostFs<HostRuntime>;
 
 /// What is looked at.
 #[derive(Clone, Copy, Debug)]
@@ -32,6 +31,8 @@ enum Look {
     Full,
     /// How many files are open.
     Opens,
+    /// Names that are taken away.
+    Unlinks,
     /// The rights of a new file.
     Rights,
     /// A link when no more files can be open.
@@ -39,7 +40,7 @@ enum Look {
 }
 
 /// All of that but the last two.
-const LOOKS: [Look; 7] = [
+const LOOKS: [Look; 8] = [
     Look::Facts,
     Look::Clock,
     Look::Links,
@@ -47,13 +48,14 @@ const LOOKS: [Look; 7] = [
     Look::Reads,
     Look::Full,
     Look::Opens,
+    Look::Unlinks,
 ];
 
-/// Whether that is so below this directory, which isn't there yet.
-fn holds(rt: &HostRuntime, root: &str, look: Look) -> bool {
-    match HostFs::open(rt, rt.alloc(), root.as_bytes()) {
+/// Whether that is so of a system, below this directory, which isn't there yet.
+fn holds<S: System + Copy>(system: &S, rt: &HostRuntime, root: &str, look: Look) -> bool {
+    match HostFs::open(system, rt.alloc(), root.as_bytes()) {
         Ok(mut disk) => {
-            let is_so = holds_over(rt, root, look, &mut disk);
+            let is_so = holds_over(system, rt, root, look, &mut disk);
             drop(disk);
             is_so
         }
@@ -62,28 +64,68 @@ fn holds(rt: &HostRuntime, root: &str, look: Look) -> bool {
 }
 
 /// Whether it is over this disk.
-fn holds_over(rt: &HostRuntime, root: &str, look: Look, disk: &mut Host) -> bool {
+fn holds_over<S: System>(
+    system: &S,
+    rt: &HostRuntime,
+    root: &str,
+    look: Look,
+    disk: &mut HostFs<S>,
+) -> bool {
     match look {
-        Look::Facts => are_told(rt, root),
-        Look::Clock => is_now(rt),
+        Look::Facts => are_told(system, rt, root),
+        Look::Clock => is_now(system, rt),
         Look::Links => lists_files(rt, root, disk),
         Look::Specials => are_faults(rt, root, disk),
         Look::Reads => are_read(rt.alloc(), disk),
-        Look::Full => is_full(rt),
+        Look::Full => is_full(system),
         Look::Opens => leaves_none_open(rt, disk),
+        Look::Unlinks => are_unlinked(system, rt, root),
         Look::Rights => has_rights(rt, root, disk),
         Look::Lack => links_none(rt, disk),
     }
 }
 
+/// The first that isn't so of a system; None if all are so.
+fn first_wrong<S: System + Copy>(system: &S, rt: &HostRuntime, looks: &[Look]) -> Option<Look> {
+    for look in looks {
+        let root = scratch(rt, "edge");
+        let is_so = holds(system, rt, root.as_str(), *look);
+        let is_gone = fs::remove_dir_all(rt, root.as_str()).is_ok();
+        if !(is_so && is_gone) {
+            return Some(*look);
+        }
+    }
+    None
+}
+
+/// As `first_wrong`, of the files of a queue, whose last names threads let go of.
+fn first_wrong_of_a_queue<R: Threads + Wait + Copy + Send + Drop + 'static>(
+    rt: &HostRuntime,
+    handle: R,
+    looks: &[Look],
+) -> Option<Look> {
+    match Arc::new(rt.alloc(), Leaving::new(rt.alloc())) {
+        Ok(leaving) => {
+            let is_begun = start_helpers(handle, &leaving).is_ok();
+            let files = QueueFiles::new(rt, handle, leaving);
+            let wrong = first_wrong(&&files, rt, looks);
+            drop(files);
+            if is_begun { wrong } else { Some(Look::Unlinks) }
+        }
+        Err(_) => Some(Look::Unlinks),
+    }
+}
+
 #[test]
 fn the_system_is_asked_for_the_right_thing(rt: HostRuntime) {
-    for look in LOOKS {
-        let root = scratch(&rt, "edge");
-        let is_so = holds(&rt, root.as_str(), look);
-        let is_gone = fs::remove_dir_all(&rt, root.as_str()).is_ok();
-        assert!(rt; is_so && is_gone, "{look:?}");
-    }
+    let wrong = first_wrong(&rt, &rt, &LOOKS);
+    assert!(rt; wrong.is_none(), "{wrong:?}");
+}
+
+#[test]
+fn the_files_of_a_queue_are_asked_for_the_right_thing(rt: HostRuntime) {
+    let wrong = first_wrong_of_a_queue(&rt, rt, &LOOKS);
+    assert!(rt; wrong.is_none(), "{wrong:?}");
 }
 
 /// Whether these facts are those of the file, field by field.
@@ -95,22 +137,24 @@ fn is_same(facts: Facts, found: &Metadata) -> bool {
 }
 
 /// Whether the system tells of this path, and of what is open by it, what the file system tells.
-fn is_told(rt: &HostRuntime, path: &str) -> bool {
-    let opened = System::open(rt, path, How::Read).and_then(|file| System::fstat(rt, &file));
-    match (System::stat(rt, path), opened, fs::metadata(rt, path)) {
+fn is_told<S: System>(system: &S, rt: &HostRuntime, path: &str) -> bool {
+    let opened = system
+        .open(path, How::Read)
+        .and_then(|file| system.fstat(&file));
+    match (system.stat(path), opened, fs::metadata(rt, path)) {
         (Ok(named), Ok(opened), Ok(found)) => is_same(named, &found) && is_same(opened, &found),
         _ => false,
     }
 }
 
 /// Whether an old file of three bytes, a directory, and links to both are told as they are.
-fn are_told(rt: &HostRuntime, root: &str) -> bool {
+fn are_told<S: System>(system: &S, rt: &HostRuntime, root: &str) -> bool {
     let mut is_so = true;
     for name in ["todo/1", "todo", "todo/2", "todo/3"] {
         let Ok(path) = format!(in rt.alloc(); "{root}/{name}") else {
             return false;
         };
-        is_so = is_made(rt, name, path.as_str()) && is_told(rt, path.as_str()) && is_so;
+        is_so = is_made(rt, name, path.as_str()) && is_told(system, rt, path.as_str()) && is_so;
     }
     is_so
 }
@@ -127,8 +171,8 @@ fn is_made(rt: &HostRuntime, name: &str, path: &str) -> bool {
 }
 
 /// Whether the time that the system tells lies between two readings of its clock.
-fn is_now(rt: &HostRuntime) -> bool {
-    match (since_1970(rt), System::now(rt), since_1970(rt)) {
+fn is_now<S: System>(system: &S, rt: &HostRuntime) -> bool {
+    match (since_1970(rt), system.now(), since_1970(rt)) {
         (Some(before), Ok(now), Some(after)) => before <= now && now <= after,
         _ => false,
     }
@@ -146,7 +190,7 @@ const LISTED: [Next; 4] = [
 ];
 
 /// Whether `todo` lists its files, links to files, and what can't be looked at, alone.
-fn lists_files(rt: &HostRuntime, root: &str, disk: &mut Host) -> bool {
+fn lists_files<S: System>(rt: &HostRuntime, root: &str, disk: &mut HostFs<S>) -> bool {
     let mut is_so = true;
     for (name, to) in [("1", "../pid"), ("2", "nothing"), ("4", "3"), ("5", "5")] {
         let Ok(path) = format!(in rt.alloc(); "{root}/todo/{name}") else {
@@ -162,7 +206,7 @@ fn lists_files(rt: &HostRuntime, root: &str, disk: &mut Host) -> bool {
 }
 
 /// Whether the next name of `todo` after that one is this.
-fn is_next(disk: &mut Host, after: &[u8], wanted: Option<&[u8]>) -> bool {
+fn is_next<S: System>(disk: &mut HostFs<S>, after: &[u8], wanted: Option<&[u8]>) -> bool {
     let mut name = NameBuf::new();
     match (disk.next_name(b"todo", after, &mut name), wanted) {
         (Ok(true), Some(wanted)) => name.as_slice() == wanted,
@@ -184,7 +228,7 @@ fn makes_specials(rt: &HostRuntime, root: &str) -> Option<bool> {
 }
 
 /// Whether each open of this name is a fault, and is counted.
-fn is_fault(alloc: Global, disk: &mut Host, name: &[u8]) -> bool {
+fn is_fault<S: System>(alloc: Global, disk: &mut HostFs<S>, name: &[u8]) -> bool {
     let mut is_so = true;
     for how in [How::Read, How::Append, How::Write] {
         let faults = disk.faults();
@@ -195,7 +239,7 @@ fn is_fault(alloc: Global, disk: &mut Host, name: &[u8]) -> bool {
 }
 
 /// Whether each of these is a fault, however it is opened, at once, and a file beside them is opened and found.
-fn are_faults(rt: &HostRuntime, root: &str, disk: &mut Host) -> bool {
+fn are_faults<S: System>(rt: &HostRuntime, root: &str, disk: &mut HostFs<S>) -> bool {
     let mut is_so = makes_specials(rt, root) == Some(true);
     for name in [b"todo/1", b"todo/2", b"todo/3", b"todo/4"] {
         is_so = is_fault(rt.alloc(), disk, name) && is_so;
@@ -206,24 +250,42 @@ fn are_faults(rt: &HostRuntime, root: &str, disk: &mut Host) -> bool {
 }
 
 /// Whether a device without room refuses bytes at its end and at a place, and a device a sync.
-fn is_full(rt: &HostRuntime) -> bool {
+fn is_full<S: System>(system: &S) -> bool {
     let path = "/dev/full";
     match (
-        System::open(rt, path, How::Append),
-        System::open(rt, path, How::Write),
+        system.open(path, How::Append),
+        system.open(path, How::Write),
     ) {
         (Ok(end), Ok(place)) => {
-            System::append(rt, &end, b"!").is_err()
-                && System::write_at(rt, &place, b"!", 0).is_err()
-                && System::sync(rt, &end).is_err()
-                && System::sync(rt, &place).is_err()
+            system.append(&end, b"!").is_err()
+                && system.write_at(&place, b"!", 0).is_err()
+                && system.sync(&end).is_err()
+                && system.sync(&place).is_err()
+        }
+        _ => false,
+    }
+}
+
+/// Whether the only name of a file with bytes goes away, and the name of none and that of a directory are refused.
+fn are_unlinked<S: System>(system: &S, rt: &HostRuntime, root: &str) -> bool {
+    match (
+        format!(in rt.alloc(); "{root}/todo/1"),
+        format!(in rt.alloc(); "{root}/todo"),
+    ) {
+        (Ok(file), Ok(directory)) => {
+            let is_made = fs::write(rt, file.as_str(), "abc").is_ok();
+            let is_done = system.unlink(file.as_str()).is_ok();
+            let is_gone = fs::metadata(rt, file.as_str()).is_err();
+            let are_refused = system.unlink(file.as_str()).is_err()
+                && system.unlink(directory.as_str()).is_err();
+            is_made && is_done && is_gone && are_refused
         }
         _ => false,
     }
 }
 
 /// Whether a file that was just made, and one that is opened in each way, can be read.
-fn are_read(alloc: Global, disk: &mut Host) -> bool {
+fn are_read<S: System>(alloc: Global, disk: &mut HostFs<S>) -> bool {
     let Ok((made, _)) = disk.create_excl(alloc, 0, b"pid/1") else {
         return false;
     };
@@ -238,7 +300,7 @@ fn are_read(alloc: Global, disk: &mut Host) -> bool {
 }
 
 /// Whether the three bytes are read.
-fn is_read(disk: &mut Host, fd: Fd) -> bool {
+fn is_read<S: System>(disk: &mut HostFs<S>, fd: Fd) -> bool {
     let mut into = [0; 4];
     disk.read_at(fd, 0, &mut into) == Ok(3) && into == *b"abc\0"
 }
@@ -252,7 +314,7 @@ fn opens(rt: &HostRuntime) -> usize {
 }
 
 /// Whether no more files are open after links, one of which is refused, and after what else opens one.
-fn leaves_none_open(rt: &HostRuntime, disk: &mut Host) -> bool {
+fn leaves_none_open<S: System>(rt: &HostRuntime, disk: &mut HostFs<S>) -> bool {
     let alloc = rt.alloc();
     let before = opens(rt);
     let Ok((fd, _)) = disk.create_excl(alloc, 0, b"pid/1") else {
@@ -281,8 +343,11 @@ const AGAIN: &str =
 #[test]
 fn rights_and_a_lack_of_descriptors(rt: HostRuntime) {
     let is_so = match env::var(&rt, PLACE) {
-        Ok(root) => holds(&rt, root.as_str(), Look::Rights)
-            && holds(&rt, root.as_str(), Look::Lack),
+        Ok(root) => {
+            holds(&rt, &rt, root.as_str(), Look::Rights)
+                && holds(&rt, &rt, root.as_str(), Look::Lack)
+                && first_wrong_of_a_queue(&rt, rt, &[Look::Rights]).is_none()
+        }
         Err(_) => holds_again(&rt),
     };
     assert!(rt; is_so);
@@ -308,7 +373,7 @@ fn is_content(rt: &HostRuntime, root: &str) -> Option<bool> {
 }
 
 /// Whether a new file has the rights 0644.
-fn has_rights(rt: &HostRuntime, root: &str, disk: &mut Host) -> bool {
+fn has_rights<S: System>(rt: &HostRuntime, root: &str, disk: &mut HostFs<S>) -> bool {
     let alloc = rt.alloc();
     let is_made = disk.create_excl(alloc, 0, b"pid/1").is_ok();
     let Ok(path) = format!(in alloc; "{root}/pid/1") else {
@@ -336,7 +401,7 @@ fn open_all(rt: &HostRuntime, held: &mut Vec<File>) -> usize {
 }
 
 /// Whether a link is a fault when no more files can be open, and leaves no name.
-fn links_none(rt: &HostRuntime, disk: &mut Host) -> bool {
+fn links_none<S: System>(rt: &HostRuntime, disk: &mut HostFs<S>) -> bool {
     let alloc = rt.alloc();
     let mut held = Vec::new(alloc);
     let count = open_all(rt, &mut held);

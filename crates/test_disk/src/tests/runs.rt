@@ -76,8 +76,8 @@ fn told_by_a_map(alloc: Global) -> Vec<Told> {
     told_on(alloc, &mut disk)
 }
 
-/// The same on a disk that walks for its free numbers.
-fn told_by_a_walk(alloc: Global) -> Vec<Told> {
+/// The same on a disk that is plain lists.
+fn told_by_lists(alloc: Global) -> Vec<Told> {
     let Ok(mut disk) = PlainFs::new(alloc, Vec::new(alloc), Vec::new(alloc)) else {
         return Vec::new(alloc);
     };
@@ -140,5 +140,5 @@ fn a_list_of_calls_stops_before_a_strange_descriptor(rt: HostRuntime) {
 #[test]
 fn both_disks_in_memory_answer_alike(rt: HostRuntime) {
     let told = told_by_a_map(rt.alloc());
-    assert!(rt; are_same(&told, &told_by_a_walk(rt.alloc())));
+    assert!(rt; are_same(&told, &told_by_lists(rt.alloc())));
 }

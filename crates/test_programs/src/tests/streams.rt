@@ -47,14 +47,19 @@ fn an_interrupted_read_is_tried_again(rt: HostRuntime) {
 /// How many bytes a narrow writer holds at most.
 const ROOM: usize = 8;
 
-/// A writer that takes at most three bytes at once, and no more than it has room for.
+/// A writer that takes at most three bytes at once, and no more than it has room for; each second write is interrupted.
 #[derive(Drop)]
 struct Narrow {
     held: ByteText,
+    is_ready: bool,
 }
 
 impl Write for Narrow {
     fn write(&mut self, bytes: &[u8]) -> io::Result<usize> {
+        self.is_ready = !self.is_ready;
+        if self.is_ready {
+            return Err(io::Error::from(ErrorKind::Interrupted));
+        }
         let room = ROOM.saturating_sub(self.held.len());
         let count = bytes.len().min(3).min(room);
         match self.held.extend(&bytes[..count]) {
@@ -90,6 +95,7 @@ fn gives_all<S: Sink>(sink: &mut S) -> bool {
 fn what_a_short_write_left_is_written(rt: HostRuntime) {
     let mut writer = Narrow {
         held: ByteText::new(rt.alloc()),
+        is_ready: false,
     };
     let is_given = gives_all(&mut WriterSink::new(&mut writer));
     assert!(rt; is_given && writer.held.is(b"abcdefgh"));

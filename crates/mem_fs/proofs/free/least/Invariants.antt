@@ -1,5 +1,5 @@
 use Rattle.std.proofs.Common.{ℕ, ◌≤◌, ◌<◌, ◌-◌, ◌^◌}
-use Rattle.mem_fs.specs.MemDisk.{IsIdle}
+use Rattle.mem_files.specs.MemFiles.{IsIdle}
 use Rattle.mem_fs.proofs.free.least.Given as goal
 
 abbrev pub invariant-loop-number : goal.invariant-loop-number

@@ -4,7 +4,8 @@ use Rattle.std.proofs.lemmas.List.{length-map}
 use Rattle.std.proofs.lemmas.Result.{on_ok_weaker}
 use Rattle.mail_bytes.specs.Decimal.{digits}
 use Rattle.call_fs.specs.Disk.{Disk}
-use Rattle.crash_fs.specs.Crash.{crash_disk}
+use Rattle.crash_fs.specs.Crash.{Crash, crash_disk}
+use Rattle.mem_fs.specs.MemDisk.{Planned, disk_of}
 use Rattle.scenario.specs.Deeds.{history_of}
 use Rattle.scenario.specs.Shown.{AreNamesIn, AreNumbersIn, line_of, pid_line, number_line}
 use Rattle.scenario.proofs.Showings.{joined, is_shown}
@@ -24,10 +25,12 @@ returns c =
     c.in_ok-put_count_line.ensures ∙ ap (λ n. text ++ line_of (codes "pid") (digits n)) count in
     let second : c.put_states.new.text.items ≡ c.put_count_line.new.text.items ++ flat_map (number_line now) numbers =
     c.in_ok-put_states.ensures
-    ∙ ap (λ m. c.put_count_line.new.text.items ++ flat_map (number_line (crash_disk m)) c.deref.result.now) c.disk-3.ensures
+    ∙ ap (λ (m : Crash). c.put_count_line.new.text.items ++ flat_map (number_line (crash_disk m)) c.deref.result.now) c.disk-3.ensures
     ∙ ap (λ (ns : List ℕ). c.put_count_line.new.text.items ++ flat_map (number_line now) ns) c.deref.ensures.value in
-    let are_pids : AreNamesIn now (codes "pid") pids = subst (λ m. AreNamesIn (crash_disk m) (codes "pid") pids) c.disk.ensures c.in_ok-pids.ensures in
-    let are_numbers : AreNumbersIn now numbers = subst (λ m. AreNumbersIn (crash_disk m) numbers) c.disk-2.ensures c.in_ok-numbers.ensures in
+    let first_is : disk_of c.below.result.now.held ≡ now = ap (λ (m : Planned). disk_of m.held) c.below.ensures ∙ ap (λ (m : Crash). crash_disk m) c.disk.ensures in
+    let second_is : disk_of c.below-2.result.now.held ≡ now = ap (λ (m : Planned). disk_of m.held) c.below-2.ensures ∙ ap (λ (m : Crash). crash_disk m) c.disk-2.ensures in
+    let are_pids : AreNamesIn now (codes "pid") pids = subst (λ d. AreNamesIn d (codes "pid") pids) first_is c.in_ok-pids.ensures in
+    let are_numbers : AreNumbersIn now numbers = subst (λ d. AreNumbersIn d numbers) second_is c.in_ok-numbers.ensures in
     on_ok_weaker c.put_mails.result
     (λ third. (
       pid_line pids ++ (flat_map (number_line now) numbers ++ third.0),

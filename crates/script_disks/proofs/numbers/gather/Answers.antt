@@ -1,16 +1,16 @@
 use Rattle.std.proofs.Common.{Bor, ◌∙◌, ap, sym, subst, List, [], ℕ, take}
-use Rattle.crash_fs.specs.Crash.{crash_disk}
+use Rattle.mem_fs.specs.MemDisk.{disk_of}
 use Rattle.queue_states.specs.Listing.{AreNamesIn}
 use Rattle.script_disks.proofs.Gathered.{texts, Gathering, gathered_all, gathering_none, passed_at, more_at, seen_all}
 use Rattle.script_disks.proofs.numbers.gather.Goals as goal
 use Rattle.script_disks.proofs.numbers.gather.Goals.{in-Some+in_ok-push, in_default}
 
 pub loop-name-init : goal.loop-name-init
-loop-name-init c = gathering_none (crash_disk c.args.disk.now) c.args.dir.now c.args.numbers.now.items
+loop-name-init c = gathering_none (disk_of c.args.disk.now.held) c.args.dir.now c.args.numbers.now.items
 
 pub loop-name-preserved : goal.loop-name-preserved
 loop-name-preserved c =
-    let d = crash_disk c.args.disk.now in
+    let d = disk_of c.args.disk.now.held in
     let names = c.deref-name-items.result.now in
     let i = c.loop-name.name-index in
     let b : Bor (List ℕ) = record { ref_ptr = (0, 0); now = [] } in
@@ -29,7 +29,7 @@ loop-name-preserved c =
 
 pub returns : goal.returns
 returns c =
-    let d = crash_disk c.args.disk.now in
+    let d = disk_of c.args.disk.now.held in
     let all = subst (λ seen. Gathering d c.args.dir.now seen c.args.numbers.now.items c.loop-name.numbers.items)
     (seen_all c.deref-name-items.result.now c.loop-name.name-index c.loop-name-test.false ∙ ap texts c.deref-name-items.ensures.value) c.loop-name.invariant in
     record {

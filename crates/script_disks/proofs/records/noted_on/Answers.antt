@@ -1,8 +1,7 @@
 use Rattle.std.proofs.Common.{◌≡◌, ℕ, List, bytes_eq, Option, Some, sym, ap, ◌∙◌, rules}
 use Rattle.std.specs.List.{list_any}
 use Rattle.std.proofs.lemmas.Result.{IfOk-weaker}
-use Rattle.crash_fs.specs.Crash.{crash_disk}
-use Rattle.mem_fs.specs.MemDisk.{bytes_at}
+use Rattle.mem_fs.specs.MemDisk.{bytes_at, disk_of}
 use Rattle.queue_paths.specs.Names.{path}
 use Rattle.queue_paths.specs.Names.Name.{Of}
 use Rattle.queue_paths.specs.Names.Part.{Bounce}
@@ -12,7 +11,7 @@ use Rattle.script_disks.proofs.records.noted_on.Goals as goal
 
 pub returns-in-Some-file_of : goal.returns-in-Some-file_of
 returns-in-Some-file_of c =
-    let disk = crash_disk c.args.disk.now in
+    let disk = disk_of c.args.disk.now.held in
     let bytes : List ℕ = c.in-Some-file_of.bytes.now in
     let number : c.args.number ≡ Some c.in-Some.n = search rules in
     let there : bytes_at disk (path (Of Bounce c.in-Some.n)) ≡ Some bytes = search rules in

@@ -1,6 +1,6 @@
 use Rattle.std.proofs.Common.{refl, sym, ap, ◌∙◌, arith, rules}
 use Rattle.std.proofs.lemmas.Result.{err_from_is_err_and}
-use Rattle.mem_fs.specs.Tables.{at_number}
+use Rattle.mem_files.specs.Tables.{at_number}
 use Rattle.mem_fs.specs.MemDisk.{Planned, disk_of}
 use Rattle.mem_fs.proofs.Steps.{changed-nothing}
 use Rattle.mem_fs.proofs.disk.MemFsCallFs.write_at.Goals as goal

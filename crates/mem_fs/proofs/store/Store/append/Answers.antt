@@ -1,7 +1,7 @@
 use Rattle.std.proofs.Common.{ap, ◌∙◌}
 use Rattle.std.proofs.lemmas.Result.{on_ok_weaker}
 use Rattle.call_fs.specs.Apply.{changed, grown}
-use Rattle.mem_fs.specs.Tables.{at_number}
+use Rattle.mem_files.specs.Tables.{at_number}
 use Rattle.mem_fs.specs.MemDisk.{Held, disk_of}
 use Rattle.mem_fs.proofs.Steps.{open_entry, sound-file_or, disk-changed}
 use Rattle.mem_fs.proofs.Indexed.{file_indexed_or}

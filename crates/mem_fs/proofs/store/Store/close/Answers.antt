@@ -2,8 +2,9 @@ use Rattle.std.proofs.Common.{ℕ, nat_eq, ap, refl, subst, ◌∙◌}
 use Rattle.call_fs.specs.declared.calls.CallData.TheVariants.{Close}
 use Rattle.call_fs.specs.declared.calls.Answer.TheVariants.{Done}
 use Rattle.call_fs.specs.Apply.{effect}
-use Rattle.mem_fs.specs.Tables.{at_number}
-use Rattle.mem_fs.specs.MemDisk.{Held, disk_of, closed_inode}
+use Rattle.mem_files.specs.Tables.{at_number}
+use Rattle.mem_files.specs.MemFiles.{closed_inode}
+use Rattle.mem_fs.specs.MemDisk.{Held, disk_of}
 use Rattle.mem_fs.proofs.Changes.{OpensGain}
 use Rattle.mem_fs.proofs.Steps.{open_entry, open_holds, open_on, sound-closed, files-same, disk-closed}
 use Rattle.mem_fs.proofs.Indexed.{beside_change, entry_positive, held_used}

@@ -1,11 +1,12 @@
 use Rattle.std.proofs.Common.{◌≡◌, ℕ, List, Some, None, nat_eq, ap, ◌∙◌, arith}
 use Rattle.call_fs.specs.declared.calls.CallData.TheVariants.{CreateExcl}
 use Rattle.call_fs.specs.declared.calls.Answer.TheVariants.{Created}
-use Rattle.mem_fs.specs.declared.file.Inode.{Inode}
+use Rattle.mem_files.specs.declared.file.Inode.{Inode}
 use Rattle.call_fs.specs.Apply.{effect}
 use Rattle.call_fs.specs.Disk.{Open}
 use Rattle.call_fs.specs.Maps.{put, put_at}
-use Rattle.mem_fs.specs.Tables.{at_name, at_number, texts}
+use Rattle.mem_files.specs.Tables.{at_number}
+use Rattle.mem_fs.specs.Tables.{at_name, texts}
 use Rattle.mem_fs.specs.MemDisk.{Held, disk_of}
 use Rattle.mem_fs.proofs.Uses.{unused_idle}
 use Rattle.mem_fs.proofs.Steps.{sound-created, disk-created}

@@ -1,6 +1,7 @@
 use Rattle.std.proofs.Common.{◌≡◌, ℕ, List, Some, IsSome, ap, ◌∙◌, sym, subst}
-use Rattle.mem_fs.specs.declared.file.Inode.{Inode}
-use Rattle.mem_fs.specs.Tables.{at_name, at_number, texts}
+use Rattle.mem_files.specs.declared.file.Inode.{Inode}
+use Rattle.mem_files.specs.Tables.{at_number}
+use Rattle.mem_fs.specs.Tables.{at_name, texts}
 use Rattle.mem_fs.proofs.Uses.{named_entry}
 use Rattle.mem_fs.proofs.Steps.{some_copied}
 use Rattle.mem_fs.proofs.store.Store.file_of.Goals as goal

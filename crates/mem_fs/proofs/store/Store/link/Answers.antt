@@ -5,7 +5,8 @@ use Rattle.call_fs.specs.declared.calls.Answer.TheVariants.{Done}
 use Rattle.call_fs.specs.Apply.{effect}
 use Rattle.call_fs.specs.Maps.{put_at}
 use Rattle.mem_fs.specs.Tables.{at_name, texts}
-use Rattle.mem_fs.specs.MemDisk.{Held, disk_of, linked_inode}
+use Rattle.mem_files.specs.MemFiles.{linked_inode}
+use Rattle.mem_fs.specs.MemDisk.{Held, disk_of}
 use Rattle.mem_fs.proofs.Changes.{gain_here}
 use Rattle.mem_fs.proofs.Uses.{named_entry, named_links}
 use Rattle.mem_fs.proofs.Steps.{sound-linked, files-same, disk-linked}

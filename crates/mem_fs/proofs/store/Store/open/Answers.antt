@@ -4,8 +4,10 @@ use Rattle.call_fs.specs.declared.calls.Answer.TheVariants.{Opened}
 use Rattle.call_fs.specs.Disk.{Open as OpenFile}
 use Rattle.call_fs.specs.Apply.{effect}
 use Rattle.call_fs.specs.Maps.{put}
-use Rattle.mem_fs.specs.Tables.{at_name, at_number, texts}
-use Rattle.mem_fs.specs.MemDisk.{Held, disk_of, opened_inode}
+use Rattle.mem_files.specs.Tables.{at_number}
+use Rattle.mem_fs.specs.Tables.{at_name, texts}
+use Rattle.mem_files.specs.MemFiles.{opened_inode}
+use Rattle.mem_fs.specs.MemDisk.{Held, disk_of}
 use Rattle.mem_fs.proofs.Uses.{named_entry, named_links}
 use Rattle.mem_fs.proofs.Steps.{sound-opened, files-same, disk-opened}
 use Rattle.mem_fs.proofs.Indexed.{linked_used, used_change}

@@ -1,7 +1,8 @@
 use Rattle.std.proofs.Common.{◌≡◌, Some, sym, subst}
 use Rattle.call_fs.specs.Disk.{File}
 use Rattle.mem_fs.specs.Tables.{at_name, texts}
-use Rattle.mem_fs.specs.MemDisk.{Held, disk_of, Places, Changes, on_file}
+use Rattle.mem_files.specs.MemFiles.{Changes, on_file}
+use Rattle.mem_fs.specs.MemDisk.{Held, disk_of, Places}
 use Rattle.mem_fs.proofs.Uses.{named_entry}
 use Rattle.mem_fs.proofs.Steps.{sound-file, disk-replaced}
 use Rattle.mem_fs.proofs.Indexed.{file_indexed}

@@ -1,6 +1,6 @@
 use Rattle.std.proofs.Common.{ap, ◌∙◌}
 use Rattle.call_fs.specs.Apply.{changed, cut}
-use Rattle.mem_fs.specs.Tables.{at_number}
+use Rattle.mem_files.specs.Tables.{at_number}
 use Rattle.mem_fs.specs.MemDisk.{Held, disk_of}
 use Rattle.mem_fs.proofs.Steps.{open_entry, sound-file, disk-changed}
 use Rattle.mem_fs.proofs.Indexed.{file_indexed}

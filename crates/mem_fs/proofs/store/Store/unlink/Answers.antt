@@ -3,7 +3,8 @@ use Rattle.call_fs.specs.declared.calls.CallData.TheVariants.{Unlink}
 use Rattle.call_fs.specs.declared.calls.Answer.TheVariants.{Done}
 use Rattle.call_fs.specs.Apply.{effect}
 use Rattle.mem_fs.specs.Tables.{at_name, texts}
-use Rattle.mem_fs.specs.MemDisk.{Held, disk_of, unlinked_inode}
+use Rattle.mem_files.specs.MemFiles.{unlinked_inode}
+use Rattle.mem_fs.specs.MemDisk.{Held, disk_of}
 use Rattle.mem_fs.proofs.Uses.{named_links, named_entry}
 use Rattle.mem_fs.proofs.Steps.{sound-unlinked, files-same, disk-unlinked}
 use Rattle.mem_fs.proofs.Indexed.{beside_change, entry_positive, linked_used}

@@ -1,6 +1,6 @@
 use Rattle.std.proofs.Common.{◌≡◌, ◌∙◌, ◌++◌, ◌∷◌, [], List, ℕ, ap, ap₂, sym, subst}
 use Rattle.std.proofs.lemmas.List.{map_more}
-use Rattle.crash_fs.specs.Crash.{crash_disk}
+use Rattle.mem_fs.specs.MemDisk.{disk_of}
 use Rattle.script_disks.specs.Records.{AreNoted}
 use Rattle.script_traces.specs.declared.fates.RecipientFate.{RecipientFate}
 use Rattle.scenario.specs.Shown.{fate_of, lasting}
@@ -17,7 +17,7 @@ loop-route-preserved c books heard used noted =
     let failed = c.args.failed in
     let i = c.loop-route.route-index in
     let told = fate_of (view_at c.args.self.now books) name number failed in
-    let noted_so = subst (λ (a : List ℕ). AreNoted (crash_disk c.args.self.now.disk.now) (lasting books a number) c.args.noted.now) (sym named) noted in
+    let noted_so = subst (λ (a : List ℕ). AreNoted (disk_of c.args.self.now.disk.now.held) (lasting books a number) c.args.noted.now) (sym named) noted in
     let one : c.fate.result ≡ told c.route-item.result =
     c.fate.ensures books heard used noted_so
     ∙ ap (λ (a : List ℕ). fate_of (view_at c.args.self.now books) a number failed c.route-item.result) named in

@@ -1,0 +1,160 @@
+// One file of the lists.
+ghost use Rattle.std.specs.Prelude.{◌≡◌, ◌++◌, ◌<◌, ◌≤◌, ◌+◌, ◌^◌, min, length, take, drop, OnOk, OnErr, vec_len, vec_capacity};
+ghost use Rattle.std.specs.List.{enumerate_from};
+ghost use Rattle.mail_bytes.specs.Moments.{IsMoment};
+ghost use Rattle.call_fs.specs.Apply.{empty_file, lying, put_over, grown, overwritten, cut, synced};
+
+use mail_bytes::Memory;
+use std::alloc::{AllocError, Global};
+use std::marker::Model;
+
+/// A file: its bytes, those at the last sync, what places of those were given since, the least and the greatest length
+/// since, and its moment. There is always room to keep its bytes, so that a sync takes no memory.
+#[derive(Drop)]
+pub struct PlainFile {
+    bytes: Vec<u8>,
+    kept: Vec<u8>,
+    given: Vec<(usize, u8)>,
+    least: usize,
+    greatest: usize,
+    moment: u64,
+}
+
+impl Model for PlainFile {
+    ghost use Rattle.std.specs.Prelude.{◌≤◌, vec_len, vec_capacity};
+    ghost use Rattle.call_fs.specs.Disk.{File};
+    ghost use Rattle.mail_bytes.specs.Moments.{IsMoment};
+
+    ghost Value = { File };
+
+    ghost view = { λ f. record { bytes = f.bytes.items; kept = f.kept.items; given = f.given.items; least = f.least; greatest = f.greatest; moment = f.moment } };
+
+    ghost invariant = { λ f. (vec_len f.bytes ≤ vec_capacity f.kept) × IsMoment f.moment };
+}
+
+impl PlainFile {
+    /// A new empty file. Takes no memory.
+    pub fn new(alloc: Global, moment: u64) -> Self
+        requires { IsMoment moment }
+        ensures { result ≡ empty_file moment }
+    {
+        PlainFile {
+            bytes: Vec::new(alloc),
+            kept: Vec::new(alloc),
+            given: Vec::new(alloc),
+            least: 0,
+            greatest: 0,
+            moment,
+        }
+    }
+
+    /// How many bytes it has.
+    pub fn len(&self) -> usize
+        ensures { result ≡ length self.now.bytes }
+    {
+        self.bytes.len()
+    }
+
+    /// The moment of its creation or last write.
+    pub fn moment(&self) -> u64
+        ensures value { result ≡ self.now.moment }
+        ensures moment { IsMoment result }
+    {
+        self.moment
+    }
+
+    /// Reads from a place on into the buffer, as many bytes as it has room for, or as there are.
+    pub fn read_at(&self, at: usize, into: &mut [u8]) -> usize
+        ensures count { result ≡ min (length into.old) (length (drop at self.now.bytes)) }
+        ensures bytes { take result into.new ≡ take result (drop at self.now.bytes) }
+    {
+        let start = at.min(self.bytes.len());
+        let rest = &self.bytes[start..];
+        let count = rest.len().min(into.len());
+        into[..count].copy_from_slice(&rest[..count]);
+        count
+    }
+
+    /// Writes bytes at the end. After an `Err` it is as before.
+    pub fn append(&mut self, now: u64, bytes: &[u8]) -> Result<(), Memory>
+        requires { IsMoment now }
+        ensures ok { OnOk result (self.new ≡ grown now bytes.now self.old) }
+        ensures err { OnErr result (self.new ≡ self.old) }
+    {
+        let at = self.bytes.len();
+        let Some(all) = at.checked_add(bytes.len()) else {
+            return Err(AllocError);
+        };
+        let given = lying(self.kept.len(), at, bytes);
+        self.given.reserve(given.len())?;
+        self.kept.reserve(all)?;
+        self.bytes.extend_from_slice(bytes)?;
+        give(&mut self.given, at, given);
+        self.greatest = self.greatest.max(self.bytes.len());
+        self.moment = now;
+        Ok(())
+    }
+
+    /// Overwrites from a place on what lies below the length. After an `Err` it is as before.
+    pub fn overwrite(&mut self, now: u64, at: usize, bytes: &[u8]) -> Result<(), Memory>
+        requires { IsMoment now }
+        ensures ok { OnOk result (self.new ≡ overwritten now at bytes.now self.old) }
+        ensures err { OnErr result (self.new ≡ self.old) }
+    {
+        let bytes = lying(self.bytes.len(), at, bytes);
+        let given = lying(self.kept.len(), at, bytes);
+        self.given.reserve(given.len())?;
+        give(&mut self.given, at, given);
+        put_over(&mut self.bytes, at, bytes);
+        self.moment = now;
+        Ok(())
+    }
+
+    /// Its length is the lesser of this one and what it was.
+    pub fn cut(&mut self, len: usize)
+        ensures { self.new ≡ cut len self.old }
+    {
+        self.bytes.truncate(len);
+        self.least = self.least.min(self.bytes.len());
+    }
+
+    /// All its bytes are on the disk.
+    pub fn sync(&mut self)
+        ensures { self.new ≡ synced self.old }
+    {
+        self.kept.clear();
+        self.kept.extend_from_slice(&self.bytes).unwrap();
+        self.given.clear();
+        self.least = self.bytes.len();
+        self.greatest = self.bytes.len();
+    }
+}
+
+/// What of bytes that are put at a place lies below a length.
+fn lying(len: usize, at: usize, bytes: &[u8]) -> &[u8]
+    ensures { result.now ≡ lying len at bytes.now }
+{
+    let count = len.saturating_sub(at).min(bytes.len());
+    &bytes[..count]
+}
+
+/// Gives places their values. The condition: there is room for them.
+fn give(given: &mut Vec<(usize, u8)>, at: usize, bytes: &[u8])
+    requires room { vec_len given.old + length bytes.now ≤ vec_capacity given.old }
+    requires places { at + length bytes.now < 2 ^ 64 }
+    ensures { given.new.items ≡ given.old.items ++ enumerate_from at bytes.now }
+{
+    for (index, byte) in bytes.iter().enumerate() {
+        given.push((at + index, *byte)).unwrap();
+    }
+}
+
+/// Puts bytes over those that stand at a place. The condition: all of them lie below the length.
+fn put_over(all: &mut [u8], at: usize, bytes: &[u8])
+    requires { bytes.now ≡ lying (length all.old) at bytes.now }
+    ensures { all.new ≡ put_over at bytes.now all.old }
+{
+    if !bytes.is_empty() {
+        all[at..at + bytes.len()].copy_from_slice(bytes);
+    }
+}

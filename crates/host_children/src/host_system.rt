@@ -1,0 +1,228 @@
+// The processes of the real system: the trusted edge, whose lines over std no contract can judge.
+ghost use Rattle.std.specs.Prelude.{◌≡◌};
+
+use crate::environment::pass_on;
+use crate::host_process::{Form, HostInput, HostOutput, HostProcess};
+use proc_runner::{Born, Kind, Process, Start, System};
+use std::alloc::Global;
+use std::fs::{self, File, OpenOptions};
+use std::io::{self, ErrorKind, PipeWriter};
+use std::os::unix::fs::{MetadataExt, OpenOptionsExt};
+use std::os::unix::process::CommandExt;
+use std::process::{Command, Processes, Stdio};
+use std::str;
+use std::sync::atomic::{AtomicU64, Ordering};
+use std::sync::{Arc, Wait};
+use std::time::Clock;
+
+/// This program, as the system shows it to each process.
+const SELF: &str = "/proc/self/exe";
+
+/// The name under which this program is started again.
+const NAME: &str = "qmail";
+
+/// The shell for the commands of users, whatever `PATH` says.
+pub(crate) const SHELL: &str = "/bin/sh";
+
+/// What starts a program in a session and a process group of its own, after `--`; it becomes that program, so the process stays
+/// the same.
+const NEW_GROUP: &str = "/usr/bin/setsid";
+
+/// The variable by which a member knows the number of the process that started it: a parent of another number says that this one
+/// has ended.
+pub const PARENT: &str = "QMAIL_PARENT";
+
+/// The mode of a file that nobody else reads.
+const OWN_FILE: u32 = 0o600;
+
+/// The bits of a file's mode of which one says that somebody may execute it.
+const EXECUTABLE: u32 = 0o111;
+
+/// The real system, by the handles of this program; `number` is the number of this process, and the inputs that are files are made in
+/// the directory `dir`, and lose their names at once.
+#[derive(Drop)]
+pub struct HostSystem<R: Copy + Drop> {
+    rt: R,
+    files: HostRuntime,
+    number: u32,
+    dir: String,
+    made: AtomicU64,
+}
+
+impl<R: Processes + Wait + Clock + Copy + Drop> HostSystem<R> {
+    /// The real system, for the process of this number, with files in this directory.
+    pub fn new(rt: R, files: &HostRuntime, number: u32, dir: String) -> Self
+        ensures { result.number ≡ number }
+    {
+        HostSystem {
+            rt,
+            files: *files,
+            number,
+            dir,
+            made: AtomicU64::new(0),
+        }
+    }
+
+    /// The program of a start, without its words.
+    fn program(&self, alloc: Global, kind: Kind) -> io::Result<Command> {
+        if let Kind::Member = kind {
+            let mut command = Command::new(alloc, SELF)?;
+            command.arg0(NAME)?;
+            return Ok(command);
+        }
+        let mut command = Command::new(alloc, NEW_GROUP)?;
+        command.arg("--")?;
+        match kind {
+            Kind::Delivery => {
+                let own = format!(in alloc; "/proc/{}/exe", self.number)?;
+                command.arg(own.as_str())?;
+            }
+            Kind::Command => {
+                command.arg(SHELL)?;
+            }
+            Kind::Remote | Kind::Member => {}
+        }
+        Ok(command)
+    }
+
+    /// The command of a start. Its output goes there.
+    fn command(&self, alloc: Global, start: &Start<'_>, output: PipeWriter) -> io::Result<Command> {
+        let mut command = self.program(alloc, start.kind)?;
+        let words = match start.kind {
+            Kind::Remote => start.words,
+            Kind::Member | Kind::Delivery | Kind::Command => start.words.get(1..).unwrap_or(&[]),
+        };
+        for word in words {
+            match str::from_utf8(word) {
+                Ok(word) => command.arg(word)?,
+                Err(_) => return Err(io::Error::from(ErrorKind::InvalidInput)),
+            };
+        }
+        pass_on(&self.files, &mut command)?;
+        command.stdin(Stdio::piped());
+        command.stdout(Stdio::from(output));
+        if let Kind::Member = start.kind {
+            let parent = format!(in alloc; "{}", self.number)?;
+            command.env(PARENT, parent.as_str())?;
+        }
+        if is_of_others(start.kind) {
+            command.stderr(Stdio::null());
+        }
+        Ok(command)
+    }
+
+    /// Fails if there is no such program that can be executed.
+    fn needs(&self, program: &str) -> io::Result<()> {
+        let facts = fs::metadata(&self.files, program)?;
+        if facts.is_file() && facts.mode() & EXECUTABLE != 0 {
+            return Ok(());
+        }
+        Err(io::Error::from(ErrorKind::PermissionDenied))
+    }
+
+    /// A new file, open for writing, that has lost its name.
+    fn unnamed(&self, alloc: Global) -> io::Result<File> {
+        let made = self.made.fetch_add(1, Ordering::SeqCst);
+        let path = format!(in alloc; "{}/input.{}.{}", self.dir.as_str(), self.number, made)?;
+        let mut how = OpenOptions::new();
+        how.write(true).create_new(true).mode(OWN_FILE);
+        let file = match how.open(&self.files, path.as_str()) {
+            Err(why) if why.kind() == ErrorKind::AlreadyExists => {
+                // one of this number was killed before it took the name away
+                fs::remove_file(&self.files, path.as_str())?;
+                how.open(&self.files, path.as_str())?
+            }
+            opened => opened?,
+        };
+        fs::remove_file(&self.files, path.as_str())?;
+        Ok(file)
+    }
+
+    /// This same program, which is started now, with its input piped.
+    fn spawn_own(
+        &self,
+        command: Command,
+        process: &HostProcess<R>,
+    ) -> io::Result<(u32, HostInput<R>)> {
+        match process.begin(command)? {
+            (number, Some(input)) => Ok((number, HostInput::Pipe(input))),
+            (_, None) => {
+                process.kill();
+                Err(io::Error::from(ErrorKind::BrokenPipe))
+            }
+        }
+    }
+
+    /// A program of others, which is started when its input is whole.
+    fn spawn_later(
+        &self,
+        alloc: Global,
+        kind: Kind,
+        command: Command,
+        process: Arc<HostProcess<R>, Global>,
+    ) -> io::Result<HostInput<R>> {
+        self.needs(NEW_GROUP)?;
+        if let Kind::Command = kind {
+            self.needs(SHELL)?;
+        }
+        let file = self.unnamed(alloc)?;
+        Ok(HostInput::File {
+            file,
+            command,
+            process,
+        })
+    }
+}
+
+/// Whether it is a program of others, not this same one.
+fn is_of_others(kind: Kind) -> bool {
+    matches!(kind, Kind::Remote | Kind::Command)
+}
+
+/// How a child is started.
+fn form_of(kind: Kind) -> Form {
+    Form {
+        leads: !matches!(kind, Kind::Member),
+        may_miss: matches!(kind, Kind::Delivery | Kind::Remote),
+    }
+}
+
+impl<R: Processes + Wait + Clock + Copy + Drop> System for HostSystem<R>
+where
+    R::Started: Drop,
+{
+    type Process = HostProcess<R>;
+
+    type Input = HostInput<R>;
+
+    type Output = HostOutput<R>;
+
+    ghost gives = { λ _ _ _ _. Unit {0} };
+
+    fn spawn(
+        &self,
+        alloc: Global,
+        start: &Start<'_>,
+    ) -> io::Result<Born<HostProcess<R>, HostInput<R>, HostOutput<R>>> {
+        let (output, theirs) = io::pipe(&self.files)?;
+        let form = form_of(start.kind);
+        let process = HostProcess::new(self.rt, self.files, alloc, form, output);
+        let process = Arc::new(alloc, process)?;
+        let output = HostOutput {
+            process: Arc::try_clone(&process)?,
+        };
+        let also = Arc::try_clone(&process)?;
+        let command = self.command(alloc, start, theirs)?;
+        let (number, input) = if is_of_others(start.kind) {
+            (0, self.spawn_later(alloc, start.kind, command, also)?)
+        } else {
+            self.spawn_own(command, process.as_ref())?
+        };
+        Ok(Born {
+            process,
+            number,
+            input,
+            output,
+        })
+    }
+}

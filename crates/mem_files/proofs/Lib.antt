@@ -1,0 +1,9 @@
+pub mod Tables
+pub mod NumberTable
+pub mod Counting
+pub mod Places
+pub mod Survivors
+pub mod FileTable
+pub mod Idle
+pub mod Halts
+pub mod Chosen

@@ -1,0 +1,13 @@
+use Rattle.std.proofs.Common.{arith}
+use Rattle.mem_files.specs.MemFiles.{opened_inode}
+use Rattle.mem_files.proofs.FileTable.{read_entry, holds-there, changes-set}
+use Rattle.mem_files.proofs.files.add_open.Goals as goal
+
+pub overflow_add-entry : goal.overflow_add-entry
+overflow_add-entry c =
+    let found = read_entry c.args.files.now.items c.requires.in_order c.args.number c.index_of-at.result (rw c.deref.ensures.value at c.index_of-at.ensures) c.index_mut-entry.result.now c.index_mut-entry.ensures.value in
+    let count = holds-there c.args.files.now.items c.args.number c.index_mut-entry.result.now.1 found in
+    omega (arith, count, c.requires.room)
+
+pub returns : goal.returns
+returns c = changes-set c.args.files.now.items c.requires.in_order c.args.number c.index_of-at.result (rw c.deref.ensures.value at c.index_of-at.ensures) c.index_mut-entry.result.now c.index_mut-entry.ensures.value opened_inode

@@ -1,8 +1,0 @@
-use Rattle.mem_fs.proofs.Idle.{AreBusyUpTo}
-use Rattle.mem_fs.proofs.files.greatest_idle.Given as goal
-
-abbrev pub invariant-loop-at : goal.invariant-loop-at
-invariant-loop-at l = AreBusyUpTo l.files l.at l.number
-
-abbrev pub decreases-loop-at : goal.decreases-loop-at
-decreases-loop-at l = l.at

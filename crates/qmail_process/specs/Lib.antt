@@ -1,0 +1,2 @@
+-- what a command over the real things does
+pub mod Runs

@@ -1,5 +1,0 @@
-use Rattle.settle_law.proofs.IdleTurns.{idle}
-use Rattle.settle_law.proofs.laws.idle_turns_rest.Goals as goal
-
-pub returns : goal.returns
-returns c = idle

@@ -1,5 +1,0 @@
-use Rattle.settle_law.proofs.InjectorsEnd.{injectors_end}
-use Rattle.settle_law.proofs.laws.injectors_end.Goals as goal
-
-pub returns : goal.returns
-returns c = injectors_end

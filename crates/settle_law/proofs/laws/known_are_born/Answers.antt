@@ -1,5 +1,0 @@
-use Rattle.settle_law.proofs.KnownBorn.{known_are_born}
-use Rattle.settle_law.proofs.laws.known_are_born.Goals as goal
-
-pub returns : goal.returns
-returns c = known_are_born

@@ -1,5 +1,0 @@
-use Rattle.settle_law.proofs.KnownUndone.{known_are_undone}
-use Rattle.settle_law.proofs.laws.known_are_undone.Goals as goal
-
-pub returns : goal.returns
-returns c = known_are_undone

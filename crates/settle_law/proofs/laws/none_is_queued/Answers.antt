@@ -1,5 +1,0 @@
-use Rattle.settle_law.proofs.Queued.{none}
-use Rattle.settle_law.proofs.laws.none_is_queued.Goals as goal
-
-pub returns : goal.returns
-returns c = none

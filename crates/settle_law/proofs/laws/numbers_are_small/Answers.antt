@@ -1,5 +1,0 @@
-use Rattle.settle_law.proofs.SmallNumbers.{numbers_are_small}
-use Rattle.settle_law.proofs.laws.numbers_are_small.Goals as goal
-
-pub returns : goal.returns
-returns c = numbers_are_small

@@ -1,5 +1,0 @@
-use Rattle.settle_law.proofs.QuietSpawners.{others_end}
-use Rattle.settle_law.proofs.laws.others_end.Goals as goal
-
-pub returns : goal.returns
-returns c = others_end

@@ -1,5 +1,0 @@
-use Rattle.settle_law.proofs.QuietSpawners.{others_run_none}
-use Rattle.settle_law.proofs.laws.others_run_none.Goals as goal
-
-pub returns : goal.returns
-returns c = others_run_none

@@ -1,5 +1,0 @@
-use Rattle.settle_law.proofs.Alone.{passes_begin_alone}
-use Rattle.settle_law.proofs.laws.passes_begin_alone.Goals as goal
-
-pub returns : goal.returns
-returns c = passes_begin_alone

@@ -1,5 +1,0 @@
-use Rattle.settle_law.proofs.Passed.{passes_go_on}
-use Rattle.settle_law.proofs.laws.passes_go_on.Goals as goal
-
-pub returns : goal.returns
-returns c = passes_go_on

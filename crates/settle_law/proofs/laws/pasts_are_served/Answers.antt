@@ -1,5 +1,0 @@
-use Rattle.settle_law.proofs.ServedPasts.{pasts_are_served}
-use Rattle.settle_law.proofs.laws.pasts_are_served.Goals as goal
-
-pub returns : goal.returns
-returns c = pasts_are_served

@@ -1,5 +1,0 @@
-use Rattle.settle_law.proofs.DuesAtRest.{rests_are_due}
-use Rattle.settle_law.proofs.laws.rests_are_due.Goals as goal
-
-pub returns : goal.returns
-returns c = rests_are_due

@@ -1,5 +1,0 @@
-use Rattle.settle_law.proofs.Strays.{rests_begin}
-use Rattle.settle_law.proofs.laws.rests_begin.Goals as goal
-
-pub returns : goal.returns
-returns c = rests_begin

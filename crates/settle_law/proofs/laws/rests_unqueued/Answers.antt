@@ -1,5 +1,0 @@
-use Rattle.settle_law.proofs.Unqueued.{unqueued}
-use Rattle.settle_law.proofs.laws.rests_unqueued.Goals as goal
-
-pub returns : goal.returns
-returns c = unqueued

@@ -1,5 +1,0 @@
-use Rattle.settle_law.proofs.LeftRows.{rows_hold_tried}
-use Rattle.settle_law.proofs.laws.rows_hold_tried.Goals as goal
-
-pub returns : goal.returns
-returns c = rows_hold_tried

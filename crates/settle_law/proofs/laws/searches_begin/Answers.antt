@@ -1,5 +1,0 @@
-use Rattle.settle_law.proofs.QuietTurns.{searches_begin}
-use Rattle.settle_law.proofs.laws.searches_begin.Goals as goal
-
-pub returns : goal.returns
-returns c = searches_begin

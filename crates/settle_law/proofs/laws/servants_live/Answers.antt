@@ -1,5 +1,0 @@
-use Rattle.settle_law.proofs.Living.{servants_live}
-use Rattle.settle_law.proofs.laws.servants_live.Goals as goal
-
-pub returns : goal.returns
-returns c = servants_live

@@ -1,5 +1,0 @@
-use Rattle.settle_law.proofs.Stopping.{settle_stops}
-use Rattle.settle_law.proofs.laws.settle_stops.Goals as goal
-
-pub returns : goal.returns
-returns c = settle_stops

@@ -1,5 +1,0 @@
-use Rattle.settle_law.proofs.Waiting.{waits}
-use Rattle.settle_law.proofs.laws.spawners_wait.Goals as goal
-
-pub returns : goal.returns
-returns c = waits

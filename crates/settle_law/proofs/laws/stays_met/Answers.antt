@@ -1,5 +1,0 @@
-use Rattle.settle_law.proofs.Meeting.{stays_met}
-use Rattle.settle_law.proofs.laws.stays_met.Goals as goal
-
-pub returns : goal.returns
-returns c = stays_met

@@ -1,5 +1,0 @@
-use Rattle.settle_law.proofs.Strays.{todo_has_numbers}
-use Rattle.settle_law.proofs.laws.todo_has_numbers.Goals as goal
-
-pub returns : goal.returns
-returns c = todo_has_numbers

@@ -1,5 +1,0 @@
-use Rattle.settle_law.proofs.TriedStay.{tried_stay}
-use Rattle.settle_law.proofs.laws.tried_stay.Goals as goal
-
-pub returns : goal.returns
-returns c = tried_stay

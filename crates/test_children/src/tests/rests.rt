@@ -1,0 +1,73 @@
+// How long a sender's gate rests, by a queue that counts.
+
+use outside::Gate;
+use resting_gates::{Restful, SendingGate};
+use std::alloc::{AllocError, Global};
+use std::cell::Cell;
+use std::sync::{Arc, Wait};
+use std::test::*;
+use std::time::Duration;
+
+/// A queue that doesn't rest, and keeps how long it was last asked to, in milliseconds.
+#[derive(Drop)]
+struct Counting {
+    asked: Cell<u64>,
+}
+
+impl Restful for Counting {
+    fn rest<R: Wait>(&self, _rt: &R, most: Duration) {
+        self.asked
+            .set(u64::try_from(most.as_millis()).unwrap_or(u64::MAX));
+    }
+}
+
+/// A pause, by both its numbers, and for how many milliseconds it rests: 0 if it doesn't.
+type Pause = (u64, u64, u64);
+
+/// The pauses of a sender that rests for 250 ms after an idle turn, and for a second in all before its last turns.
+const PAUSES: [Pause; 13] = [
+    (0, 1, 10),
+    (0, 2, 20),
+    (0, 7, 640),
+    (0, 8, 1000),
+    (0, 1_000_000, 1000),
+    (0, 1, 10),
+    (1, 1, 250),
+    (1, 1_000_000, 250),
+    (2, 4, 250),
+    (2, 3, 250),
+    (2, 2, 250),
+    (2, 1, 250),
+    (2, 1, 0),
+];
+
+/// Those of one that is told no rest.
+const WITHOUT: [Pause; 2] = [(1, 1, 0), (0, 1, 10)];
+
+/// Whether a gate with these two times rests so at these pauses, one after the other.
+fn rests<R: Wait + Copy + Drop>(
+    rt: R,
+    alloc: Global,
+    idle: u64,
+    drain: u64,
+    pauses: &[Pause],
+) -> Result<bool, AllocError> {
+    let asked = Cell::new(0);
+    let queue = Arc::new(alloc, Counting { asked })?;
+    let gate = SendingGate::new(rt, Arc::try_clone(&queue)?, idle, drain);
+    let mut right = true;
+    for (mail, step, millis) in pauses {
+        queue.asked.set(0);
+        gate.pause(*mail, *step);
+        right = queue.asked.get() == *millis && right;
+    }
+    Ok(right)
+}
+
+#[test]
+fn rests_of_a_sender(rt: HostRuntime) {
+    assert!(rt;
+        rests(rt, rt.alloc(), 250, 1000, &PAUSES) == Ok(true)
+            && rests(rt, rt.alloc(), 0, 1000, &WITHOUT) == Ok(true)
+    );
+}

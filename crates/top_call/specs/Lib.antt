@@ -1,0 +1,2 @@
+-- what a call is lent, and that it was made
+pub mod Lent
