@@ -72,7 +72,7 @@ check "an output that can't be written" "$?" 53
 queue rspawn q "" < /dev/null > out 2> err
 check "no program" "$? $(cat err)" "100 usage"
 QMAIL_DRAIN_MS=ten queue lspawn q < /dev/null > out 2> err
-check "a limit that is no number" "$? $(cat err)" "100 usage"
+check "a limit that is no number" "$? $(cat err)" "100 QMAIL_DRAIN_MS is not a number from 1 to 86400000"
 printf '#!/bin/sh\nsleep 1\nprintf "r\\0K$3\\0"\n' > told
 for slot in $(seq 0 119); do request "$slot" 1/1 a@x "$slot@y"; done > many
 begun=$(date +%s)
@@ -107,7 +107,7 @@ check "gets the message alone" "$(cat got)" hi
 check "one that fails for good" "$(printf %s "$hi" | deliver '|exit 100')" "$(printf 'Command failed with status 100. (#5.3.0)\nstatus 100')"
 check "one that fails for now" "$(printf %s "$hi" | deliver '|exit 1')" "$(printf 'Command failed with status 1. (#4.3.0)\nstatus 111')"
 printf '|kill 0\n' > q/home/j/.qmail
-check "one that ends its group" "$(request 0 1/1 a@x j@localhost | { queue lspawn q; echo "status $?"; } | tail -c +3 | tr '\0' '.')" "$(printf 'Zqmail-local crashed.\n.status 0')"
+check "one that ends its group" "$(request 0 1/1 a@x j@localhost | { queue lspawn q; echo "status $?"; } | tail -c +3 | tr '\0' '.')" "$(printf 'ZCommand failed with status 0. (#4.3.0)\n.status 0')"
 check "one that never ends" "$(export QMAIL_DRAIN_MS=1000; printf %s "$hi" | deliver '|exec sleep 1000')" "$(printf 'Command failed with status 0. (#4.3.0)\nstatus 111')"
 { printf 4000000:; head -c 4000000 /dev/zero | tr '\0' x; printf ,; } > large
 check "4 MB through cat" "$(deliver '|cat' < large)" "$(printf 'did 0+0+1\nstatus 0')"

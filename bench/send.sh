@@ -31,10 +31,10 @@ make_queue() { # DIR: a queue with the user u, whose mail goes to a maildir
   printf './Maildir/\n' > "$1/home/u/.qmail-default"
 }
 
-send_all() { # DIR PROGRAM TURNS: senders until nothing is left
+send_all() { # DIR PROGRAM TURNS [STATE]: senders until nothing is left, except numbers in this state
   for k in $(seq 40); do
     queue send "$1" "$2" --turns "$3" 2>> "$1.log" || return 1
-    [ "$(queue audit "$1")" = "pid 0" ] && return 0
+    [ "$(queue audit "$1" | grep -v " ${4:-none}\$")" = "pid 0" ] && return 0
   done
   return 1
 }
@@ -100,7 +100,7 @@ fi
 queue send q cat 2> err
 check "no turns" "$? $(cat err)" "100 usage"
 QMAIL_IDLE_MS=60001 queue send q cat --turns 1 2> err
-check "a rest that is too long" "$? $(cat err)" "100 usage"
+check "a rest that is too long" "$? $(cat err)" "100 QMAIL_IDLE_MS is not a number from 0 to 60000"
 QMAIL_IDLE_MS=1s queue clean q < /dev/null
 check "is told no cleaner" "$?" 0
 queue send q cat --turns 1 2> err
@@ -130,7 +130,8 @@ await "a local spawner" child_of "$sender" lspawn
 kill "$(child_of "$sender" lspawn)"
 wait "$timer"
 check "a local spawner that is gone" "$?" 82
-send_all q cat 2000
+# a cleaner that was killed may leave a message file, for 36 hours
+send_all q cat 2000 S2
 sent=$?
 copies=$(grep -l '^Delivered-To: u2@localhost$' q/home/u/Maildir/new/* | wc -l)
 check "and nothing is lost" "$sent $([ "$copies" -ge 3 ] && echo three)" "0 three"

@@ -86,6 +86,16 @@ impl<R: Processes + Wait + Clock + Copy + Drop> HostProcess<R> {
         command: Command,
     ) -> io::Result<(u32, Option<<R::Started as OpenProcess>::Stdin>)> {
         let mut command = command;
+        let begun = self.begin_by(&mut command);
+        drop(command);
+        begun
+    }
+
+    /// The same, with a command that is let go of afterwards.
+    fn begin_by(
+        &self,
+        command: &mut Command,
+    ) -> io::Result<(u32, Option<<R::Started as OpenProcess>::Stdin>)> {
         let mut held = self.held.lock(&self.rt);
         if held.is_never {
             return Err(io::Error::from(ErrorKind::NotFound));
@@ -125,11 +135,18 @@ impl<R: Processes + Wait + Clock + Copy + Drop> HostProcess<R> {
 
     /// Ends all of the group that this process leads.
     fn end_group(&self, number: u32) -> io::Result<()> {
-        let group = format!(in self.alloc; "{number}")?;
         let mut command = Command::new(self.alloc, SHELL)?;
+        let ended = self.end_group_by(&mut command, number);
+        drop(command);
+        ended
+    }
+
+    /// The same, with the command of a shell.
+    fn end_group_by(&self, command: &mut Command, number: u32) -> io::Result<()> {
         command.arg("-c")?;
         command.arg(END_GROUP)?;
         command.arg("sh")?;
+        let group = format!(in self.alloc; "{number}")?;
         command.arg(group.as_str())?;
         command.env_clear();
         command.stdin(Stdio::null());

@@ -63,14 +63,12 @@ impl<R: Processes + Wait + Clock + Copy + Drop> HostSystem<R> {
         }
     }
 
-    /// The program of a start, without its words.
-    fn program(&self, alloc: Global, kind: Kind) -> io::Result<Command> {
+    /// Gives a command what stands before the words of a start.
+    fn lead(&self, alloc: Global, kind: Kind, command: &mut Command) -> io::Result<()> {
         if let Kind::Member = kind {
-            let mut command = Command::new(alloc, SELF)?;
             command.arg0(NAME)?;
-            return Ok(command);
+            return Ok(());
         }
-        let mut command = Command::new(alloc, NEW_GROUP)?;
         command.arg("--")?;
         match kind {
             Kind::Delivery => {
@@ -82,12 +80,33 @@ impl<R: Processes + Wait + Clock + Copy + Drop> HostSystem<R> {
             }
             Kind::Remote | Kind::Member => {}
         }
-        Ok(command)
+        Ok(())
     }
 
     /// The command of a start. Its output goes there.
     fn command(&self, alloc: Global, start: &Start<'_>, output: PipeWriter) -> io::Result<Command> {
-        let mut command = self.program(alloc, start.kind)?;
+        match Command::new(alloc, program_of(start.kind)) {
+            Ok(mut command) => match self.fill(alloc, start, &mut command) {
+                Ok(()) => {
+                    command.stdout(Stdio::from(output));
+                    Ok(command)
+                }
+                Err(why) => {
+                    drop(command);
+                    drop(output);
+                    Err(why)
+                }
+            },
+            Err(why) => {
+                drop(output);
+                Err(why.into())
+            }
+        }
+    }
+
+    /// Gives the command of a start its words, its environment, and its streams but for its output.
+    fn fill(&self, alloc: Global, start: &Start<'_>, command: &mut Command) -> io::Result<()> {
+        self.lead(alloc, start.kind, command)?;
         let words = match start.kind {
             Kind::Remote => start.words,
             Kind::Member | Kind::Delivery | Kind::Command => start.words.get(1..).unwrap_or(&[]),
@@ -98,9 +117,8 @@ impl<R: Processes + Wait + Clock + Copy + Drop> HostSystem<R> {
                 Err(_) => return Err(io::Error::from(ErrorKind::InvalidInput)),
             };
         }
-        pass_on(&self.files, &mut command)?;
+        pass_on(&self.files, command)?;
         command.stdin(Stdio::piped());
-        command.stdout(Stdio::from(output));
         if let Kind::Member = start.kind {
             let parent = format!(in alloc; "{}", self.number)?;
             command.env(PARENT, parent.as_str())?;
@@ -108,7 +126,7 @@ impl<R: Processes + Wait + Clock + Copy + Drop> HostSystem<R> {
         if is_of_others(start.kind) {
             command.stderr(Stdio::null());
         }
-        Ok(command)
+        Ok(())
     }
 
     /// Fails if there is no such program that can be executed.
@@ -171,6 +189,14 @@ impl<R: Processes + Wait + Clock + Copy + Drop> HostSystem<R> {
             command,
             process,
         })
+    }
+}
+
+/// The program that is started for a child of this kind.
+fn program_of(kind: Kind) -> &'static str {
+    match kind {
+        Kind::Member => SELF,
+        Kind::Delivery | Kind::Remote | Kind::Command => NEW_GROUP,
     }
 }
 

@@ -298,14 +298,16 @@ where
     <R::Started as OpenProcess>::Stderr: Send + 'static,
     ensures { IfOk result (λ status. IsStatusOf (C.does call.now) words.now status) }
 {
+    let limit = child_limit(member(alloc, words)?, limits.drain);
     let own = opener.open()?;
     let queue = opener.queue()?;
-    let looks = LockLooks::new(rt, places(alloc, words)?.dir);
-    let dir = files_dir(alloc, words)?;
-    let system = HostSystem::new(handle, rt, process::id(rt.process()), dir);
-    let system = PatientSystem::new(system, looks);
-    let limit = child_limit(member(alloc, words)?, limits.drain);
-    let mut children = Children::new(handle, alloc, system, opener, limit)?;
+    let mut children = Children::new(
+        handle,
+        alloc,
+        system(rt, handle, alloc, words)?,
+        opener,
+        limit,
+    )?;
     let begun = read_requests(rt, handle, alloc, channels, own);
     let called = match begun {
         Ok(()) => run_resting(
@@ -325,6 +327,22 @@ where
     };
     drop(children);
     called
+}
+
+/// The system whose processes the children of a command are, which waits until a member is at work.
+fn system<R: Processes + Wait + Clock + Copy + Drop>(
+    rt: &HostRuntime,
+    handle: R,
+    alloc: Global,
+    words: &[String],
+) -> Result<PatientSystem<HostSystem<R>, LockLooks>, Memory>
+where
+    R::Started: Drop,
+{
+    let dir = files_dir(alloc, words)?;
+    let looks = LockLooks::new(rt, places(alloc, words)?.dir);
+    let system = HostSystem::new(handle, rt, process::id(rt.process()), dir);
+    Ok(PatientSystem::new(system, looks))
 }
 
 /// The directory in which children's inputs are made: that of the queue.
