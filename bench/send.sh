@@ -31,10 +31,10 @@ make_queue() { # DIR: a queue with the user u, whose mail goes to a maildir
   printf './Maildir/\n' > "$1/home/u/.qmail-default"
 }
 
-send_all() { # DIR PROGRAM TURNS [STATE]: senders until nothing is left, except numbers in this state
+send_all() { # DIR PROGRAM TURNS: senders until nothing is left
   for k in $(seq 40); do
     queue send "$1" "$2" --turns "$3" 2>> "$1.log" || return 1
-    [ "$(queue audit "$1" | grep -v " ${4:-none}\$")" = "pid 0" ] && return 0
+    [ "$(queue audit "$1")" = "pid 0" ] && return 0
   done
   return 1
 }
@@ -130,8 +130,7 @@ await "a local spawner" child_of "$sender" lspawn
 kill "$(child_of "$sender" lspawn)"
 wait "$timer"
 check "a local spawner that is gone" "$?" 82
-# a cleaner that was killed may leave a message file, for 36 hours
-send_all q cat 2000 S2
+send_all q cat 2000
 sent=$?
 copies=$(grep -l '^Delivered-To: u2@localhost$' q/home/u/Maildir/new/* | wc -l)
 check "and nothing is lost" "$sent $([ "$copies" -ge 3 ] && echo three)" "0 three"
