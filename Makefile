@@ -17,8 +17,7 @@ play: build
 	./qmail play < examples/first_message.play
 
 build:
-	cd crates/qmail_cli && rt run -- play < /dev/null > /dev/null
-	cp crates/qmail_cli/out/qmail_cli qmail
+	bench/build.sh
 
 examples: build
 	@for script in examples/*.play; do \

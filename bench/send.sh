@@ -11,6 +11,7 @@ program=$(realpath "$program")
 work=$(mktemp -d)
 senders=
 stopped=
+newline=$'\n'
 trap 'kill -CONT $stopped 2> /dev/null; kill $senders 2> /dev/null; wait; rm -rf "$work"' EXIT
 cd "$work" || exit 1
 . "$top/bench/check.sh"
@@ -31,12 +32,21 @@ make_queue() { # DIR: a queue with the user u, whose mail goes to a maildir
   printf './Maildir/\n' > "$1/home/u/.qmail-default"
 }
 
-send_all() { # DIR PROGRAM TURNS: senders until nothing is left
+send_all() { # DIR PROGRAM TURNS [LEFT]: senders until nothing is left but what this line of an audit tells
   for k in $(seq 40); do
     queue send "$1" "$2" --turns "$3" 2>> "$1.log" || return 1
-    [ "$(queue audit "$1")" = "pid 0" ] && return 0
+    [ "$(queue audit "$1")" = "pid 0${4:+$newline$4}" ] && return 0
   done
   return 1
+}
+
+# LOG: the number that this sender has delivered and whose removal its cleaner didn't answer, as an audit tells it of S2: `info/N` is
+# gone by then, and who looks for what is left does so after 36 hours
+unremoved() {
+  awk '/^starting delivery/ { number[$3] = $5; left[$5]++ }
+    /^delivery [0-9]*: success/ { left[number[$2]]-- }
+    /^end msg/ { delete left[$3] }
+    END { for (n in left) if (left[n] == 0) print n " S2" }' "$1"
 }
 
 begin() { # DIR PROGRAM LOG: a sender in the background, whose process number is $sender
@@ -125,15 +135,34 @@ kill "$(child_of "$sender" clean)"
 mail q u1@localhost u2@localhost
 wait "$timer"
 check "a cleaner that is gone" "$?" 81
+left=$(queue audit q | grep ' S2$')
+check "it left at most what it was to remove" "$(echo "$left" | grep -vxF "$(unremoved log)")" ""
 begin q cat log
 await "a local spawner" child_of "$sender" lspawn
 kill "$(child_of "$sender" lspawn)"
 wait "$timer"
 check "a local spawner that is gone" "$?" 82
-send_all q cat 2000
+send_all q cat 2000 "$left"
 sent=$?
 copies=$(grep -l '^Delivered-To: u2@localhost$' q/home/u/Maildir/new/* | wc -l)
 check "and nothing is lost" "$sent $([ "$copies" -ge 3 ] && echo three)" "0 three"
+
+# a cleaner that is killed while a delivery runs: `info/N` is gone when nobody is there who would remove `mess/N`
+make_queue killed
+echo '|sleep 2' > killed/home/u/.qmail-slow
+mail killed a@x uslow@localhost
+begin killed cat log
+await "a delivery" grep -q '^starting delivery' log
+kill -9 "$(child_of "$sender" clean)"
+wait "$timer"
+check "a cleaner that is killed before it removes a message" "$?" 81
+left=$(unremoved log)
+check "leaves its file" "$(queue audit killed)" "pid 0$newline${left:-none}"
+send_all killed cat 200 "$left"
+check "which stays" "$?" 0
+find killed/mess -type f -exec touch -d '37 hours ago' {} +
+send_all killed cat 200
+check "for 36 hours" "$?" 0
 
 # a turn that can't be made: one line of the log for each, and it rests after them
 printf 'u0\0' > q/todo/1

@@ -1,8 +1,8 @@
 -- What turns tell stays told.
 use Rattle.std.proofs.Common.{◌≡◌, ℕ, List, [], ◌∷◌, ◌++◌, Result, Ok, sym, ap, ◌∙◌, append_assoc}
 use Rattle.yard_lock.specs.Turns.{turn, IsPrefix, Took}
-use Rattle.mail_world.specs.declared.world.Did.{Did}
-use Rattle.mail_world.specs.declared.error.WorldError.{WorldError}
+use Rattle.world_events.specs.declared.answers.Did.{Did}
+use Rattle.world_events.specs.declared.answers.WorldError.{WorldError}
 use Rattle.actor_runner.specs.Turns.{Answer, Asking, IsLast, IsOver}
 
 pub over_longer : (a : List ℕ) (xs ys : List Asking) → IsPrefix xs ys → IsOver a xs → IsOver a ys

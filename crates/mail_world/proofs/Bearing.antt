@@ -44,7 +44,7 @@ use Rattle.mail_world.specs.Wired.{seat, slot_in, tenant_in, kept_at, AreWired, 
 use Rattle.mail_world.specs.Children.{Begins, IsDueOfChild, IsMachineOf, IsStart, IsPaid, Serves}
 use Rattle.mail_world.specs.Generations.{idled_by}
 use Rattle.mail_world.specs.World.{Counts, child_of, IsKeptStart, next_pid, starts_in, with_inputs}
-use Rattle.mail_world.specs.declared.world.Did.{Did}
+use Rattle.world_events.specs.declared.answers.Did.{Did}
 use Rattle.world_pipes.proofs.Grows.{wired_grows, slots_grow, children_grow, over_grow}
 use Rattle.world_pipes.proofs.Keeps.{slots_set, children_started, over_alike, over_started}
 use Rattle.mail_world.proofs.Awaiting.{awaits_same}

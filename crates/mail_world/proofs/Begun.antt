@@ -24,9 +24,9 @@ use Rattle.mail_world.specs.Crew.{IsNew, AreNew, AreRenewed}
 use Rattle.mail_world.specs.Generations.{IsNoneAlive}
 use Rattle.call_fs.specs.Past.{held}
 use Rattle.std.proofs.Math.Bool.{or-false, or-true}
-use Rattle.std.proofs.lemmas.Bool.{lt-ltb, le-ltb, ltb-true}
 use Rattle.std.proofs.lemmas.List.Elements.{All-nil, All-cons}
-use Rattle.mail_world.specs.Inside.{known, RunsAt, unowed, span_by, life_by, is_by, has, AreApart, Owns, place_by, among_all, HasBorneLast, IsAwaited, RunsBy, IsMember, IsStranger, HasOpen, IsOpenTo, IsWorld, ArePiped}
+use Rattle.mail_world.specs.Inside.{known, RunsAt, unowed, span_by, life_by, is_by, has, AreApart, Owns, among_all, HasBorneLast, IsAwaited, RunsBy, IsMember, IsStranger, HasOpen, IsOpenTo, IsWorld, ArePiped}
+use Rattle.world_events.proofs.AmongAll.{place_of_mail, none_below, below, place_of_member, after_seat, same_some, four_places}
 use Rattle.mail_world.proofs.Awaiting.{awaits_same, no_slot}
 use Rattle.mail_world.proofs.Borne.{feed_push}
 use Rattle.mail_world.proofs.Crew.{started_push, owes_still, member_over}
@@ -46,35 +46,6 @@ use Rattle.mail_world.proofs.Worlds.{on_told, one_pid, pid_push}
 -- the members before, if there were any, live no more
 abbrev pub NoneLives : ℕ → List Held → Type 0
 NoneLives crew actors = (i : ℕ) (x : Held) → i < crew → slice_get actors i ≡ Some x → (at : ℕ) × (x.ended ≡ Some at)
-
--- where a mail stands, and where a member does
-
-pub place_of_mail : (crew : ℕ) (places : List ℕ → Option ℕ) (a : List ℕ) → seat a ≡ None → among_all crew places a ≡ option_map (λ i. crew + i) (places a)
-place_of_mail crew places a none = ap (λ (o : Option ℕ). place_by crew o (places a)) none
-
-none_below : (n : ℕ) → (if nat_lt n 0 then Some n else None) ≡ None
-none_below n = ap (λ (t : Bool). if t then Some n else None) (le-ltb n 0 (omega arith))
-
-below : (n crew : ℕ) → n < crew → nat_lt n crew ≡ true
-below n crew low = lt-ltb n crew low
-
-place_of_member : (crew : ℕ) (places : List ℕ → Option ℕ) (a : List ℕ) (i : ℕ) → seat a ≡ Some i → among_all crew places a ≡ (if nat_lt i crew then Some i else None)
-place_of_member crew places a i at = ap (λ (o : Option ℕ). place_by crew o (places a)) at
-
--- a mail's place among the mails
-mail_place : (crew j : ℕ) (o : Option ℕ) → option_map (λ i. crew + i) o ≡ Some (crew + j) → o ≡ Some j
-mail_place crew j None is = absurd cc
-mail_place crew j (Some i) is = let same : crew + i ≡ crew + j = cc in ap Some (omega (arith, same))
-
--- who stands after the members has no seat
-pub after_seat : (crew j : ℕ) (places : List ℕ → Option ℕ) (a : List ℕ) → among_all crew places a ≡ Some (crew + j) → (seat a ≡ None) × (places a ≡ Some j)
-after_seat crew j places a is = by_at (seat a) refl where
-  by_at : (o : Option ℕ) → seat a ≡ o → (seat a ≡ None) × (places a ≡ Some j)
-  by_at None at = (at, mail_place crew j (places a) (sym (place_of_mail crew places a at) ∙ is))
-  by_at (Some i) at = absurd (low (nat_lt i crew) refl (sym (place_of_member crew places a i at) ∙ is)) where
-    low : (t : Bool) → nat_lt i crew ≡ t → (if t then Some i else None) ≡ Some (crew + j) → ⊥
-    low true lt e = let same : i ≡ crew + j = cc in let less : i < crew = ltb-true i crew lt in omega (arith, same, less)
-    low false lt e = cc
 
 again : (a : List ℕ) (k : Kept) (n : ℕ) (span : Span) → starts a k ≡ true → span ≢ Lasting → span_after a k n span ≡ Lasting
 again a k n Unborn starts_it over = ap (λ (b : Bool). if b then Lasting else Unborn) starts_it
@@ -199,14 +170,6 @@ begun_leads_on told places crew actors events p n b w none few =
 no_place : (crew : ℕ) (o : Option ℕ) → option_map (λ i. 4 + i) o ≡ None → option_map (λ i. crew + i) o ≡ None
 no_place crew None is = refl
 no_place crew (Some i) is = absurd (cc)
-
-pub same_some : (crew : ℕ) (o : Option ℕ) → is_some (option_map (λ i. crew + i) o) ≡ is_some (option_map (λ i. 4 + i) o)
-same_some crew None = refl
-same_some crew (Some i) = refl
-
--- the places after it
-pub four_places : (places : List ℕ → Option ℕ) (a : List ℕ) (i : ℕ) → seat a ≡ Some i → i < 4 → among_all 4 places a ≡ Some i
-four_places places a i at low = place_of_member 4 places a i at ∙ ap (λ (t : Bool). if t then Some i else None) (below i 4 low)
 
 -- what holds of each of the four and of each mail holds of all
 each_of : (P : ℕ → Held → Type 0) (a b c d : Held) (mails : List Held) → P 0 a → P 1 b → P 2 c → P 3 d → ((j : ℕ) (x : Held) → slice_get mails j ≡ Some x → P (4 + j) x)

@@ -37,7 +37,7 @@ use Rattle.mail_world.specs.Acting.{is_due_of_child, StaysAt}
 use Rattle.mail_world.specs.Children.{IsDueOfChild, IsGive, IsFed, GivesTexts, GivesTwo, Serves, child_place}
 use Rattle.mail_world.specs.Generations.{idled_by}
 use Rattle.mail_world.specs.World.{Counts, IsKeptGiving, span_of, IsKeptTo}
-use Rattle.mail_world.specs.declared.world.Did.{Did}
+use Rattle.world_events.specs.declared.answers.Did.{Did}
 use Rattle.mail_world.proofs.Awaiting.{awaits_same}
 use Rattle.mail_world.proofs.Booked.{look_booked, entry_of_child, fed_booked}
 use Rattle.mail_world.proofs.Borne.{just_fed}

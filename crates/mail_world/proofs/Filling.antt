@@ -26,7 +26,7 @@ use Rattle.world_events.specs.declared.event.Program.TheVariants.{Injector, Loca
 use Rattle.mail_world.specs.ByKind.{BearsIn, IsMail}
 use Rattle.mail_world.specs.Children.{IsDueOfChild, IsGive, Serves, child_place}
 use Rattle.mail_world.specs.Generations.{idled_by}
-use Rattle.mail_world.specs.declared.world.Did.{Did}
+use Rattle.world_events.specs.declared.answers.Did.{Did}
 use Rattle.mail_world.specs.History.{Actor, State, IsDelivery, IsFed, IsInputOf, IsLocalSpawner, acted, next_of, program_of}
 use Rattle.mail_world.specs.History.Life.{Alive}
 use Rattle.mail_world.specs.World.{Counts, IsKeptGiving, IsKeptTo}

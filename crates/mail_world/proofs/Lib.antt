@@ -30,12 +30,12 @@ pub mod Found
 -- a generation starts
 pub mod Begun
 -- the actor at a place
-pub mod Noted
+pub use Rattle.world_events.proofs.Noted
 -- where each stands, by who started
 pub mod Placing
 -- the order of starts
 pub mod Starting
-pub mod Crewing
+pub use Rattle.world_events.proofs.Crewing
 -- who is the next one in a turn
 pub mod Turns
 -- the report of a remote program
@@ -43,7 +43,7 @@ pub mod Reported
 -- the first member that lives
 pub mod Firsts
 -- idle turns
-pub mod Lasts
+pub use Rattle.world_events.proofs.Lasts
 -- what an actor passes on, and what it owes
 pub mod Passed
 -- a step, by all that a world keeps
@@ -123,7 +123,7 @@ pub mod Bearing
 -- the local spawner gives a delivery its input
 pub mod Filling
 -- the names of the injectors of bounces
-pub mod Bounces
+pub use Rattle.world_events.proofs.Bounces
 -- a step of a parent: where it and its child stand, and what it is handed
 pub mod Parents
 -- what a world keeps after an event of a parent

@@ -7,7 +7,7 @@ use Rattle.std.proofs.lemmas.Slice.Eq.{bytes_eq-Decides}
 use Rattle.world_events.specs.declared.event.Event.{Event as Kept}
 use Rattle.world_events.specs.declared.event.Event.TheVariants as kept
 use Rattle.world_events.specs.declared.event.Program.{Program}
-use Rattle.mail_world.specs.declared.error.WorldError.{WorldError}
+use Rattle.world_events.specs.declared.answers.WorldError.{WorldError}
 use Rattle.mail_world.specs.Generations.{generation_world}
 use Rattle.mail_world.specs.World.{Seen, Span, span_after, span_of, starts, ends}
 use Rattle.mail_world.specs.World.Span.{Unborn, Lasting, OverAt}

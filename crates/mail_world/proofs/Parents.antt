@@ -21,7 +21,7 @@ use Rattle.world_events.specs.Children.{child_of}
 use Rattle.world_events.specs.Starts.{IsSameOrder}
 use Rattle.world_pipes.specs.declared.mouths.Mouths.{Mouths}
 use Rattle.mail_world.specs.declared.actor.Actor.{Actor as Held}
-use Rattle.mail_world.specs.declared.actor.Setting.{Setting}
+use Rattle.world_events.specs.declared.asking.Setting.{Setting}
 use Rattle.mail_world.specs.declared.any_machine.AnyMachine.{AnyMachine}
 use Rattle.mail_world.specs.Books.{entries_of}
 use Rattle.mail_world.specs.Children.{Begins, IsMachineOf, IsPaid, IsSetting, HasTakenIn, MayTakeIn, child_place}
@@ -37,7 +37,7 @@ use Rattle.mail_world.proofs.Lists.{set_same}
 use Rattle.mail_world.proofs.Living.{living_still, living_within}
 use Rattle.mail_world.proofs.Placing.{placed_at}
 use Rattle.mail_world.proofs.Serving.{IsAsking, HasChild, HasServed, at_setting, get_beside, may_at, may_take, parent_is, parent_owes, same_at, taken_at, was_served}
-use Rattle.mail_world.proofs.Starting.{same_starts}
+use Rattle.world_events.proofs.Starting.{same_starts}
 use Rattle.mail_world.proofs.Wires.{same_place}
 use Rattle.world_pipes.specs.Mouths.{IsSame}
 use Rattle.world_pipes.proofs.Feeds.{as_before}

@@ -15,7 +15,7 @@ use Rattle.world_events.specs.declared.event.History.{History}
 use Rattle.world_pipes.specs.declared.mouths.Mouths.{Mouths}
 use Rattle.mail_world.specs.declared.actor.Actor.{Actor as Held}
 use Rattle.mail_world.specs.declared.any_machine.AnyMachine.{AnyMachine}
-use Rattle.mail_world.specs.declared.world.Did.{Did}
+use Rattle.world_events.specs.declared.answers.Did.{Did}
 use Rattle.mail_world.specs.History.{next_of}
 use Rattle.mail_world.specs.ByKind.{Follows, present_of, found_of, looked_of, need_of, takes_of, awaits_of, with_own, own_of}
 use Rattle.mail_world.specs.Generations.{idled_in, idled_of}

@@ -2,8 +2,8 @@
 use Rattle.std.proofs.Common.{◌≡◌, ◌≢◌, ◌↔◌, ℕ, List, Option, Some, None, IsSomeAnd, Result, Ok, Err, sym, ap, ◌∙◌, subst, reverse}
 use Rattle.std.specs.List.{slice_get}
 use Rattle.mail_world.specs.declared.actor.Actor.{Actor as Held}
-use Rattle.mail_world.specs.declared.error.WorldError.{WorldError}
-use Rattle.mail_world.specs.declared.error.WorldError.TheVariants as why
+use Rattle.world_events.specs.declared.answers.WorldError.{WorldError}
+use Rattle.world_events.specs.declared.answers.WorldError.TheVariants as why
 use Rattle.world_events.specs.declared.event.Event.{Event as Kept}
 use Rattle.mail_world.specs.History.{State}
 use Rattle.mail_world.specs.World.{EndsAt, span_of}

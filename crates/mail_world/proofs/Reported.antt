@@ -15,8 +15,8 @@ use Rattle.world_pipes.specs.Mouths.{runs_in, tenant_of, is_remote, IsLowest}
 use Rattle.world_pipes.specs.Pipework.{Pipe, Tenant, closed, given, mouth}
 use Rattle.world_pipes.specs.Pipework.Tenant.{Runs, Remote}
 use Rattle.mail_world.specs.declared.actor.Actor.{Actor as Held}
-use Rattle.mail_world.specs.declared.error.WorldError.{WorldError}
-use Rattle.mail_world.specs.declared.error.WorldError.TheVariants as why
+use Rattle.world_events.specs.declared.answers.WorldError.{WorldError}
+use Rattle.world_events.specs.declared.answers.WorldError.TheVariants as why
 use Rattle.mail_world.specs.History.{Actor, Life, State, MayReport, IsLiving, report_text, happens}
 use Rattle.mail_world.specs.History.Event.{Report}
 use Rattle.mail_world.specs.History.Life.{Alive, Over, Stopped}

@@ -16,8 +16,8 @@ use Rattle.call_fs.specs.Past.{IsRunBy}
 use Rattle.send_known.specs.Known.{sender_of}
 use Rattle.send_parts.specs.declared.rows.FinishRow.TheVariants as finish
 use Rattle.send_core.specs.declared.desk.Desk.{Desk}
-use Rattle.send_core.specs.declared.row.Row.{Row}
-use Rattle.send_core.specs.declared.row.Row.TheVariants as at
+use Rattle.send_parts.specs.declared.row.Row.{Row}
+use Rattle.send_parts.specs.declared.row.Row.TheVariants as at
 use Rattle.send_core.specs.Desk.{ready as ready_on_both}
 use Rattle.send_core.specs.Finish.{finish_at, returned_to}
 use Rattle.send_core.specs.Table.{act, arrive, place_after as sender_after, due_at, moved_by, row_now}

@@ -16,9 +16,9 @@ use Rattle.world_events.specs.declared.event.Program.{Program}
 use Rattle.world_pipes.specs.Pipework.{Tenant}
 use Rattle.world_pipes.specs.Pipework.Tenant.{Runs, Remote}
 use Rattle.world_pipes.specs.Mouths.{actor_of}
-use Rattle.mail_world.specs.declared.error.WorldError.{WorldError}
-use Rattle.mail_world.specs.declared.error.WorldError.TheVariants as why
-use Rattle.mail_world.specs.declared.world.Did.{Did}
+use Rattle.world_events.specs.declared.answers.WorldError.{WorldError}
+use Rattle.world_events.specs.declared.answers.WorldError.TheVariants as why
+use Rattle.world_events.specs.declared.answers.Did.{Did}
 use Rattle.mail_world.specs.Acting.{is_due_of_child}
 use Rattle.mail_world.specs.Children.{IsDueOfChild}
 use Rattle.mail_world.specs.Generations.{CanNot, Waits}

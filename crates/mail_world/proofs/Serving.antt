@@ -31,7 +31,7 @@ use Rattle.mail_world.specs.declared.actor.Actor.{Actor as Held}
 use Rattle.mail_world.specs.Acting.{is_due_of_child, IsOwed, StaysAt}
 use Rattle.mail_world.specs.declared.any_machine.AnyMachine.{AnyMachine}
 use Rattle.mail_world.specs.ByKind.{BearsIn, IsMail, Follows, CanFind, present_of, found_of, looked_of, need_of, takes_of, awaits_of, with_own, own_of}
-use Rattle.mail_world.specs.declared.world.Did.{Did}
+use Rattle.world_events.specs.declared.answers.Did.{Did}
 use Rattle.mail_world.specs.Children.{IsDueOfChild, IsStart, IsGive, IsTake, MayTakeIn, HasTakenIn, Serves, place_by_name, child_place}
 use Rattle.mail_world.specs.Crew.{IsFoundAt}
 use Rattle.mail_world.specs.Generations.{idled_in, idled_by, has_idled}

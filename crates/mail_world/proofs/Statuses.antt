@@ -27,7 +27,7 @@ use Rattle.mail_world.specs.Books.{AreBooked}
 use Rattle.mail_world.specs.ByKind.{IsMail}
 use Rattle.mail_world.specs.Children.{IsDueOfChild, IsTake, Serves, child_place}
 use Rattle.mail_world.specs.Generations.{CanNot, Waits, idled_by}
-use Rattle.mail_world.specs.declared.world.Did.{Did}
+use Rattle.world_events.specs.declared.answers.Did.{Did}
 use Rattle.mail_world.specs.History.{Actor, Life, State, IsStatusOf, TenantEnds, acted, next_of}
 use Rattle.mail_world.specs.History.Life.{Alive}
 use Rattle.mail_world.specs.World.{Counts, EndsInWorld}

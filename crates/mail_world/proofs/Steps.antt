@@ -23,8 +23,8 @@ use Rattle.world_pipes.specs.Pipework.{Pipe, is_ready}
 use Rattle.world_pipes.specs.Pipes.{offered}
 use Rattle.call_fs.specs.declared.file_system.TheConstants.{PIECE}
 use Rattle.mail_world.specs.declared.actor.Actor.{Actor as Held}
-use Rattle.mail_world.specs.declared.error.WorldError.{WorldError}
-use Rattle.mail_world.specs.declared.error.WorldError.TheVariants as why
+use Rattle.world_events.specs.declared.answers.WorldError.{WorldError}
+use Rattle.world_events.specs.declared.answers.WorldError.TheVariants as why
 use Rattle.mail_world.specs.Books.{noted, AreBooked}
 use Rattle.mail_world.specs.ByKind.{IsMail, Follows, CanFind, takes_of, awaits_of}
 use Rattle.world_pipes.specs.Mouths.{actor_of}

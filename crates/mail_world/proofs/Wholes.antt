@@ -43,7 +43,8 @@ use Rattle.mail_world.proofs.Noted.{put_among}
 use Rattle.mail_world.proofs.Placing.{so_many}
 use Rattle.mail_world.proofs.Seats.{seat_none}
 use Rattle.mail_world.proofs.Serving.{HasServed, slot_at}
-use Rattle.mail_world.proofs.Starting.{mail_starts, same_starts, starts_push, still_starts}
+use Rattle.world_events.proofs.Starting.{mail_starts, same_starts}
+use Rattle.mail_world.proofs.Starting.{starts_push, still_starts}
 use Rattle.mail_world.proofs.Statuses.{IsTaking, status_own, status_keeps, status_booked, status_piped}
 
 -- The whole input of a delivery was given, and its pipe shut.

@@ -4,14 +4,10 @@ use Rattle.std.specs.List.{slice_get}
 use Rattle.actor_names.specs.MailNames.{members}
 use Rattle.call_fs.specs.Disk.{Disk}
 use Rattle.mail_bytes.specs.Told.{OnTold, Meets}
-use Rattle.call_fs.specs.Plan.{Plan}
-use Rattle.call_fs.specs.Apply.{MayCall}
-use Rattle.call_fs.specs.Columns.{IsAnswerTo, IsMomentIn}
-use Rattle.call_fs.specs.Past.{IsRunBy, Makes}
+use Rattle.call_fs.specs.Past.{IsRunBy}
 use Rattle.call_fs.specs.Program.{IsKind, IsWithin}
 use Rattle.call_fs.specs.declared.past.GotData.TheVariants as got
 use Rattle.call_fs.specs.declared.past.GotData.{GotData}
-use Rattle.call_fs.specs.declared.past.GotData.TheVariants.{Answered}
 use Rattle.call_fs.specs.declared.past.NeedData.{NeedData}
 use Rattle.call_fs.specs.declared.past.NeedData.TheVariants as needs
 use Rattle.call_fs.specs.declared.past.Own.{Own}
@@ -20,14 +16,11 @@ use Rattle.world_events.specs.declared.event.Event.TheVariants as kept
 use Rattle.world_events.specs.declared.event.Program.{Program}
 use Rattle.mail_world.specs.declared.actor.Actor.{Actor as Held}
 use Rattle.mail_world.specs.declared.any_machine.AnyMachine.{AnyMachine}
-use Rattle.mail_world.specs.declared.actor.Came.{Came}
-use Rattle.mail_world.specs.declared.world.Did.{Did}
-use Rattle.mail_world.specs.declared.actor.Came.TheVariants as came
-use Rattle.mail_world.specs.declared.error.WorldError.{WorldError}
-use Rattle.mail_world.specs.declared.error.WorldError.TheVariants as why
+use Rattle.world_events.specs.declared.answers.Did.{Did}
+use Rattle.world_events.specs.declared.answers.WorldError.{WorldError}
+use Rattle.world_events.specs.declared.answers.WorldError.TheVariants as why
 use Rattle.mail_world.specs.History.{next_of}
 use Rattle.call_fs.specs.declared.program.Ready.{Ready}
-use Rattle.mail_world.specs.World.{IsPlannedOwn}
 use Rattle.world_pipes.specs.declared.mouths.Mouths.{Mouths}
 use Rattle.mail_world.specs.Pipework.{Pipework}
 use Rattle.mail_world.specs.ByKind.{Follows, CanFind, present_of, found_of, looked_of, need_of, takes_of, with_own, awaits_of}
@@ -36,16 +29,13 @@ use Rattle.mail_world.specs.Inside.{StandsFor}
 use Rattle.mail_world.specs.Generations.{idled_of}
 -- what of a child is due to an actor
 pub use Rattle.world_pipes.specs.Seating.{is_due_of_child, has_actor}
+-- what comes of asking its machine
+pub use Rattle.world_events.specs.Asking.{MayMake, due_by, IsCall, IsStated, IsReadAt, MakesOf, IsMade, IsUntouched, IsPlannedCame}
 -- what an actor has open
 pub use Rattle.world_events.specs.Opened.{without, open_after, opened_by, AreOpen, shut}
 -- the pipes and slots at one place are as they were, and what an actor does with them
 pub use Rattle.world_pipes.specs.Mouths.{IsSame}
 pub use Rattle.world_pipes.specs.Exchanges.{IsNoAct, Brings, BringsNone, Keep, AreAsBefore, HasPiped, HasTaken, HasFreed, HasFreedBy, HasBegun, HasStarted, HasTakenBy, HasGivenTo, IsSameAt, HaveShut, GivesNoActor, SuitsPlace, Exchanges, IsStuck, HasExchanged, IsGoneToo, ShutsAfter}
-
--- the call that is due may be made
-abbrev pub MayMake : Disk → NeedData → Type 0
-MayMake d (needs.File c) = MayCall d c
-MayMake d other = Unit {0}
 
 -- a file call or an end is due, or nothing yet
 abbrev pub IsAct : NeedData → Type 0
@@ -93,49 +83,6 @@ pub record StaysAt (x y : Held) : Type 0 where
   pub wire : y.wire ≡ x.wire
   pub slot : y.slot ≡ x.slot
   pub entry : y.entry ≡ x.entry
-
--- what came was due
-abbrev pub due_by : Came → NeedData
-due_by (came.Did own) = own.due
-due_by (came.Ended status) = needs.Ended status
-due_by (came.Due due) = due
-
--- what an actor does is a file call with an answer, or no file call and not its end
-abbrev pub IsCall : NeedData → GotData → Type 0
-IsCall (needs.File call) (Answered told) = IsAnswerTo call told.answer × IsMomentIn told.answer
-IsCall due came = ⊥
-
-abbrev pub IsStated : Came → Type 0
-IsStated (came.Did own) = IsCall own.due own.came
-IsStated (came.Ended status) = Unit {0}
-IsStated (came.Due due) = IsNoAct due
-
--- an event has read this moment, and found this ready
-abbrev pub IsReadAt : Came → ℕ → Ready → Type 0
-IsReadAt (came.Did own) now ready = (own.read ≡ now) × (own.ready ≡ ready)
-IsReadAt (came.Ended status) now ready = Unit {0}
-IsReadAt (came.Due due) now ready = Unit {0}
-
--- what an event did to the disk
-abbrev pub MakesOf : ℕ → NeedData → GotData → Option Disk → Option Disk → Type 0
-MakesOf now due came old new = Meets old new (λ before after. Makes before now due came after)
-
-abbrev pub IsMade : Came → ℕ → Option Disk → Option Disk → Type 0
-IsMade (came.Did own) now old new = MakesOf now own.due own.came old new
-IsMade (came.Ended status) now old new = new ≡ old
-IsMade (came.Due due) now old new = new ≡ old
-
--- nothing was made of the disk, if it was no call
-abbrev pub IsUntouched : {D : Type 0} → Came → D → D → Type 0
-IsUntouched (came.Did own) old new = Unit {0}
-IsUntouched (came.Ended status) old new = new ≡ old
-IsUntouched (came.Due due) old new = new ≡ old
-
--- what a plan says of it, and what is left of the plan
-abbrev pub IsPlannedCame : Came → Option Plan → Option Plan → Option Disk → Option Disk → Type 0
-IsPlannedCame (came.Did own) old new disk disk_after = IsPlannedOwn own.due own.came old new disk disk_after
-IsPlannedCame (came.Ended status) old new disk disk_after = new ≡ old
-IsPlannedCame (came.Due due) old new disk disk_after = new ≡ old
 
 -- whether the one event that was appended, of this actor, ended an idle turn of a sender
 abbrev pub HasIdled : Bool → Held → List Kept → List Kept → Type 0

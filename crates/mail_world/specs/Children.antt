@@ -1,5 +1,5 @@
 -- The children of actors, as a world keeps them.
-use Rattle.std.specs.Prelude.{◌≡◌, ℕ, ◌+◌, List, [], ◌∷◌, ◌++◌, length, reverse, set, Bool, true, false, Option, Some, None, is_some}
+use Rattle.std.specs.Prelude.{◌≡◌, ℕ, List, [], ◌∷◌, ◌++◌, length, reverse, set, Bool, true, false, Option, Some, None, is_some}
 use Rattle.std.specs.List.{slice_get}
 use Rattle.call_fs.specs.declared.past.ChildData.{ChildData}
 use Rattle.call_fs.specs.declared.past.ChildData.TheVariants as child
@@ -15,16 +15,14 @@ use Rattle.world_events.specs.declared.event.Event.{Event as Kept}
 use Rattle.world_events.specs.declared.event.Program.{Program}
 use Rattle.world_events.specs.declared.event.Program.TheVariants.{Injector, Delivery}
 use Rattle.world_events.specs.Inputs.{bounce, forward, with_texts}
-use Rattle.mail_world.specs.declared.world.Did.{Did}
-use Rattle.world_pipes.specs.declared.mouths.Mouths.{Mouths}
+use Rattle.world_events.specs.declared.answers.Did.{Did}
 use Rattle.world_pipes.specs.Mouths.{actor_of}
 use Rattle.mail_world.specs.declared.actor.Actor.{Actor as Held}
-use Rattle.mail_world.specs.declared.actor.Setting.{Setting}
+use Rattle.world_events.specs.declared.asking.Setting.{Setting}
 use Rattle.mail_world.specs.declared.any_machine.AnyMachine.{AnyMachine}
 use Rattle.mail_world.specs.History.{Actor, next_of}
 use Rattle.mail_world.specs.History.Life.{Alive}
 use Rattle.mail_world.specs.ByKind.{IsMail, Follows, CanFind, awaits_of}
-use Rattle.mail_world.specs.Wired.{tenant_in, kept_at}
 use Rattle.mail_world.specs.Known.{known}
 use Rattle.mail_world.specs.Readiness.{found_in}
 use Rattle.mail_world.specs.World.{Seen, GoesOn, IsStep, next_pid}
@@ -32,6 +30,8 @@ use Rattle.mail_world.specs.Inside.{StandsFor, Owes}
 use Rattle.mail_world.specs.Generations.{idled_in, has_idled, starts_of}
 use Rattle.mail_world.specs.Starts.{place_in}
 use Rattle.mail_world.specs.Acting.{is_due_of_child, IsOwed, StaysAt}
+-- where the child in a slot stands
+pub use Rattle.world_events.specs.Places.{place_by_name, child_place}
 -- what is due gives an injector two texts
 pub use Rattle.fed_injector.specs.Texts.{GivesTexts, GivesTwo}
 
@@ -64,17 +64,6 @@ IsGive other = ⊥
 abbrev pub IsTake : NeedData → Type 0
 IsTake (needs.Take (port.Status d)) = Unit {0}
 IsTake other = ⊥
-
--- the place among all of the child in a slot of whose pipes are there, if there is one
-abbrev pub place_by_name : ℕ → (List ℕ → Option ℕ) → Option (List ℕ) → Option ℕ
-place_by_name crew places None = None
-place_by_name crew places (Some c) = place_so (places c) where
-  place_so : Option ℕ → Option ℕ
-  place_so None = None
-  place_so (Some i) = Some (crew + i)
-
-abbrev pub child_place : List Mouths → Option ℕ → ℕ → ℕ → (List ℕ → Option ℕ) → Option ℕ
-child_place mouths wire d crew places = place_by_name crew places (actor_of (tenant_in (kept_at wire mouths) d))
 
 -- the machine of an actor that starts stands for its program, and an injector awaits its input
 pub record Begins (machine : AnyMachine) (program : Program) : Type 0 where

@@ -8,6 +8,8 @@ use Rattle.mail_world.specs.declared.actor.Actor.{Actor as Held}
 use Rattle.mail_world.specs.declared.any_machine.AnyMachine.{AnyMachine}
 use Rattle.mail_world.specs.ByKind.{Follows}
 use Rattle.mail_world.specs.Wired.{seat}
+use Rattle.mail_world.specs.Starts.{lives}
+use Rattle.world_events.specs.Starts as order
 -- what an actor finds by its pipes
 pub use Rattle.world_pipes.specs.Seating.{IsFresh, IsFreshOne, AreFresh, AreRenewed, HasPlaceAfter, input_of, FindsBy, IsFoundAt}
 -- the report of a remote program
@@ -57,5 +59,4 @@ IsFirst crew (Some name) = (before : List Held) × (x : Held) × (later : List H
 
 -- it is there, and lives
 abbrev pub lasts : Option Held → Bool
-lasts None = false
-lasts (Some x) = is_none x.ended
+lasts o = order.lasts lives o

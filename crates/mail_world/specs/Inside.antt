@@ -1,5 +1,5 @@
 -- What the fields of a world mean, and what they keep.
-use Rattle.std.specs.Prelude.{◌≡◌, ◌≢◌, ◌⊎◌, ℕ, ◌+◌, ◌≤◌, ◌<◌, List, [], ◌∷◌, ◌++◌, All, length, reverse, drop, count_by, nat_lt, Bool, true, false, if◌then◌else◌, option_map, Option, Some, None, IsSome, IsSomeAnd, is_some, is_none, bytes_eq}
+use Rattle.std.specs.Prelude.{◌≡◌, ◌≢◌, ◌⊎◌, ℕ, ◌≤◌, ◌<◌, List, [], ◌∷◌, ◌++◌, All, length, reverse, drop, count_by, Bool, true, false, Option, Some, None, IsSome, IsSomeAnd, is_some, is_none, bytes_eq}
 use Rattle.std.specs.List.{slice_get}
 use Rattle.call_fs.specs.Disk.{Disk}
 use Rattle.call_fs.specs.declared.modes.Mode.{Mode}
@@ -37,6 +37,8 @@ use Rattle.mail_world.specs.World.{Leads, Span, Counts, span_of, was_started, ne
 use Rattle.mail_world.specs.World.Span.{Unborn, Lasting, OverAt}
 -- lists of open descriptors
 pub use Rattle.world_events.specs.Opened.{has, AreApart}
+-- where each actor stands among all
+pub use Rattle.world_events.specs.Places.{place_by, among_all}
 -- what kept events tell
 pub use Rattle.mail_world.specs.Known.{event_of, nowhere, known}
 
@@ -181,14 +183,6 @@ pub record IsWorld (disk : Option Disk) (places : List ℕ → Option ℕ) (acto
   pub kept : AreActors places actors s events present
   pub opens : OnTold disk (λ d. IsOpenTo d actors s)
   pub led : OnTold disk (λ d. IsLed d events present)
-
--- the place of an actor among all, of whom the first so many are the members of a generation
-abbrev pub place_by : ℕ → Option ℕ → Option ℕ → Option ℕ
-place_by crew None at = option_map (λ i. crew + i) at
-place_by crew (Some i) at = if nat_lt i crew then Some i else None
-
-abbrev pub among_all : ℕ → (List ℕ → Option ℕ) → List ℕ → Option ℕ
-among_all crew places a = place_by crew (seat a) (places a)
 
 -- an event that is neither an own event of this parent nor of its child, which it leaves as it began
 abbrev pub IsApart : List ℕ → List ℕ → Kept → Type 0

@@ -4,9 +4,9 @@ use Rattle.std.specs.declared.alloc.AllocError.{AllocError}
 use Rattle.call_fs.specs.Disk.{Disk}
 use Rattle.call_fs.specs.Plan.{Plan}
 use Rattle.world_events.specs.declared.event.Event.{Event as Kept}
-use Rattle.mail_world.specs.declared.world.Did.{Did}
-use Rattle.mail_world.specs.declared.error.WorldError.{WorldError}
-use Rattle.mail_world.specs.declared.error.WorldError.TheVariants.{Gone, NotWaiting, Unknown}
+use Rattle.world_events.specs.declared.answers.Did.{Did}
+use Rattle.world_events.specs.declared.answers.WorldError.{WorldError}
+use Rattle.world_events.specs.declared.answers.WorldError.TheVariants.{Gone, NotWaiting, Unknown}
 use Rattle.mail_world.specs.World.{Seen, IsStep, GoesOn, GoesByPlan, was_started, EndsAt}
 use Rattle.mail_world.specs.Generations.{Waits, has_idled}
 use Rattle.mail_world.specs.Known.{known}

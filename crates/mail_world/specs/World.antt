@@ -12,7 +12,7 @@ use Rattle.call_fs.specs.declared.past.GotData.{GotData}
 use Rattle.call_fs.specs.declared.past.GotData.TheVariants.{Answered, Ended, Gave, Started}
 use Rattle.call_fs.specs.declared.crash_file_system.Survival.{Survival}
 use Rattle.call_fs.specs.Choices.{AreNamed, contents_by}
-use Rattle.call_fs.specs.Plan.{Plan, CallKeepsPlan}
+use Rattle.call_fs.specs.Plan.{Plan}
 use Rattle.call_fs.specs.Disk.{Disk}
 use Rattle.world_events.specs.declared.event.Event.{Event as Kept}
 use Rattle.world_events.specs.declared.event.Event.TheVariants as kept
@@ -33,6 +33,8 @@ pub use Rattle.world_events.specs.Mails.{mail}
 pub use Rattle.world_events.specs.Children.{Counts, counted, is_bounce, is_delivery, is_bounce_start, is_delivery_start, counts_in, child_of}
 -- with what the command of a user exits
 pub use Rattle.world_pipes.specs.Commands.{command_exits}
+-- what the plan of a disk says of an event of an actor
+pub use Rattle.world_events.specs.Planned.{IsPlannedOwn}
 -- the kept events with the input of each child in its start, where a history has it
 pub use Rattle.world_events.specs.Inputs.{with_inputs}
 
@@ -289,11 +291,6 @@ pub record IsAsBefore {D : Type 0} (tells : D → Option Disk) (plan : D → Opt
   pub present : new.present ≡ old.present
   pub disk : tells new.disk ≡ tells old.disk
   pub plan_is : plan new.disk ≡ plan old.disk
-
--- what the plan of a disk says of an event of an actor: a file call is by the plan
-abbrev pub IsPlannedOwn : NeedData → GotData → Option Plan → Option Plan → Option Disk → Option Disk → Type 0
-IsPlannedOwn (File call) (Answered told) old new disk disk_after = CallKeepsPlan call old new disk disk_after told.answer
-IsPlannedOwn due came old new disk disk_after = new ≡ old
 
 -- what the plan of a disk says of an event, and what is left of it: a call is by the plan, and nothing else uses it up
 abbrev pub IsPlannedEvent : Kept → Option Plan → Option Plan → Option Disk → Option Disk → Type 0

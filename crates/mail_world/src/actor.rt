@@ -1,5 +1,5 @@
 // One actor: its machine, and what it has open.
-ghost use Rattle.std.specs.Prelude.{◌≡◌, ◌+◌, ◌<◌, [], List, ℕ, true, false, IfOk, IfSome, IsSome, IsNone, IsTrue, IsOk, OnOk, OnErr, Some, None, length, vec_len, vec_capacity};
+ghost use Rattle.std.specs.Prelude.{◌≡◌, ◌+◌, ◌<◌, [], List, ℕ, true, false, IfOk, IfSome, IsSome, IsNone, IsTrue, IsOk, OnOk, OnErr, Some, None, length};
 ghost use Rattle.call_fs.specs.Program.{IsKind, IsWithin};
 ghost use Rattle.call_fs.specs.declared.past.NeedData.TheVariants.{Wait};
 ghost use Rattle.mail_bytes.specs.Moments.{IsMoment};
@@ -9,19 +9,18 @@ ghost use Rattle.world_events.specs.declared.event.Program.{Program};
 ghost use Rattle.mail_world.specs.History.{next_of};
 ghost use Rattle.mail_world.specs.World.{GoesByPlan};
 ghost use Rattle.mail_world.specs.ByKind.{Follows, present_of, found_of, looked_of, need_of, takes_of, with_own, own_of, awaits_of, searches, HasGone, CanFind, IsAsked};
-ghost use Rattle.mail_world.specs.Acting.{HasRead, MayAsk, MayAct, IsSeated, StaysAt, IsNoAct, AreOpen, AreAsBefore, due_by, IsStated, IsReadAt, IsMade, IsUntouched, IsPlannedCame, IsCutOff, AreCutOff, HasStepped, HasGiven, HasLooked, HasIdled, IsFinished, is_due_of_child, has_actor, GivesNoActor, SuitsPlace, status_of, shut};
+ghost use Rattle.mail_world.specs.Acting.{HasRead, MayAct, IsSeated, StaysAt, IsNoAct, AreOpen, AreAsBefore, IsCutOff, AreCutOff, HasStepped, HasGiven, HasLooked, HasIdled, IsFinished, is_due_of_child, has_actor, GivesNoActor, SuitsPlace, status_of, shut};
 ghost use Rattle.mail_world.specs.Inside.{StandsFor, Owes};
 ghost use Rattle.mail_world.specs.Generations.{idled_in};
 ghost use Rattle.world_events.specs.declared.event.Event.TheVariants as kept;
 ghost use Rattle.mail_world.specs.Kept.{events_of, HasRoom};
 
 use crate::any_machine::AnyMachine;
-use crate::children::own_at;
 use crate::{ActorName, Did, Event, History};
-use call_fs::{CallData, CallFs, Fd, GotData, Machine, Need, NeedData, Own, PIECE, Ready, perform};
+use call_fs::{CallFs, Fd, GotData, Machine, NeedData, Own};
 use mail_bytes::Memory;
 use std::alloc::Global;
-use world_events::{close_all, got_of, keep_open, need_data, room_for, told_in};
+use world_events::{Came, Living, Setting, ask, close_all, got_of, keep_open, need_data, own_at};
 use world_pipes::{Mouths, exchange, is_of_child, shut_after};
 
 /// An actor of the world.
@@ -47,28 +46,14 @@ pub struct Actor {
     pub entry: Option<usize>,
 }
 
-/// What a step goes by.
-#[derive(Clone, Copy)]
-pub struct Setting {
-    /// The present moment.
-    pub now: u64,
-    /// What the actor finds ready.
-    pub ready: Ready,
-    /// The next process number.
-    pub pid: u32,
-    /// The place of the actor among all.
-    pub place: usize,
-}
+impl Living for Actor {
+    ghost use Rattle.mail_world.specs.Starts.{lives};
 
-/// What came of asking a machine.
-#[derive(Drop)]
-pub enum Came {
-    /// It made the call that was due, and this is its event.
-    Did(Own),
-    /// It has ended with this status.
-    Ended(u8),
-    /// This is due, which is no call.
-    Due(NeedData),
+    ghost lives = { lives };
+
+    fn is_alive(&self) -> bool {
+        self.ended.is_none()
+    }
 }
 
 impl Actor {
@@ -101,41 +86,6 @@ impl Actor {
             wire,
             slot,
             entry,
-        }
-    }
-
-    /// Asks its machine what it does next at this moment, with this ready, and makes the call, if that is one. Room for the bytes of a
-    /// read is made first. The conditions: it has looked, and what is next may be made.
-    fn ask<D: CallFs>(&self, alloc: Global, disk: &mut D, at: Setting) -> Result<Came, Memory>
-        requires moment { IsMoment at.now }
-        requires read { HasRead self.now.machine at.now at.ready }
-        requires may { MayAsk (D.disk disk.old) self.now.machine at.now at.ready }
-        ensures due { IfOk result (λ came. (program : Program) (past : List Own)
-            → Follows self.now.machine program past → next_of program past at.now at.ready ≡ due_by came) }
-        ensures need { IfOk result (λ came. need_of self.now.machine ≡ due_by came) }
-        ensures read { IfOk result (λ came. IsReadAt came at.now at.ready) }
-        ensures stated { IfOk result (λ came. IsStated came) }
-        ensures made { IfOk result (λ came. IsMade came at.now (D.disk disk.old) (D.disk disk.new)) }
-        ensures still { IfOk result (λ came. IsUntouched came disk.old disk.new) }
-        ensures plan { IfOk result (λ came. IsPlannedCame came (D.plan disk.old) (D.plan disk.new) (D.disk disk.old) (D.disk disk.new)) }
-        ensures err { OnErr result (disk.new ≡ disk.old) }
-    {
-        match self.machine.need() {
-            Need::File(call) => {
-                let room = room_for(alloc, call)?;
-                let owned = CallData::of(alloc, call)?;
-                let mut buffer = [0; PIECE];
-                let answer = perform(alloc, disk, at.now, call, &mut buffer);
-                let told = told_in(alloc, room, &answer, &buffer);
-                Ok(Came::Did(Own {
-                    read: at.now,
-                    ready: at.ready,
-                    due: NeedData::File(owned),
-                    came: GotData::Answered(told),
-                }))
-            }
-            Need::Ended(status) => Ok(Came::Ended(status)),
-            due => Ok(Came::Due(need_data(alloc, due)?)),
         }
     }
 
@@ -200,7 +150,7 @@ impl Actor {
     {
         let index = history.len() as u64;
         self.descriptors.reserve(1)?;
-        match self.ask(alloc, disk, at)? {
+        match ask(alloc, &self.machine, disk, at)? {
             Came::Did(own) => {
                 keep_open(&mut self.descriptors, &own);
                 let idle = self.take_in(alloc, &own, index);

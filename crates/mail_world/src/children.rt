@@ -1,44 +1,23 @@
-// The children of actors: their places, their start, their input, and what an actor is handed of one.
-ghost use Rattle.std.specs.Prelude.{◌≡◌, ◌<◌, ◌^◌, List, ℕ, Some, None, length, IfOk, OnOk, OnErr, vec_len, vec_capacity};
+// The children of actors: their machines, their input, and what an actor is handed of one.
+ghost use Rattle.std.specs.Prelude.{◌≡◌, ◌<◌, List, ℕ, Some, None, length, IfOk, OnOk, OnErr};
 ghost use Rattle.call_fs.specs.declared.past.Own.{Own as Done};
 ghost use Rattle.mail_bytes.specs.Moments.{IsMoment};
-ghost use Rattle.world_events.specs.Books.{HasPlace};
-ghost use Rattle.world_events.specs.declared.event.Event.TheVariants as kept;
-ghost use Rattle.mail_world.specs.Books.{entries_of};
 ghost use Rattle.world_events.specs.Children.{IsActor};
-ghost use Rattle.mail_world.specs.Children.{IsMachineOf, GivesTexts, GivesTwo, child_place, IsPaid, IsCut, IsFed, HasLeftIf, MayTakeIn, HasTakenIn};
+ghost use Rattle.mail_world.specs.Children.{IsMachineOf, GivesTexts, GivesTwo, IsPaid, IsCut, IsFed, HasLeftIf, MayTakeIn, HasTakenIn};
 ghost use Rattle.mail_world.specs.Inside.{Owes};
 ghost use Rattle.mail_world.specs.Kept.{events_of, HasRoom};
-ghost use Rattle.mail_world.specs.Places.{place_of};
-ghost use Rattle.world_events.specs.Starts.{IsSameOrder, HasRoomFor};
 
-use crate::actor::{Actor, Setting};
+use crate::actor::Actor;
 use crate::any_machine::AnyMachine;
-use crate::{ActorName, Books, Did, Event, History};
-use call_fs::{ChildData, GotData, Machine, NeedData, Own};
+use crate::{Did, History};
+use call_fs::{ChildData, Machine, NeedData, Own};
 use fed_injector::{FedInjector, texts_to_give};
 use local_deliver::Local as Deliverer;
 use local_parts::LocalArgs;
 use mail_bytes::{ByteText, Memory, OnHeap};
 use received_line::Invoked;
 use std::alloc::Global;
-use world_events::{Born, Places, Starts};
-use world_pipes::Mouths;
-
-/// The place of the child in a slot of whose pipes are here, if there is one. The condition: it is one of a usize.
-pub fn child_at(
-    mouths: &[Mouths],
-    wire: Option<usize>,
-    slot: u8,
-    places: &Places,
-    crew: usize,
-) -> Option<usize>
-    requires { (i : ℕ) → child_place mouths.now wire slot crew (place_of places.now) ≡ Some i → i < 2 ^ 64 }
-    ensures { result ≡ child_place mouths.now wire slot crew (place_of places.now) }
-{
-    let name = mouths.get(wire?)?.actor_in(slot)?;
-    Some(crew + places.find(name.as_slice())?)
-}
+use world_events::Setting;
 
 /// If an actor is over, its child, which has this place, is given no input any more. Takes no memory. The condition: the child's place
 /// is one of the actors'.
@@ -110,28 +89,6 @@ pub fn pay_with_room(
     Ok(())
 }
 
-/// Makes room for one actor more, for its pipes, for its entry and for its start.
-pub fn room_for_one(
-    actors: &mut Vec<Actor>,
-    mouths: &mut Vec<Mouths>,
-    books: &mut Books,
-    starts: &mut Starts,
-) -> Result<(), Memory>
-    ensures pipes { mouths.new.items ≡ mouths.old.items }
-    ensures one { OnOk result (vec_len mouths.new < vec_capacity mouths.new) }
-    ensures actors { actors.new.items ≡ actors.old.items }
-    ensures books { entries_of books.new ≡ entries_of books.old }
-    ensures starts { IsSameOrder starts.old starts.new }
-    ensures room { OnOk result (vec_len actors.new < vec_capacity actors.new) }
-    ensures entry { OnOk result (HasPlace books.new) }
-    ensures start { OnOk result (HasRoomFor starts.new 1) }
-{
-    actors.reserve(1)?;
-    mouths.reserve(1)?;
-    books.make_room()?;
-    starts.make_room(1)
-}
-
 /// The texts with which a child is given its input, each twice; with room for so many events, and the event that its parent owes handed
 /// to that. After `Memory` it is as before, and so is what happened. The conditions: this gives two texts, and as above.
 pub fn ready_to_feed(
@@ -171,28 +128,4 @@ pub fn take_in(alloc: Global, actor: &mut Actor, own: &Own, at: Setting, index: 
     actor.machine.need();
     let idle = actor.take_in(alloc, own, index as u64);
     Did::new(index as u64, None, idle)
-}
-
-/// The event that an actor started this child.
-pub fn child_event(actor: &ActorName, own: OnHeap<Own>, born: Born) -> Event
-    ensures { result ≡ kept.Child actor.now own born.name born.program }
-{
-    Event::Child {
-        actor: actor.copy(),
-        own,
-        child: born.name,
-        program: born.program,
-    }
-}
-
-/// What was due in this setting, and came. What was due is taken, and `Wait` is left in its place.
-pub fn own_at(at: Setting, due: &mut NeedData, came: GotData) -> Own
-    ensures { result ≡ record { read = at.now; ready = at.ready; due = due.old; came = came } }
-{
-    Own {
-        read: at.now,
-        ready: at.ready,
-        due: std::mem::replace(due, NeedData::Wait),
-        came,
-    }
 }

@@ -1,9 +1,6 @@
 // The members of a generation, and their start.
-ghost use Rattle.std.specs.Prelude.{◌≡◌, IfOk};
-ghost use Rattle.std.specs.List.{slice_get};
-ghost use Rattle.actor_names.specs.Members.{seat_of};
-ghost use Rattle.actor_names.specs.declared.member.Member.TheVariants as member;
-ghost use Rattle.mail_world.specs.Crew.{IsFirst, IsSeatedNew, AreNew, lasts};
+ghost use Rattle.std.specs.Prelude.{IfOk};
+ghost use Rattle.mail_world.specs.Crew.{IsFirst, IsSeatedNew, AreNew};
 
 use crate::ActorName;
 use crate::actor::Actor;
@@ -26,16 +23,6 @@ pub fn first_alive(crew: &[Actor]) -> Option<ActorName>
         }
     }
     None
-}
-
-/// Whether the remote spawner of these members lives.
-pub fn spawner_lives(crew: &[Actor]) -> bool
-    ensures { result ≡ lasts (slice_get crew.now (seat_of member.RemoteSpawner)) }
-{
-    match crew.get(Member::RemoteSpawner.seat()) {
-        Some(actor) => actor.ended.is_none(),
-        None => false,
-    }
 }
 
 /// The members of a new generation, in their order.

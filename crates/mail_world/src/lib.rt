@@ -58,13 +58,10 @@ mod actor;
 mod any_machine;
 mod by_turns;
 mod children;
-mod error;
 mod generation;
 pub mod laws;
-mod starts;
 mod world;
 
 pub use actor_names::ActorName;
-pub use error::WorldError;
-pub use world::{Did, World};
-pub use world_events::{Books, Entry, Event, History, Life, Program};
+pub use world::World;
+pub use world_events::{Books, Did, Entry, Event, History, Life, Program, WorldError};

@@ -1,5 +1,5 @@
 // The world: the disk, the actors, the history.
-ghost use Rattle.std.specs.Prelude.{◌≡◌, ◌≢◌, ◌∷◌, ◌++◌, ◌⊎◌, ◌↔◌, ◌-◌, ◌^◌, ◌<◌, ◌≤◌, [], List, ℕ, Some, None, true, false, length, reverse, set, option_map, codes, IsTrue, IsNone, IsSomeAnd, IsOk, IfOk, IfErr, IfSome, OnOk, OnErr};
+ghost use Rattle.std.specs.Prelude.{◌≡◌, ◌≢◌, ◌∷◌, ◌++◌, ◌⊎◌, ◌↔◌, ◌-◌, ◌<◌, ◌≤◌, [], List, ℕ, Some, None, true, false, length, reverse, option_map, codes, IsTrue, IsNone, IsSomeAnd, IsOk, IfOk, IfErr, IfSome, OnOk, OnErr};
 ghost use Rattle.std.specs.List.{slice_get};
 ghost use Rattle.call_fs.specs.Disk.{Disk, IsUnused};
 ghost use Rattle.mail_bytes.specs.Moments.{IsMoment};
@@ -10,7 +10,6 @@ ghost use Rattle.mail_world.specs.History.{Opening, Legal, MayReport, Event as H
 ghost use Rattle.mail_world.specs.Generations.{generation_world, reported_world, IsFirstAlive, IsNoneAlive, Waits, has_idled, next_living, lowest_unreported};
 ghost use Rattle.mail_world.specs.Inside.{among_all, known};
 ghost use Rattle.world_events.specs.declared.event.Event.{Event as Kept};
-ghost use Rattle.world_events.specs.declared.books.Entry.{Entry};
 ghost use Rattle.world_events.specs.Inputs.{with_inputs};
 ghost use Rattle.mail_world.specs.Kept.{events_of, HasRoom};
 ghost use Rattle.actor_names.specs.MailNames.{IsMailName};
@@ -19,18 +18,14 @@ ghost use Rattle.mail_world.specs.Acting.{IsNoLiving};
 ghost use Rattle.mail_world.specs.Children.{IsDueOfChild, IsSetting, IsStart, IsGive, IsTake, Serves};
 ghost use Rattle.world_events.specs.declared.event.Program.{Program as Started};
 ghost use Rattle.mail_world.specs.Places.{place_of};
-ghost use Rattle.mail_world.specs.Books.{entries_of, books_of, books_in, noted};
+ghost use Rattle.mail_world.specs.Books.{entries_of, books_of, books_in};
 
-use crate::actor::{Actor, Setting, cut_off_all, status_of};
+use crate::actor::{Actor, cut_off_all, status_of};
 use crate::any_machine::AnyMachine;
-use crate::children::{
-    child_at, child_event, give_input, leave, machine_of, own_at, pay_with_room, ready_to_feed,
-    room_for_one, take_in,
-};
-use crate::generation::{first_alive, members, spawner_lives};
+use crate::children::{give_input, leave, machine_of, pay_with_room, ready_to_feed, take_in};
+use crate::generation::{first_alive, members};
 use crate::laws::books_are_the_models;
-use crate::starts::next_living;
-use crate::{ActorName, Books, Event, History, WorldError};
+use crate::{ActorName, Books, Did, Event, History, WorldError};
 use actor_names::{Member, is_mail_name};
 use call_fs::{CallFs, CrashFs, GotData, NeedData, Port, Survival, Taken};
 use fed_injector::FedInjector;
@@ -38,34 +33,17 @@ use mail_bytes::{ByteText, Memory, OnHeap};
 use received_line::Invoked;
 use std::alloc::Global;
 use std::marker::Model;
-use world_events::{MAIL_USER, Places, Starts, child_of, counts_with, mail_program, started_by};
+use world_events::{
+    MAIL_USER, Places, Setting, Starts, child_at, child_event, child_of, counts_with, mail_program,
+    next_living, note, own_at, place_among, room_for_one, spawner_lives, started_by,
+};
 use world_pipes::{
     Mouths, add_pipes, due_slot, first_unreported, is_unreported, pipes_for, pipes_of, put_report,
-    ready_at, renew, seat,
+    ready_at, renew,
 };
 
 /// The process number of the first actor.
 const FIRST_PID: u32 = 77;
-
-/// What a step did.
-#[derive(Clone, Copy)]
-pub struct Did {
-    /// The index of its event in the history, from 0.
-    pub at: u64,
-    /// The exit status, if the actor ended.
-    pub ended: Option<u8>,
-    /// Whether an idle turn has just ended.
-    pub idle: bool,
-}
-
-impl Did {
-    /// A step with this event.
-    pub(crate) fn new(at: u64, ended: Option<u8>, idle: bool) -> Did
-        ensures { result ≡ record { at = at; ended = ended; idle = idle } }
-    {
-        Did { at, ended, idle }
-    }
-}
 
 /// A disk, the actors that use it, the books on their injections, and the history of what they did. The history has room
 /// for the stop of each living actor.
@@ -717,29 +695,5 @@ fn living(
     match actors[place].ended {
         Some(at) => Err(WorldError::Gone(name.copy(), at)),
         None => Ok(place),
-    }
-}
-
-/// The place of the actor of this name among all. The condition: it has one of a usize.
-fn place_among(places: &Places, crew: usize, name: &ActorName) -> Option<usize>
-    requires { (i : ℕ) → among_all crew (place_of places.now) name.now ≡ Some i → i < 2 ^ 64 }
-    ensures { result ≡ among_all crew (place_of places.now) name.now }
-{
-    match seat(name.as_slice()) {
-        Some(seat) if seat < crew => Some(seat),
-        Some(_) => None,
-        None => places.find(name.as_slice()).map(|place| crew + place),
-    }
-}
-
-/// The books take the newest event into account, which is that of the actor with this entry, if it has one.
-fn note(books: &mut Books, entry: Option<usize>, newest: &Event)
-    requires { (k : ℕ) → entry ≡ Some k → k < length (entries_of books.old) }
-    ensures none { entry ≡ None → books.new ≡ books.old }
-    ensures own { (k : ℕ) (e : Entry) → entry ≡ Some k → slice_get (entries_of books.old) k ≡ Some e
-        → entries_of books.new ≡ set (entries_of books.old) k (noted newest.now e) }
-{
-    if let Some(entry) = entry {
-        books.note(entry, newest);
     }
 }

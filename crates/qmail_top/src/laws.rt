@@ -8,8 +8,8 @@ ghost use Rattle.call_fs.specs.declared.past.DeliveryWordsData.{DeliveryWordsDat
 ghost use Rattle.crash_fs.specs.Crash.{Crash, crash_disk, crash_plan};
 ghost use Rattle.yard_lock.specs.declared.turn.Turn.{Turn};
 ghost use Rattle.yard_lock.specs.Turns.{Replay};
-ghost use Rattle.mail_world.specs.declared.error.WorldError.{WorldError as Refused};
-ghost use Rattle.mail_world.specs.declared.world.Did.{Did};
+ghost use Rattle.world_events.specs.declared.answers.WorldError.{WorldError as Refused};
+ghost use Rattle.world_events.specs.declared.answers.Did.{Did};
 ghost use Rattle.mail_world.specs.Moves.{moves};
 ghost use Rattle.mail_world.specs.World.{Seen};
 ghost use Rattle.script_words.specs.declared.entry.Entry.{Entry};

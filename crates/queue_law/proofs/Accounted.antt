@@ -10,8 +10,8 @@ use Rattle.queue_inject.specs.Texts.{intd_text, todo_of}
 use Rattle.queue_paths.specs.Names.Name.{Of}
 use Rattle.queue_paths.specs.Names.Part.{Bounce, Todo}
 use Rattle.queue_law.specs.Books.{Books, Injection}
-use Rattle.send_jobs.specs.declared.channels.Channel.{Channel}
-use Rattle.send_jobs.specs.declared.channels.Channel.TheVariants as channel
+use Rattle.send_known.specs.declared.channel.Channel.{Channel}
+use Rattle.send_known.specs.declared.channel.Channel.TheVariants as channel
 use Rattle.queue_law.specs.Routes.{Recipient, spot_of, routed, lane_part, lane_text}
 use Rattle.queue_law.specs.Ledgers.{Bounced, IsUnreturned, Ledger, Spot}
 use Rattle.queue_law.specs.Marks.{IsDelivered, IsDone, IsNoted, HasItsSpots, IsSettled}

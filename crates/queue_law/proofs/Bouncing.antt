@@ -13,8 +13,8 @@ use Rattle.call_fs.proofs.Maps.{put_same, put_other}
 use Rattle.queue_paths.specs.Names.{Part, path}
 use Rattle.queue_paths.specs.Names.Name.{Of}
 use Rattle.queue_paths.specs.Names.Part.{Mess, Intd, Todo, Info, Local, Remote, Bounce}
-use Rattle.send_jobs.specs.declared.channels.Channel.{Channel}
-use Rattle.send_jobs.specs.declared.channels.Channel.TheVariants as channel
+use Rattle.send_known.specs.declared.channel.Channel.{Channel}
+use Rattle.send_known.specs.declared.channel.Channel.TheVariants as channel
 use Rattle.queue_law.specs.Books.{Injection, with_line, entered_in}
 use Rattle.queue_law.specs.Bouncing.{BounceBegins, BounceGrows, BouncesBegin, BouncesCover, BouncesDrop, BouncesGo, BouncesGrow, ClosesEnter, HoldsBounce, IsBegunAs, MayNote, MayUnlink, NoteLeads, NotesSync}
 use Rattle.queue_law.specs.Ledgers.{Bounced, IsUnreturned, Line, Spot}

@@ -10,7 +10,7 @@ use Rattle.call_fs.specs.Disk.{File, Open as OpenFile}
 use Rattle.call_fs.specs.Apply.{changed, overwritten, overwritten_part, Fits}
 use Rattle.queue_paths.specs.Names.{Name, path}
 use Rattle.queue_paths.specs.Names.Name.{Of}
-use Rattle.send_jobs.specs.declared.channels.Channel.{Channel}
+use Rattle.send_known.specs.declared.channel.Channel.{Channel}
 use Rattle.queue_law.specs.Ledgers.{Spot}
 use Rattle.queue_law.specs.Routes.{spot_of, routed, lane_part, lane_text}
 use Rattle.queue_law.specs.Books.{Injection}

@@ -32,8 +32,8 @@ use Rattle.queue_paths.specs.Names.{Name, Part, path, parse}
 use Rattle.queue_paths.specs.Names.Name.{Pid, Of}
 use Rattle.queue_paths.specs.Names.Part.{Mess, Intd, Todo, Info, Local, Remote, Bounce}
 use Rattle.queue_paths.proofs.Paths.{parse-path, path-parse}
-use Rattle.send_jobs.specs.declared.channels.Channel.{Channel}
-use Rattle.send_jobs.specs.declared.channels.Channel.TheVariants as channel
+use Rattle.send_known.specs.declared.channel.Channel.{Channel}
+use Rattle.send_known.specs.declared.channel.Channel.TheVariants as channel
 use Rattle.queue_law.specs.Books.{Injection}
 use Rattle.queue_law.specs.Routes.{lane_part, lane_text, channel_of, Recipient, spot_of}
 use Rattle.queue_law.specs.Numbers.{Entry, entry, Role, Queue, look, IsPidRole, IsRecent, About, about, file_in, Phase, LaneState, IsPreprocessed, Sound}

@@ -7,7 +7,7 @@ use Rattle.queue_paths.specs.Names.{Name}
 use Rattle.queue_paths.specs.Names.Name.{Of}
 use Rattle.queue_paths.specs.Names.Part.{Mess, Intd, Todo, Info, Bounce}
 use Rattle.queue_inject.specs.Texts.{message_text}
-use Rattle.send_jobs.specs.declared.channels.Channel.{Channel}
+use Rattle.send_known.specs.declared.channel.Channel.{Channel}
 use Rattle.queue_law.specs.Books.{Injection}
 use Rattle.queue_law.specs.Routes.{lane_part}
 use Rattle.queue_law.proofs.Marks.{marked_survives}

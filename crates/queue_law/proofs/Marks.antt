@@ -5,7 +5,7 @@ use Rattle.address_rules.specs.declared.controls.Controls.{Controls}
 use Rattle.call_fs.specs.Disk.{File, Among, IsSynced}
 use Rattle.call_fs.specs.Survival.{HadAt, Survives, settled}
 use Rattle.call_fs.specs.Apply.{lying, put_over, overwritten, overwritten_part}
-use Rattle.send_jobs.specs.declared.channels.Channel.{Channel}
+use Rattle.send_known.specs.declared.channel.Channel.{Channel}
 use Rattle.queue_law.specs.Ledgers.{Ledger, Line, HasGrown, line_in}
 use Rattle.queue_law.specs.Books.{Injection, with_line}
 use Rattle.queue_law.specs.Routes.{lane_text, spot_of}

@@ -16,8 +16,8 @@ use Rattle.call_fs.specs.Disk.{Among, File}
 use Rattle.envelope_records.specs.Envelope.{record_of}
 use Rattle.queue_inject.specs.declared.injection.Arguments.{Arguments}
 use Rattle.queue_inject.specs.Texts.{recipients_of}
-use Rattle.send_jobs.specs.declared.channels.Channel.{Channel}
-use Rattle.send_jobs.specs.declared.channels.Channel.TheVariants.{Local, Remote}
+use Rattle.send_known.specs.declared.channel.Channel.{Channel}
+use Rattle.send_known.specs.declared.channel.Channel.TheVariants.{Local, Remote}
 use Rattle.queue_law.specs.Books.{Injection}
 use Rattle.queue_law.specs.Ledgers.{Bounced, Ledger, Spot}
 use Rattle.queue_law.specs.Notes.{Covers, HasNotes, HeldOrReturned, NotesDone, NotesAccount, NotesState, NotesStay, counted_among, counted_as, is_channel, is_noted, is_spot, noted_among, noted_as, one_if, told_name, with_bounced, with_noted}

@@ -16,8 +16,8 @@ use Rattle.queue_inject.specs.Texts.{limit, envelope_text, envelope_of, intd_tex
 use Rattle.queue_paths.specs.Names.{Name, Part as FilePart, path}
 use Rattle.queue_paths.specs.Names.Name.{Of}
 use Rattle.queue_paths.specs.Names.Part.{Mess, Todo, Info, Local, Remote}
-use Rattle.send_jobs.specs.declared.channels.Channel.{Channel}
-use Rattle.send_jobs.specs.declared.channels.Channel.TheVariants as channel
+use Rattle.send_known.specs.declared.channel.Channel.{Channel}
+use Rattle.send_known.specs.declared.channel.Channel.TheVariants as channel
 use Rattle.todo_pass.specs.declared.part.Target.{Target}
 use Rattle.todo_pass.specs.declared.part.Part.{Part}
 use Rattle.todo_pass.specs.declared.part.Part.TheVariants as part

@@ -10,8 +10,8 @@ use Rattle.address_rules.specs.declared.rewriting.Route.TheVariants.{Local, Remo
 use Rattle.address_rules.specs.Routes.{address_in, route_of}
 use Rattle.envelope_records.specs.Envelope.{record_of}
 use Rattle.queue_inject.specs.declared.injection.Arguments.{Arguments}
-use Rattle.send_jobs.specs.declared.channels.Channel.{Channel}
-use Rattle.send_jobs.specs.declared.channels.Channel.TheVariants as channel
+use Rattle.send_known.specs.declared.channel.Channel.{Channel}
+use Rattle.send_known.specs.declared.channel.Channel.TheVariants as channel
 use Rattle.todo_pass.specs.Places.{HasRecord, place_by, text_by}
 use Rattle.todo_pass.specs.Sorting.{local_of, remote_of, channel_text, sorted_of}
 use Rattle.todo_pass.proofs.Places.{each_at_its_place}

@@ -21,8 +21,8 @@ use Rattle.envelope_records.proofs.Envelopes.{Sound, read_sound}
 use Rattle.queue_inject.specs.declared.injection.Arguments.{Arguments}
 use Rattle.queue_inject.specs.declared.injection.InputEnd.{InputEnd}
 use Rattle.queue_inject.specs.Texts.{limit, intd_text, envelope_of, envelope_text, recipients_read, recipients_of}
-use Rattle.send_jobs.specs.declared.channels.Channel.{Channel}
-use Rattle.send_jobs.specs.declared.channels.Channel.TheVariants as channel
+use Rattle.send_known.specs.declared.channel.Channel.{Channel}
+use Rattle.send_known.specs.declared.channel.Channel.TheVariants as channel
 use Rattle.todo_pass.specs.Places.{place_by}
 use Rattle.todo_pass.specs.Sorting.{local_of, remote_of, channel_text}
 use Rattle.queue_law.specs.Ledgers.{Spot}

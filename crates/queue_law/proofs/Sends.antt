@@ -15,8 +15,8 @@ use Rattle.queue_inject.specs.Texts.{message_text}
 use Rattle.queue_paths.specs.Names.{Name, Part, path}
 use Rattle.queue_paths.specs.Names.Name.{Of}
 use Rattle.queue_paths.specs.Names.Part.{Mess, Intd, Todo, Info, Local, Remote, Bounce}
-use Rattle.send_jobs.specs.declared.channels.Channel.{Channel}
-use Rattle.send_jobs.specs.declared.channels.Channel.TheVariants as channel
+use Rattle.send_known.specs.declared.channel.Channel.{Channel}
+use Rattle.send_known.specs.declared.channel.Channel.TheVariants as channel
 use Rattle.queue_law.specs.Ledgers.{Line}
 use Rattle.queue_law.specs.Books.{Injection, IsInjected, IsLater, begun, with_line, entered_in}
 use Rattle.queue_law.specs.Routes.{Recipient, lane_part}

@@ -3,7 +3,7 @@ use Rattle.std.proofs.Common.{◌≡◌, ◌⊎◌, inl, inr, ℕ, zero, suc, �
 use Rattle.address_rules.specs.Routes.{route_of}
 use Rattle.envelope_records.specs.Envelope.{read_envelope}
 use Rattle.queue_inject.specs.Texts.{recipients_of}
-use Rattle.send_jobs.specs.declared.channels.Channel.TheVariants.{Local, Remote}
+use Rattle.send_known.specs.declared.channel.Channel.TheVariants.{Local, Remote}
 use Rattle.queue_law.specs.Ledgers.{no_ledger}
 use Rattle.queue_law.specs.Routes.{info_of, lane_text, sender_of, spot_after}
 use Rattle.queue_law.specs.Marks.{IsDone, IsMarked}

@@ -5,7 +5,7 @@ use Rattle.address_rules.specs.declared.controls.Controls.{Controls}
 use Rattle.address_rules.specs.Nuls.{HaveNoNul}
 use Rattle.envelope_records.specs.declared.channel.Record.{Record}
 use Rattle.envelope_records.specs.Records.{AreRecords}
-use Rattle.send_jobs.specs.declared.channels.Channel.{Channel}
+use Rattle.send_known.specs.declared.channel.Channel.{Channel}
 use Rattle.call_fs.specs.Disk.{Disk, File, Among, IsSynced}
 use Rattle.bounce_record.specs.Notes.{count}
 use Rattle.queue_inject.specs.declared.injection.Arguments.{Arguments}

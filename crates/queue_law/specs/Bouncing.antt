@@ -15,7 +15,7 @@ use Rattle.call_fs.specs.Disk.{Among, File, Open}
 use Rattle.queue_paths.specs.Names.{Part, path}
 use Rattle.queue_paths.specs.Names.Name.{Of}
 use Rattle.queue_paths.specs.Names.Part.{Bounce, Info, Todo}
-use Rattle.send_jobs.specs.declared.channels.Channel.{Channel}
+use Rattle.send_known.specs.declared.channel.Channel.{Channel}
 use Rattle.queue_law.specs.Ledgers.{Bounced, Line}
 use Rattle.queue_law.specs.Ledgers.Line.{Drops, Notes}
 use Rattle.queue_law.specs.Books.{Books, Injection, entered_in, held_by}

@@ -2,7 +2,7 @@
 use Rattle.std.specs.Prelude.{◌≡◌, ℕ, List, [], ◌∷◌, Bool, true, false}
 use Rattle.call_fs.specs.Disk.{Among}
 use Rattle.queue_inject.specs.declared.injection.Arguments.{Arguments}
-use Rattle.send_jobs.specs.declared.channels.Channel.{Channel}
+use Rattle.send_known.specs.declared.channel.Channel.{Channel}
 
 -- a recipient: its channel, and the place of its record in that channel's file
 pub record Spot : Type 0 where

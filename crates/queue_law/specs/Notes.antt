@@ -10,8 +10,8 @@ use Rattle.call_fs.specs.Apply.{empty_file, grown, grown_part, synced}
 use Rattle.call_fs.specs.Disk.{Among, File}
 use Rattle.call_fs.specs.Survival.{Survives, settled}
 use Rattle.queue_inject.specs.Texts.{recipients_of}
-use Rattle.send_jobs.specs.declared.channels.Channel.{Channel}
-use Rattle.send_jobs.specs.declared.channels.Channel.TheVariants.{Local, Remote}
+use Rattle.send_known.specs.declared.channel.Channel.{Channel}
+use Rattle.send_known.specs.declared.channel.Channel.TheVariants.{Local, Remote}
 use Rattle.queue_law.specs.Books.{Injection, with_line}
 use Rattle.queue_law.specs.Ledgers.{Bounced, Ledger, Spot}
 use Rattle.queue_law.specs.Ledgers.Line.{Drops, Notes, Returns}

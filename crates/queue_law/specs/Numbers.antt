@@ -7,7 +7,7 @@ use Rattle.queue_inject.specs.Texts.{message_text, intd_text}
 use Rattle.queue_paths.specs.Names.{Name, Part, path}
 use Rattle.queue_paths.specs.Names.Name.{Pid, Of}
 use Rattle.queue_paths.specs.Names.Part.{Mess, Intd, Todo, Info, Local, Remote, Bounce}
-use Rattle.send_jobs.specs.declared.channels.Channel.{Channel}
+use Rattle.send_known.specs.declared.channel.Channel.{Channel}
 use Rattle.queue_law.specs.Books.{Injection, Books, IsValid}
 use Rattle.queue_law.specs.Routes.{info_of, lane_part}
 use Rattle.queue_law.specs.Ledgers.{IsUnreturned}

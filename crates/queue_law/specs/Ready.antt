@@ -4,7 +4,7 @@ use Rattle.address_rules.specs.declared.controls.Controls.{Controls}
 use Rattle.call_fs.specs.Disk.{IsSynced}
 use Rattle.queue_paths.specs.Names.{Part}
 use Rattle.queue_paths.specs.Names.Part.{Todo, Info}
-use Rattle.send_jobs.specs.declared.channels.Channel.{Channel}
+use Rattle.send_known.specs.declared.channel.Channel.{Channel}
 use Rattle.queue_law.specs.Routes.{info_of, lane_text, lane_part}
 use Rattle.queue_law.specs.Numbers.{Entry, About, IsUnsorted, IsQueued}
 

@@ -15,7 +15,7 @@ use Rattle.call_fs.specs.Disk.{Among, File, Open as OpenFile}
 use Rattle.queue_paths.specs.Names.{Name, Part, path}
 use Rattle.queue_paths.specs.Names.Name.{Of}
 use Rattle.queue_paths.specs.Names.Part.{Mess, Todo, Info, Bounce}
-use Rattle.send_jobs.specs.declared.channels.Channel.{Channel}
+use Rattle.send_known.specs.declared.channel.Channel.{Channel}
 use Rattle.queue_law.specs.Ledgers.{Bounced, Ledger, Line}
 use Rattle.queue_law.specs.Ledgers.Line.{Delivers, Drops, Fails, Notes, Reads, Returns}
 use Rattle.queue_law.specs.Books.{Injection, entered_in, held_by}

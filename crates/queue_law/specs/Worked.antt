@@ -5,7 +5,7 @@ use Rattle.received_line.specs.declared.line.Invoked.TheVariants as invoking
 use Rattle.queue_inject.specs.declared.injection.Arguments.{Arguments}
 use Rattle.queue_inject.specs.declared.injection.InputEnd.TheVariants.{Whole}
 use Rattle.queue_inject.specs.Texts.{recipients_of}
-use Rattle.send_jobs.specs.declared.channels.Channel.TheVariants.{Local, Remote}
+use Rattle.send_known.specs.declared.channel.Channel.TheVariants.{Local, Remote}
 use Rattle.queue_law.specs.Ledgers.{Ledger, no_ledger}
 use Rattle.queue_law.specs.Routes.{info_of, lane_text, spot_after}
 use Rattle.queue_law.specs.Marks.{IsMarked}

@@ -17,12 +17,12 @@ use Rattle.send_core.specs.Past.{Account, Work}
 use Rattle.send_core.specs.Table.{act, due_at}
 use Rattle.send_core.specs.Turn.{pass_opened, put_later}
 use Rattle.send_core.specs.declared.desk.Desk.{Desk}
-use Rattle.send_core.specs.declared.row.MarkRow.{MarkRow}
-use Rattle.send_core.specs.declared.row.Marked.{Marked}
-use Rattle.send_core.specs.declared.row.Point.TheVariants as point
-use Rattle.send_core.specs.declared.row.Point.{Point}
-use Rattle.send_core.specs.declared.row.Row.TheVariants as at
-use Rattle.send_core.specs.declared.row.Row.{Row}
+use Rattle.send_parts.specs.declared.row.MarkRow.{MarkRow}
+use Rattle.send_parts.specs.declared.row.Marked.{Marked}
+use Rattle.send_parts.specs.declared.row.Point.TheVariants as point
+use Rattle.send_parts.specs.declared.row.Point.{Point}
+use Rattle.send_parts.specs.declared.row.Row.TheVariants as at
+use Rattle.send_parts.specs.declared.row.Row.{Row}
 use Rattle.send_jobs.proofs.JobLemmas.{job_put}
 use Rattle.send_jobs.specs.Jobs.{job_of, new_job}
 use Rattle.send_jobs.specs.Lanes.{is_in_flight, job_over}
@@ -30,10 +30,10 @@ use Rattle.send_jobs.specs.Sending.{lane}
 use Rattle.send_jobs.specs.Slots.{is_on}
 use Rattle.send_jobs.specs.declared.attempts.Attempt.{Attempt}
 use Rattle.send_jobs.specs.declared.attempts.Mark.{Mark}
-use Rattle.send_jobs.specs.declared.channels.Channel.TheVariants.{Local, Remote}
-use Rattle.send_jobs.specs.declared.channels.Channel.{Channel}
+use Rattle.send_known.specs.declared.channel.Channel.TheVariants.{Local, Remote}
+use Rattle.send_known.specs.declared.channel.Channel.{Channel}
 use Rattle.send_jobs.specs.declared.jobs.Job.{Job}
-use Rattle.send_parts.specs.Files.{records_of}
+use Rattle.send_links.specs.Records.{records_of}
 use Rattle.send_parts.specs.declared.reading.Reading.TheVariants.{Closing, Going, Opening, Shutting}
 use Rattle.send_parts.specs.declared.reading.Reading.{Reading as FileReading}
 use Rattle.send_runs.proofs.Bridges.{flies_is}

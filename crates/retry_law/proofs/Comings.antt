@@ -29,8 +29,8 @@ use Rattle.send_core.specs.Start.{start_at}
 use Rattle.send_core.specs.Table.{act, arrive, due_at, from_point}
 use Rattle.send_core.specs.Turn.{known_of, todo_found, todo_named, todo_none, todo_on, todo_over, todo_went}
 use Rattle.send_core.specs.declared.desk.Desk.{Desk}
-use Rattle.send_core.specs.declared.row.Row.TheVariants as at
-use Rattle.send_core.specs.declared.row.Row.{Row}
+use Rattle.send_parts.specs.declared.row.Row.TheVariants as at
+use Rattle.send_parts.specs.declared.row.Row.{Row}
 use Rattle.send_known.specs.Messages.{learned}
 use Rattle.send_parts.specs.Files.{message_number}
 use Rattle.send_parts.specs.Readings.{begun_at, read_on}

@@ -17,8 +17,8 @@ use Rattle.send_core.specs.Births.{births}
 use Rattle.send_core.specs.Table.{Next, place_after}
 use Rattle.send_jobs.specs.Channels.{skip_of}
 use Rattle.send_jobs.specs.Tries.{due_on, moment_of}
-use Rattle.send_jobs.specs.declared.channels.Channel.TheVariants.{Local, Remote}
-use Rattle.send_jobs.specs.declared.channels.Channel.{Channel}
+use Rattle.send_known.specs.declared.channel.Channel.TheVariants.{Local, Remote}
+use Rattle.send_known.specs.declared.channel.Channel.{Channel}
 use Rattle.send_known.specs.declared.known.Known.{Known}
 use Rattle.send_known.specs.declared.messages.Messages.{Messages}
 use Rattle.send_runs.proofs.Dues.{alive_at, due_exactly}

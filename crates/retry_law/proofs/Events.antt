@@ -19,7 +19,7 @@ use Rattle.queue_paths.specs.Names.Part.{Info as InfoFile, Remote as RemoteFile}
 use Rattle.queue_paths.specs.Names.{Name, parse}
 use Rattle.send_core.specs.Births.{Birth, Births, births_by, cleaned, found as found_birth, passed, stated}
 use Rattle.send_core.specs.Past.{Work}
-use Rattle.send_jobs.specs.declared.channels.Channel.{Channel}
+use Rattle.send_known.specs.declared.channel.Channel.{Channel}
 use Rattle.send_parts.specs.Steps.{remove_text}
 use Rattle.send_runs.specs.DueMoments.Shift.{Begins, Learns, Same}
 use Rattle.send_runs.specs.DueMoments.{Shift, Trial, closed, began, found, is_file, is_trial_of, is_whole, shift_by, shift_if, unless_done, unless_opened}

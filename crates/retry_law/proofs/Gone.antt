@@ -18,8 +18,8 @@ use Rattle.retry_law.specs.Gone.{KnownAreGone, MissingAreGone, is_made, is_there
 use Rattle.retry_law.specs.Retries.{has_file}
 use Rattle.send_core.specs.Births.{births}
 use Rattle.send_core.specs.Table.{Next, place_after}
-use Rattle.send_jobs.specs.declared.channels.Channel.TheVariants.{Local, Remote}
-use Rattle.send_jobs.specs.declared.channels.Channel.{Channel}
+use Rattle.send_known.specs.declared.channel.Channel.TheVariants.{Local, Remote}
+use Rattle.send_known.specs.declared.channel.Channel.{Channel}
 use Rattle.send_known.specs.declared.known.Known.{Known}
 use Rattle.send_runs.proofs.Files.{files_are_of_past}
 use Rattle.send_runs.specs.DueMoments.{has_unlinked, is_file}

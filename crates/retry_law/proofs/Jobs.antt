@@ -15,15 +15,15 @@ use Rattle.send_core.specs.Births.{births}
 use Rattle.send_core.specs.Past.{account, work}
 use Rattle.send_core.specs.Table.{Next, place_after, row_now}
 use Rattle.send_core.specs.declared.desk.Desk.{Desk}
-use Rattle.send_core.specs.declared.row.Row.{Row}
+use Rattle.send_parts.specs.declared.row.Row.{Row}
 use Rattle.send_jobs.specs.Jobs.{job_of}
 use Rattle.send_jobs.specs.Lanes.{is_in_flight, is_mark_on, job_over}
 use Rattle.send_jobs.specs.Sending.{lane}
 use Rattle.send_jobs.specs.Slots.{attempt_in, is_on}
 use Rattle.send_jobs.specs.declared.attempts.Attempt.{Attempt}
 use Rattle.send_jobs.specs.declared.attempts.Mark.{Mark}
-use Rattle.send_jobs.specs.declared.channels.Channel.TheVariants.{Local, Remote}
-use Rattle.send_jobs.specs.declared.channels.Channel.{Channel}
+use Rattle.send_known.specs.declared.channel.Channel.TheVariants.{Local, Remote}
+use Rattle.send_known.specs.declared.channel.Channel.{Channel}
 use Rattle.send_jobs.specs.declared.jobs.Job.{Job}
 use Rattle.send_jobs.specs.declared.lane.Lane.{Lane}
 use Rattle.send_runs.proofs.Clearing.{cleared_here}

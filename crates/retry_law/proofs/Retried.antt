@@ -15,7 +15,7 @@ use Rattle.send_core.specs.Past.{account, work}
 use Rattle.send_core.specs.Table.{Next}
 use Rattle.send_jobs.specs.Channels.{skip_of}
 use Rattle.send_jobs.specs.Tries.{moment_of}
-use Rattle.send_jobs.specs.declared.channels.Channel.{Channel}
+use Rattle.send_known.specs.declared.channel.Channel.{Channel}
 use Rattle.send_runs.specs.DueMoments.Shift.{Begins, Fails, Learns, Same}
 use Rattle.send_runs.specs.DueMoments.{Shift, has_unlinked, is_unlink, shift, shift_by, trial}
 use Rattle.send_runs.specs.Dues.{again, due_by, due_in, flies, over_at, pass_by, pass_in, retry_at, unless, unlinks}

@@ -40,16 +40,17 @@ use Rattle.send_core.specs.Start.{entered, start_at}
 use Rattle.send_core.specs.Table.{Next, act, arrive, due_at, from_point, place_after}
 use Rattle.send_core.specs.Turn.{begun_at, todo_found, todo_named, todo_none}
 use Rattle.send_core.specs.declared.desk.Desk.{Desk}
-use Rattle.send_core.specs.declared.row.MarkRow.{MarkRow}
-use Rattle.send_core.specs.declared.row.Marked.{Marked}
-use Rattle.send_core.specs.declared.row.Row.TheVariants as at
-use Rattle.send_core.specs.declared.row.Row.{Row}
-use Rattle.send_jobs.specs.Channels.{file_of}
+use Rattle.send_parts.specs.declared.row.MarkRow.{MarkRow}
+use Rattle.send_parts.specs.declared.row.Marked.{Marked}
+use Rattle.send_parts.specs.declared.row.Row.TheVariants as at
+use Rattle.send_parts.specs.declared.row.Row.{Row}
+use Rattle.send_parts.specs.Channels.{file_of}
 use Rattle.send_jobs.specs.Sending.{lane}
 use Rattle.send_jobs.specs.declared.attempts.Mark.{Mark}
-use Rattle.send_jobs.specs.declared.channels.Channel.TheVariants.{Local, Remote}
-use Rattle.send_jobs.specs.declared.channels.Channel.{Channel}
-use Rattle.send_parts.specs.Files.{message_number, records_of}
+use Rattle.send_known.specs.declared.channel.Channel.TheVariants.{Local, Remote}
+use Rattle.send_known.specs.declared.channel.Channel.{Channel}
+use Rattle.send_links.specs.Records.{records_of}
+use Rattle.send_parts.specs.Files.{message_number}
 use Rattle.send_parts.specs.Readings.{opened, read_more, read_on}
 use Rattle.send_parts.specs.Replies.{answered, is_fine, said}
 use Rattle.send_parts.specs.Rows.{is_again}

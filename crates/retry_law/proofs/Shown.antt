@@ -19,13 +19,13 @@ use Rattle.queue_paths.specs.Names.{Name, parse, path}
 use Rattle.retry_law.specs.Gone.{MetAreShownFirst, is_made, is_there, made_in, meets, shows}
 use Rattle.send_core.specs.Table.{due_at, place_after, row_now}
 use Rattle.send_core.specs.declared.desk.Desk.{Desk}
-use Rattle.send_core.specs.declared.row.MarkRow.TheVariants as mark
-use Rattle.send_core.specs.declared.row.MarkRow.{MarkRow}
-use Rattle.send_core.specs.declared.row.Marked.{Marked}
-use Rattle.send_core.specs.declared.row.Row.TheVariants as at
-use Rattle.send_core.specs.declared.row.Row.{Row}
-use Rattle.send_jobs.specs.declared.channels.Channel.TheVariants.{Local, Remote}
-use Rattle.send_jobs.specs.declared.channels.Channel.{Channel}
+use Rattle.send_parts.specs.declared.row.MarkRow.TheVariants as mark
+use Rattle.send_parts.specs.declared.row.MarkRow.{MarkRow}
+use Rattle.send_parts.specs.declared.row.Marked.{Marked}
+use Rattle.send_parts.specs.declared.row.Row.TheVariants as at
+use Rattle.send_parts.specs.declared.row.Row.{Row}
+use Rattle.send_known.specs.declared.channel.Channel.TheVariants.{Local, Remote}
+use Rattle.send_known.specs.declared.channel.Channel.{Channel}
 use Rattle.send_parts.specs.declared.reading.Reading.TheVariants.{Closing, Going, Opening, Shutting}
 use Rattle.send_parts.specs.declared.rows.FinishRow.TheVariants as finish
 use Rattle.send_parts.specs.declared.rows.FinishRow.{FinishRow}

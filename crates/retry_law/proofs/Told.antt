@@ -29,7 +29,7 @@ use Rattle.retry_law.specs.Tried.{tried_by, tried_in}
 use Rattle.send_core.specs.Births.{Birth, Births, Making, births, births_by, births_on, cleaned, found, passed, stated, written_last}
 use Rattle.send_core.specs.Past.Work.{Missing, Noting, Reading}
 use Rattle.send_core.specs.Past.{Work, account, work}
-use Rattle.send_jobs.specs.declared.channels.Channel.{Channel}
+use Rattle.send_known.specs.declared.channel.Channel.{Channel}
 use Rattle.send_runs.specs.DueMoments.Shift.{Begins, Fails, Learns, Same}
 use Rattle.send_runs.specs.DueMoments.{Shift, Trial, has_unlinked, shift, trial, trial_by, tried}
 use Rattle.send_runs.specs.Dues.{flies, over_at, pass_by, pass_in, unless}

@@ -6,8 +6,8 @@ use Rattle.call_fs.specs.declared.past.Own.{Own}
 use Rattle.send_core.specs.Finish.{bounce_on, returned_to}
 use Rattle.send_core.specs.Table.{Next, place_after, row_now}
 use Rattle.send_core.specs.declared.desk.Desk.{Desk}
-use Rattle.send_core.specs.declared.row.Row.TheVariants as at
-use Rattle.send_core.specs.declared.row.Row.{Row}
+use Rattle.send_parts.specs.declared.row.Row.TheVariants as at
+use Rattle.send_parts.specs.declared.row.Row.{Row}
 use Rattle.send_known.specs.declared.known.Known.{Known}
 use Rattle.send_parts.specs.Finish.{finish_to}
 use Rattle.send_parts.specs.Replies.{said}

@@ -13,9 +13,9 @@ use Rattle.queue_paths.specs.Names.{parse}
 use Rattle.retry_law.specs.Retries.{has_file}
 use Rattle.send_core.specs.Table.{Next, place_after, row_now}
 use Rattle.send_core.specs.declared.desk.Desk.{Desk}
-use Rattle.send_core.specs.declared.row.Row.TheVariants as at
-use Rattle.send_core.specs.declared.row.Row.{Row}
-use Rattle.send_jobs.specs.declared.channels.Channel.{Channel}
+use Rattle.send_parts.specs.declared.row.Row.TheVariants as at
+use Rattle.send_parts.specs.declared.row.Row.{Row}
+use Rattle.send_known.specs.declared.channel.Channel.{Channel}
 use Rattle.send_known.specs.declared.known.Known.{Known}
 use Rattle.send_parts.specs.declared.rows.StartRow.TheVariants as start
 use Rattle.send_runs.specs.DueMoments.{is_file}

@@ -10,8 +10,8 @@ use Rattle.send_core.specs.Agrees.{has_ended}
 use Rattle.send_core.specs.Births.{Birth}
 use Rattle.send_core.specs.Table.{Next, place_after, row_now}
 use Rattle.send_core.specs.declared.desk.Desk.{Desk}
-use Rattle.send_core.specs.declared.row.Row.TheVariants as at
-use Rattle.send_core.specs.declared.row.Row.{Row}
+use Rattle.send_parts.specs.declared.row.Row.TheVariants as at
+use Rattle.send_parts.specs.declared.row.Row.{Row}
 use Rattle.send_known.specs.declared.known.Known.{Known}
 use Rattle.send_parts.specs.declared.rows.StartRow.TheVariants as start
 use Rattle.send_runs.specs.Knowing.{known_in}

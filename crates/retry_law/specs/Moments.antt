@@ -15,7 +15,7 @@ use Rattle.queue_paths.specs.Names.{Name, parse}
 use Rattle.retry_law.specs.Tried.{tried_in}
 use Rattle.send_core.specs.Births.{births}
 use Rattle.send_jobs.specs.Tries.{moment_of}
-use Rattle.send_jobs.specs.declared.channels.Channel.{Channel}
+use Rattle.send_known.specs.declared.channel.Channel.{Channel}
 use Rattle.send_runs.specs.Dues.{pass_in}
 
 abbrev pub IsMomentAt : Option Name → Answer → Type 0

@@ -9,7 +9,7 @@ use Rattle.send_jobs.specs.Jobs.{job_of}
 use Rattle.send_jobs.specs.Lanes.{job_over, next}
 use Rattle.send_jobs.specs.Sending.{lane}
 use Rattle.send_jobs.specs.Slots.{attempt_in}
-use Rattle.send_jobs.specs.declared.channels.Channel.{Channel}
+use Rattle.send_known.specs.declared.channel.Channel.{Channel}
 use Rattle.send_jobs.specs.declared.jobs.Job.{Job}
 use Rattle.send_jobs.specs.declared.lane.Lane.{Lane}
 use Rattle.send_runs.specs.DueMoments.Shift.{Begins}

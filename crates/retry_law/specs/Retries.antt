@@ -10,8 +10,8 @@ use Rattle.send_core.specs.Past.{account}
 use Rattle.send_core.specs.Table.{Next, place_after}
 use Rattle.send_jobs.specs.Channels.{skip_of}
 use Rattle.send_jobs.specs.Tries.{due_on}
-use Rattle.send_jobs.specs.declared.channels.Channel.TheVariants.{Local, Remote}
-use Rattle.send_jobs.specs.declared.channels.Channel.{Channel}
+use Rattle.send_known.specs.declared.channel.Channel.TheVariants.{Local, Remote}
+use Rattle.send_known.specs.declared.channel.Channel.{Channel}
 use Rattle.send_known.specs.declared.known.Known.{Known}
 use Rattle.send_runs.specs.DueMoments.Shift.{Begins, Fails}
 use Rattle.send_runs.specs.DueMoments.{has_unlinked, shift}

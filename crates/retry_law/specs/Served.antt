@@ -5,13 +5,13 @@ use Rattle.call_fs.specs.declared.calls.Fd.{Fd}
 use Rattle.call_fs.specs.declared.past.Own.{Own}
 use Rattle.retry_law.specs.Retries.{ArePlain}
 use Rattle.send_core.specs.Table.{Next, place_after, row_now}
-use Rattle.send_core.specs.declared.row.Point.{Point}
-use Rattle.send_core.specs.declared.row.Row.TheVariants as at
-use Rattle.send_core.specs.declared.row.Row.{Row}
+use Rattle.send_parts.specs.declared.row.Point.{Point}
+use Rattle.send_parts.specs.declared.row.Row.TheVariants as at
+use Rattle.send_parts.specs.declared.row.Row.{Row}
 use Rattle.send_jobs.specs.Lanes.{is_in_flight}
 use Rattle.send_jobs.specs.Sending.{lane}
-use Rattle.send_jobs.specs.declared.channels.Channel.{Channel}
-use Rattle.send_parts.specs.Files.{records_of}
+use Rattle.send_known.specs.declared.channel.Channel.{Channel}
+use Rattle.send_links.specs.Records.{records_of}
 use Rattle.send_parts.specs.Replies.{is_fine, said}
 use Rattle.send_parts.specs.declared.reading.Reading.TheVariants.{Closing, Going, Opening}
 

@@ -2,7 +2,7 @@
 ghost use Rattle.std.specs.Prelude.{◌≡◌, None, Some, codes, true, false};
 ghost use Rattle.call_fs.specs.declared.calls.CallData.TheVariants as call;
 ghost use Rattle.call_fs.specs.declared.past.NeedData.TheVariants as needs;
-ghost use Rattle.send_jobs.specs.declared.channels.Channel.TheVariants.{Local, Remote};
+ghost use Rattle.send_known.specs.declared.channel.Channel.TheVariants.{Local, Remote};
 ghost use Rattle.send_runs.specs.Worked.{absent, stated};
 ghost use Rattle.send_runs.specs.WorkedPasts.{deferred_for};
 ghost use Rattle.retry_law.specs.Finishes.{FinishesAtOnce, NoneIsPutOff};

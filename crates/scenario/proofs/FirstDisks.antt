@@ -11,7 +11,7 @@ use Rattle.mem_files.specs.MemFile.{settled_file}
 use Rattle.script_words.specs.declared.entry.Entry.{Entry}
 use Rattle.script_words.specs.declared.entry.Entry.TheVariants.{File as FileOf, Dir}
 use Rattle.script_words.specs.Entries.{dirs_above}
-use Rattle.scenario.specs.FirstDisk.{bare_dirs, HasMade, AreMade, Enters, EntersAll, IsFirstDisk}
+use Rattle.script_disks.specs.FirstDisk.{bare_dirs, HasMade, AreMade, Enters, EntersAll, IsFirstDisk}
 use Rattle.crash_fs.proofs.Decided.{listed, same_text}
 
 -- Nothing is open, and of the numbers just so many of the greatest are named.

@@ -30,10 +30,12 @@ use Rattle.mail_world.specs.History.Event.{Start, Act, Child, Generation, Report
 use Rattle.mail_world.specs.History.Life.{Over, Stopped}
 use Rattle.mail_world.specs.Pipework.{Pipework, with_child, with_generation}
 use Rattle.mail_world.specs.World.{Tells}
-use Rattle.scenario.specs.declared.fates.Fates.{Fates}
+use Rattle.script_fates.specs.declared.fates.Fates.{Fates}
 use Rattle.scenario.specs.declared.fates.Following.{Following}
-use Rattle.scenario.specs.Fates.{AreFates, AreNamedStarts, IsNamedStart, IsNamedSo, is_delivery_name}
-use Rattle.scenario.specs.inside.Fates.{AreNamed, Follows, HasDone, HasDue, IsHeard, IsReadAs, TellsRead, heard_by}
+use Rattle.script_fates.specs.Fates.{AreFates, no_books}
+use Rattle.scenario.specs.Fates.{AreNamedStarts, IsNamedStart, IsNamedSo, is_delivery_name}
+use Rattle.script_fates.specs.Entering.{HasDue, booked_after, heard_after, heard_by}
+use Rattle.scenario.specs.inside.Fates.{AreNamed, Follows, HasDone, IsHeard, IsReadAs, TellsRead}
 use Rattle.mail_world.proofs.Coming.{may_come}
 use Rattle.scenario.proofs.KeptEvents.{act_told, child_told}
 
@@ -334,11 +336,12 @@ bred_told new s k e a own c program is told mail may follows =
 
 -- An event of the sender
 
-by_start : (child : Option Bouncer) (b : Books) (a : List ℕ) (start : ℕ) (past : List Own) (read : ℕ) (ready : Ready) (due : NeedData) (came : GotData)
-    → books_after child b a (Sender 0) past read ready due came ≡ books_after child b a (Sender start) past read ready due came
-by_start child b a start past read ready (needs.File c) (got.Answered told) = refl
-by_start child b a start past read ready (needs.Take p) came = refl
-by_start child b a start past read ready due came = refl
+-- what it enters is what the history says
+heard_is : (child : Option Bouncer) (b : Books) (a : List ℕ) (start : ℕ) (past : List Own) (read : ℕ) (ready : Ready) (due : NeedData) (came : GotData)
+    → heard_after child b past read ready due came ≡ books_after child b a (Sender start) past read ready due came
+heard_is child b a start past read ready (needs.File c) (got.Answered told) = refl
+heard_is child b a start past read ready (needs.Take p) came = refl
+heard_is child b a start past read ready due came = refl
 
 sender_at : (o : Option Actor) (m : Machine) → IsHeard (Some m) o → (x : Actor) × (o ≡ Some x) × (start : ℕ) × (x.program ≡ Sender start) × Stands m None x.past × IsRunBy (Next None) x.past
 sender_at None m h = absurd h
@@ -388,7 +391,7 @@ follows_sender new s own wrote old m next is stands fates =
     let y : Actor = record { program = x.program; past = own ∷ x.past; life = x.life } in
     rw next.is (record {
       fates = subst (AreFates new.fates)
-          (by_start (bouncer_of s (codes "sender")) s.books (codes "sender") next.start x.past own.read own.ready own.due own.came
+          (heard_is (bouncer_of s (codes "sender")) s.books (codes "sender") next.start x.past own.read own.ready own.due own.came
           ∙ ap (λ (p : Program). books_after (bouncer_of s (codes "sender")) s.books (codes "sender") p x.past own.read own.ready own.due own.came) (sym next.program))
           fates;
       heard = subst (λ (m : Option Machine). IsHeard m (put_at s.actors (codes "sender") (Some y) (codes "sender"))) (sym is)
@@ -447,15 +450,22 @@ mail_is a (LocalSpawner start) none named = absurd named
 mail_is a (RemoteSpawner start) none named = absurd named
 mail_is a (Delivery start args) none named = let both : true ≡ false = sym named ∙ none in absurd (cc)
 
+-- what an injector's event enters, so too
+booked_is : (child : Option Bouncer) (b : Books) (a : List ℕ) (args : Arguments) (past : List Own) (read : ℕ) (ready : Ready) (due : NeedData) (came : GotData)
+    → booked_after b a args due came ≡ books_after child b a (Injector args) past read ready due came
+booked_is child b a args past read ready (needs.File c) (got.Answered told) = refl
+booked_is child b a args past read ready due came = refl
+
 pub follows_mail : (old new : Following) (s : State) (a : List ℕ) (own : Own) (wrote : ℕ) → AreNamed s → ¬ (Contains members a) → is_delivery_name a ≡ false → new.sender ≡ old.sender
-    → ((child : Option Bouncer) (books : Books) (args : Arguments) (past : List Own) → AreFates old.fates books → AreFates new.fates (books_after child books a (Injector args) past own.read own.ready own.due own.came))
+    → ((books : Books) (args : Arguments) → AreFates old.fates books → AreFates new.fates (booked_after books a args own.due own.came))
     → HasDone s a own → Follows old s → Follows new (acted s a own wrote (s.actors a))
 follows_mail old new s a own wrote named mail injects sender link does h =
     let x = does.actor in
     let is = does.reads.is in
     let it = mail_is a x.program injects (named.alone a x is mail) in
     rw is (record {
-      fates = subst (λ (p : Program). AreFates new.fates (books_after (bouncer_of s a) s.books a p x.past own.read own.ready own.due own.came)) (sym it.1) (link (bouncer_of s a) s.books it.0 x.past h.fates);
+      fates = subst (λ (p : Program). AreFates new.fates (books_after (bouncer_of s a) s.books a p x.past own.read own.ready own.due own.came)) (sym it.1)
+          (subst (AreFates new.fates) (booked_is (bouncer_of s a) s.books a it.0 x.past own.read own.ready own.due own.came) (link s.books it.0 h.fates));
       heard = subst (λ (m : Option Machine). IsHeard m ((acted s a own wrote (Some x)).actors (codes "sender"))) (sym sender)
           (heard_apart old.sender s a own wrote (Some x) (λ e. mail (subst (Contains members) (sym e) is_member_sender)) h.heard);
     })
@@ -469,6 +479,11 @@ FollowsAll f ks = (d : Disk) (h : List Event) → Legal d h → AllZip TellsRead
 -- so it does after one event more
 abbrev pub Notes : Following → Following → Kept → Type 0
 Notes old new k = (s : State) (e : Event) → AreNamed s → IsMoment s.now → IsNamedStart e → Allowed s e → TellsRead k e → Follows old s → Follows new (happens s e)
+
+-- before any event
+pub none_followed : (f : Following) → AreFates f.fates no_books → f.sender ≡ None → FollowsAll f []
+none_followed f fates none d [] legal told mails = record { fates = fates; heard = subst (λ (m : Option Machine). IsHeard m None) (sym none) refl }
+none_followed f fates none d (e ∷ h) legal told mails = absurd told
 
 one_more : (old new : Following) (k : Kept) (ks : List Kept) → Notes old new k → FollowsAll old ks → FollowsAll new (k ∷ ks)
 one_more old new k ks notes before d [] legal told mails = absurd told

@@ -1,7 +1,3 @@
--- the directories of each script's disk
-pub mod Dirs
--- directories that are made if they are missing, and entries
-pub mod MadeDirs
 -- what a world keeps tells deeds, and those the history
 pub mod Deeds
 -- which names a delivery may have
@@ -36,13 +32,9 @@ pub mod GenerationLines
 pub mod StopsAndMoments
 -- the events that a line adds
 pub mod Tracings
--- what a sender's taking adds to its marks
-pub mod Takings
 -- what a world keeps, as a history has it
 pub mod ReadEvents
--- the lives of messages
-pub mod Lives
--- they follow the state
+-- the lives of messages follow the state
 pub mod Followed
 -- the injectors of a world, with the envelopes that they were given
 pub mod Receivers

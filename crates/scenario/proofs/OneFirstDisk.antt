@@ -9,7 +9,7 @@ use Rattle.mem_files.specs.MemFile.{settled_file}
 use Rattle.script_words.specs.declared.entry.Entry.{Entry}
 use Rattle.script_words.specs.declared.entry.Entry.TheVariants.{File as FileOf, Dir}
 use Rattle.script_words.specs.Entries.{dirs_above}
-use Rattle.scenario.specs.FirstDisk.{IsBareDisk, HasMade, AreMade, Enters, EntersAll, IsFirstDisk}
+use Rattle.script_disks.specs.FirstDisk.{IsBareDisk, HasMade, AreMade, Enters, EntersAll, IsFirstDisk}
 
 one_bare : (d e : Disk) → IsBareDisk d → IsBareDisk e → d ≡ e
 one_bare d e p q =

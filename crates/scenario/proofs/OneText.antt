@@ -23,7 +23,7 @@ use Rattle.script_lines.specs.Contents.{Content}
 use Rattle.script_lines.specs.Lines.{IsScript}
 use Rattle.scenario.specs.Deeds.{Deed, after, history_of}
 use Rattle.scenario.specs.Deeds.Deed.{Came}
-use Rattle.scenario.specs.FirstDisk.{IsFirstDisk}
+use Rattle.script_disks.specs.FirstDisk.{IsFirstDisk}
 use Rattle.scenario.specs.Played.{Outcome, StopsAlive, StopComesTo, MomentComesTo, NumberComesTo, plan_after, outcome_events, printed, next_pid, Plays, PlaysAll}
 use Rattle.scenario.specs.Traced.{traced_after, traced_text}
 use Rattle.scenario.specs.Text.{HasFewDeeds, HaveFewDeeds, IsPlayed, Prints, IsBegun, BeginsToPrint, IsPrefix}

@@ -18,7 +18,7 @@ use Rattle.script_words.specs.declared.entry.Entry.{Entry}
 use Rattle.script_words.specs.declared.entry.Entry.TheVariants.{File as FileOf, Dir}
 use Rattle.script_words.specs.Entries.{IsEntryPath, dirs_above, entry_dirs, path_of}
 use Rattle.script_lines.specs.Contents.{HaveEntryPaths}
-use Rattle.scenario.specs.FirstDisk.{IsBareDisk, HasMade, AreMade, Enters, EntersAll, IsFirstDisk}
+use Rattle.script_disks.specs.FirstDisk.{IsBareDisk, HasMade, AreMade, Enters, EntersAll, IsFirstDisk}
 use Rattle.crash_fs.specs.Answers.{IsFinite}
 use Rattle.crash_fs.proofs.FiniteDisks.{finite_empty, finite_placed}
 use Rattle.crash_fs.proofs.InOrder.{contains_among}

@@ -7,8 +7,8 @@ use Rattle.mail_bytes.specs.Told.{Meets}
 use Rattle.mem_fs.specs.MemDisk.{bytes_at}
 use Rattle.crash_fs.specs.Crash.{Crash, crash_disk, crash_plan}
 use Rattle.call_fs.specs.Plan.{Plan, no_plan}
-use Rattle.mail_world.specs.declared.error.WorldError.{WorldError}
-use Rattle.mail_world.specs.declared.error.WorldError.TheVariants as error
+use Rattle.world_events.specs.declared.answers.WorldError.{WorldError}
+use Rattle.world_events.specs.declared.answers.WorldError.TheVariants as error
 use Rattle.world_events.specs.declared.event.Event.{Event as Kept}
 use Rattle.world_events.specs.declared.event.Event.TheVariants as kept
 use Rattle.world_events.specs.declared.event.Program.TheVariants.{Injector}
@@ -27,7 +27,7 @@ use Rattle.script_lines.specs.declared.keyword.OfWord.TheVariants as of_word
 use Rattle.script_lines.specs.Contents.{HaveEntryPaths}
 use Rattle.scenario.specs.Deeds.{Deed, history_of, after}
 use Rattle.scenario.specs.Deeds.Deed.{Came}
-use Rattle.scenario.specs.FirstDisk.{IsFirstDisk}
+use Rattle.script_disks.specs.FirstDisk.{IsFirstDisk}
 use Rattle.scenario.specs.Played.{plan_after, Refusal, IsRefusalOf, Plays, PlaysAll, cat_line, refusal_line, next_pid}
 use Rattle.scenario.specs.Summed.{sum_text}
 use Rattle.scenario.specs.Steps.Outcome.{Happens, Is}

@@ -5,8 +5,8 @@ use Rattle.std.proofs.lemmas.List.{append-nil}
 use Rattle.call_fs.specs.Disk.{Disk}
 use Rattle.call_fs.specs.Plan.{Plan}
 use Rattle.crash_fs.specs.Crash.{Crash}
-use Rattle.mail_world.specs.declared.error.WorldError.{WorldError}
-use Rattle.mail_world.specs.declared.error.WorldError.TheVariants as error
+use Rattle.world_events.specs.declared.answers.WorldError.{WorldError}
+use Rattle.world_events.specs.declared.answers.WorldError.TheVariants as error
 use Rattle.mail_world.specs.History.{IsLiving}
 use Rattle.mail_world.specs.World.{Seen}
 use Rattle.script_lines.specs.declared.line.Line.TheVariants as line

@@ -68,8 +68,8 @@ use Rattle.scenario.proofs.KeptEvents.{act_told, child_told, end_told}
 use Rattle.scenario.proofs.Knowing.{actors_told, pipework_told, found_same, comes_same, kept_same, idled_same, waits_same}
 use Rattle.scenario.proofs.Outcomes.{does_next, over_gone}
 use Rattle.scenario.proofs.Waiting.{all_comes, acts_next, bears_next, feeds_next, waits_steps}
-use Rattle.mail_world.specs.declared.error.WorldError.{WorldError}
-use Rattle.mail_world.specs.declared.error.WorldError.TheVariants as error
+use Rattle.world_events.specs.declared.answers.WorldError.{WorldError}
+use Rattle.world_events.specs.declared.answers.WorldError.TheVariants as error
 
 -- Refusals
 

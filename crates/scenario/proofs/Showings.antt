@@ -32,7 +32,8 @@ use Rattle.mail_world.specs.World.{IsHistory}
 use Rattle.mail_world.specs.Books.{books_in, entry_in, mails_of}
 use Rattle.scenario.specs.declared.overview.Overview.{Overview}
 use Rattle.scenario.specs.declared.showing.Given.{Given}
-use Rattle.scenario.specs.Fates.{AreNamedStarts, IsFedSo, IsUsed}
+use Rattle.script_fates.specs.Fates.{IsUsed}
+use Rattle.scenario.specs.Fates.{AreNamedStarts, IsFedSo}
 use Rattle.scenario.specs.inside.Fates.{receiver, receivers_in}
 use Rattle.scenario.specs.Shown.{AreNamesIn, AreNumbersIn, pid_line, number_line, all_mail_lines, IsShown, View, entry_lines, fates_of, view_of}
 use Rattle.scenario.specs.Summed.{all_fates}

@@ -8,8 +8,8 @@ use Rattle.call_fs.specs.Disk.{Disk, IsUnused}
 use Rattle.call_fs.specs.Plan.{Plan, with_fault, with_pick}
 use Rattle.mail_bytes.specs.Told.{Meets}
 use Rattle.crash_fs.specs.Crash.{Crash, crash_disk, crash_plan}
-use Rattle.mail_world.specs.declared.error.WorldError.{WorldError}
-use Rattle.mail_world.specs.declared.error.WorldError.TheVariants as error
+use Rattle.world_events.specs.declared.answers.WorldError.{WorldError}
+use Rattle.world_events.specs.declared.answers.WorldError.TheVariants as error
 use Rattle.world_events.specs.declared.event.Event.{Event as Kept}
 use Rattle.world_events.specs.declared.event.Event.TheVariants as kept
 use Rattle.mail_world.specs.History.{Event, Actor, Life}

@@ -27,7 +27,7 @@ use Rattle.script_lines.specs.Contents.{Content, HaveEntryPaths}
 use Rattle.script_lines.specs.Lines.{IsScript, IsLine}
 use Rattle.scenario.specs.Deeds.{Deed, history_of, after, next_pid}
 use Rattle.scenario.specs.Deeds.Deed.{Came}
-use Rattle.scenario.specs.FirstDisk.{IsFirstDisk}
+use Rattle.script_disks.specs.FirstDisk.{IsFirstDisk}
 use Rattle.scenario.specs.Played.{Outcome, StepsTo, MailComesTo, StopsAlive, StopComesTo, MomentComesTo, NumberComesTo, plan_after, Plays, PlaysAll, outcome_events, printed, refusal_line, cat_line}
 use Rattle.scenario.specs.Turns.{first_alive, generation_events, generation_text, awaits_report, report_comes, events_of, text_of, events_in}
 use Rattle.script_words.specs.declared.letter.Letter.{Letter}

@@ -15,7 +15,7 @@ use Rattle.script_lines.specs.declared.line.Line.TheVariants as line
 use Rattle.script_lines.specs.declared.keyword.OfLetter.TheVariants as of_letter
 use Rattle.script_traces.specs.Events.{kept_line}
 use Rattle.scenario.specs.Deeds.{Deed, TellsDeed, history_of}
-use Rattle.scenario.specs.FirstDisk.{IsFirstDisk}
+use Rattle.script_disks.specs.FirstDisk.{IsFirstDisk}
 use Rattle.scenario.specs.Played.{plan_after}
 use Rattle.scenario.specs.Playing.{IsPlaying, HasPlayed}
 use Rattle.scenario.specs.Shown.{IsShown}

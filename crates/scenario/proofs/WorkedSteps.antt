@@ -9,8 +9,8 @@ use Rattle.crash_fs.specs.Crash.{Crash, crash_plan}
 use Rattle.yard_lock.specs.declared.turn.Turn.{Turn}
 use Rattle.yard_lock.specs.Turns.{Replay}
 use Rattle.world_events.specs.declared.event.Event.{Event as Kept}
-use Rattle.mail_world.specs.declared.error.WorldError.{WorldError}
-use Rattle.mail_world.specs.declared.world.Did.{Did}
+use Rattle.world_events.specs.declared.answers.WorldError.{WorldError}
+use Rattle.world_events.specs.declared.answers.Did.{Did}
 use Rattle.mail_world.specs.Moves.{moves}
 use Rattle.mail_world.specs.World.{Seen, IsStep}
 use Rattle.scenario.specs.Deeds.{Deed}

@@ -1,11 +1,10 @@
--- the disk that a script begins with
-pub mod FirstDisk
 -- what `show` prints
 pub mod Shown
 -- what `sum` prints
 pub mod Summed
--- what is read of a world for both
+-- the names of those who start in a world
 pub mod Fates
+-- what is read of a world for `show` and `sum`
 pub mod Viewed
 -- what happens in a play, deed by deed
 pub mod Deeds

@@ -1,22 +1,21 @@
 -- What `show` prints: how many names `pid/` has, the state of each number that isn't in S1, and how each mail fares, by the disk, the
 -- control files and the books, in which the takings of senders enter who was delivered to.
-use Rattle.std.specs.Prelude.{◌≡◌, ℕ, List, [], ◌∷◌, ◌++◌, length, map, replicate, Bool, true, false, ◌&&◌, ◌==◌, bytes_eq, Option, Some, None, codes, flat_map, if◌then◌else◌, nat_eq}
-use Rattle.std.specs.List.{list_any, starts_with}
+use Rattle.std.specs.Prelude.{◌≡◌, ℕ, List, [], ◌∷◌, ◌++◌, length, map, replicate, Bool, false, Option, Some, None, codes, flat_map, if◌then◌else◌, nat_eq}
+use Rattle.std.specs.List.{starts_with}
 use Rattle.address_rules.specs.declared.controls.Controls.{Controls}
 use Rattle.call_fs.specs.Disk.{Disk}
 use Rattle.queue_inject.specs.declared.injection.Arguments.{Arguments}
-use Rattle.queue_law.specs.Books.{Books, Injection}
+use Rattle.queue_law.specs.Books.{Books}
 use Rattle.queue_law.specs.Ledgers.{Spot}
 use Rattle.queue_paths.specs.Names.Part.{Todo}
 use Rattle.queue_states.specs.States.{state_of, is_there}
 pub use Rattle.queue_states.specs.Listing.{AreNamesIn}
-use Rattle.send_jobs.specs.declared.channels.Channel.{Channel}
-use Rattle.send_jobs.specs.declared.channels.Channel.TheVariants.{Local, Remote}
 use Rattle.script_disks.specs.declared.routes.Routed.{Routed}
 use Rattle.script_disks.specs.Controls.{controls_on}
 use Rattle.script_disks.specs.Routes.{recipients_in, routes_in}
 pub use Rattle.script_disks.specs.Numbers.{AreNumbersIn}
 pub use Rattle.script_disks.specs.Records.{is_noted, is_unmarked}
+pub use Rattle.script_fates.specs.Lasting.{is_delivered, lasting}
 pub use Rattle.queue_states.specs.Lines.{line_of, count_line, state_line}
 use Rattle.mail_world.specs.History.{Event, after}
 use Rattle.mail_world.specs.Books.{entry_in, mails_of}
@@ -39,42 +38,6 @@ pub record View : Type 0 where
   pub disk : Disk
   pub controls : Option Controls
   pub books : Books
-
-abbrev pub is_mail : List ℕ → Option Injection → Bool
-is_mail mail None = false
-is_mail mail (Some q) = bytes_eq q.actor mail
-
--- That mail's message has the number, and its life lasts: until another mail's message has that number.
-abbrev pub lasts : Books → List ℕ → ℕ → Bool
-lasts b mail n = is_mail mail (b.living n)
-
-abbrev pub lasting : Books → List ℕ → Option ℕ → Option ℕ
-lasting b mail None = None
-lasting b mail (Some n) = if lasts b mail n then Some n else None
-
--- A report was taken that this recipient was delivered to.
-abbrev pub is_channel : Channel → Channel → Bool
-is_channel Local Local = true
-is_channel Remote Remote = true
-is_channel c e = false
-
-abbrev pub is_spot : Spot → Spot → Bool
-is_spot s t = is_channel t.channel s.channel && (t.place == s.place)
-
-abbrev pub is_entered : Spot → Injection → Bool
-is_entered s q = list_any (is_spot s) q.ledger.delivered
-
--- in that mail's injection with this number
-abbrev pub is_entered_so : Spot → List ℕ → ℕ → Injection → Bool
-is_entered_so s mail n q = (q.number == n) && (bytes_eq q.actor mail && is_entered s q)
-
-abbrev pub is_delivered_by : Spot → List ℕ → ℕ → Option Injection → List Injection → Bool
-is_delivered_by s mail n None over = list_any (is_entered_so s mail n) over
-is_delivered_by s mail n (Some q) over = if bytes_eq q.actor mail then is_entered s q else list_any (is_entered_so s mail n) over
-
-abbrev pub is_delivered : Books → List ℕ → Option ℕ → Spot → Bool
-is_delivered b mail None s = false
-is_delivered b mail (Some n) s = is_delivered_by s mail n (b.living n) b.over
 
 -- todo holds the mail
 abbrev pub is_queued : Disk → Option ℕ → Bool

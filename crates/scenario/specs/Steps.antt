@@ -14,8 +14,8 @@ use Rattle.crash_fs.specs.Answers.{Answers, plan_left_by}
 use Rattle.world_events.specs.declared.event.Program.{Program}
 use Rattle.world_events.specs.declared.event.Program.TheVariants.{Injector}
 use Rattle.world_pipes.specs.Pipes.{offered}
-use Rattle.mail_world.specs.declared.error.WorldError.{WorldError}
-use Rattle.mail_world.specs.declared.error.WorldError.TheVariants as error
+use Rattle.world_events.specs.declared.answers.WorldError.{WorldError}
+use Rattle.world_events.specs.declared.answers.WorldError.TheVariants as error
 use Rattle.mail_world.specs.Pipework.{Tenant}
 use Rattle.mail_world.specs.Pipework.Tenant.{Runs, Remote}
 use Rattle.mail_world.specs.History.{Event, Life, State, Actor, call_act, netstring, next_of, program_of}

@@ -8,7 +8,7 @@ use Rattle.script_words.specs.declared.entry.Entry.{Entry}
 use Rattle.script_lines.specs.declared.line.Line.{Line}
 use Rattle.script_lines.specs.Contents.{Content}
 use Rattle.scenario.specs.Deeds.{Deed, history_of}
-use Rattle.scenario.specs.FirstDisk.{IsFirstDisk}
+use Rattle.script_disks.specs.FirstDisk.{IsFirstDisk}
 use Rattle.script_lines.specs.Lines.{IsScript, IsBadLine}
 use Rattle.scenario.specs.Played.{PlaysAll}
 use Rattle.scenario.specs.Shown.{line_of}

@@ -23,7 +23,7 @@ use Rattle.script_lines.specs.Contents.{Content}
 use Rattle.script_lines.specs.Lines.{IsScript}
 use Rattle.scenario.specs.Chains.{EachFollows}
 use Rattle.scenario.specs.Deeds.{Deed, event_in, history_of}
-use Rattle.scenario.specs.FirstDisk.{IsFirstDisk}
+use Rattle.script_disks.specs.FirstDisk.{IsFirstDisk}
 use Rattle.scenario.specs.Played.{Plays, PlaysAll}
 use Rattle.scenario.specs.Playing.{IsPlaying, HasPlayed}
 use Rattle.scenario.specs.Shown.{IsShown}

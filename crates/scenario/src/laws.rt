@@ -8,7 +8,7 @@ ghost use Rattle.script_words.specs.declared.entry.Entry.{Entry};
 ghost use Rattle.script_lines.specs.declared.line.Line.{Line};
 ghost use Rattle.script_lines.specs.Contents.{Content};
 ghost use Rattle.script_lines.specs.Lines.{IsScript};
-ghost use Rattle.scenario.specs.FirstDisk.{IsFirstDisk};
+ghost use Rattle.script_disks.specs.FirstDisk.{IsFirstDisk};
 ghost use Rattle.scenario.specs.Summed.{all_fates, counted_recipients};
 ghost use Rattle.scenario.specs.Text.{IsPlayed, Prints, BeginsToPrint, IsPrefix};
 

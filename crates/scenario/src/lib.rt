@@ -1,8 +1,8 @@
 //! Scripts: playing one over a disk in memory, and showing what came of it.
 //!
 //! Which bytes are a script, and what it says, stands in the crate `script_lines`, which reads one. The disk that it
-//! begins with in `specs/FirstDisk.antt`, the history that it plays in `specs/Played.antt`, and what it prints in
-//! `specs/Shown.antt`, `specs/Traced.antt` and `specs/Text.antt`: one text, by the laws in `laws`.
+//! begins with in `script_disks` (`specs/FirstDisk.antt`), the history that it plays in `specs/Played.antt`, and what it
+//! prints in `specs/Shown.antt`, `specs/Traced.antt` and `specs/Text.antt`: one text, by the laws in `laws`.
 //!
 //! # What is claimed
 //!
@@ -26,7 +26,6 @@
 //!   them is by `event_line`).
 #![tactic(auto)]
 
-mod bare_dirs;
 mod error;
 mod fates;
 mod generating;

@@ -3,17 +3,17 @@ ghost use Rattle.std.specs.Prelude.{◌≡◌, ◌++◌, IfOk, OnOk, map};
 ghost use Rattle.mem_fs.specs.MemDisk.{disk_of};
 ghost use Rattle.queue_law.specs.Books.{Books};
 ghost use Rattle.script_disks.specs.Records.{AreNoted};
-ghost use Rattle.scenario.specs.Fates.{AreFates, IsUsed, spot_of};
+ghost use Rattle.script_fates.specs.Fates.{AreFates, IsUsed, spot_of};
 ghost use Rattle.scenario.specs.Shown.{ending_of, entry_lines, failed_fate, fate_of, fates_of, is_delivered, is_queued, lasting, sorted_fates};
 ghost use Rattle.scenario.specs.Viewed.{view_at};
 
-use crate::fates::{Fates, Spot};
 use address_rules::Controls;
 use mail_bytes::{ByteText, Memory};
 use mail_world::Entry;
 use mem_fs::MemFs;
 use queue_paths::Name;
 use script_disks::{Routed, is_among, is_there, is_unmarked, noted_on, routes_of};
+use script_fates::{Fates, Spot};
 use script_traces::{RecipientFate, alike, put_fates, put_life};
 use std::alloc::Global;
 

@@ -9,20 +9,21 @@ ghost use Rattle.call_fs.specs.Plan.{Plan};
 ghost use Rattle.scenario.specs.Playing.{IsPlaying};
 ghost use Rattle.queue_law.specs.Books.{Books};
 ghost use Rattle.world_events.specs.Programs.{injection_of};
-ghost use Rattle.scenario.specs.Fates.{AreFates, IsUsed};
+ghost use Rattle.script_fates.specs.Fates.{AreFates, IsUsed};
 ghost use Rattle.scenario.specs.inside.Fates.{given_to, received_by, receiver, receivers_in};
 ghost use Rattle.scenario.specs.Shown.{IsShown, all_mail_lines, number_line};
 ghost use Rattle.scenario.specs.Viewed.{view_at};
 ghost use Rattle.scenario.specs.inside.Viewed.{IsOf, given_lines};
 ghost use Rattle.scenario.specs.Played.{cat_line};
 
-use crate::fates::Fates;
+use crate::fates::fates_by;
 use crate::overview::Overview;
 use crash_fs::CrashDisk;
 use mail_bytes::Memory;
 use mail_world::{ActorName, Entry, Event, Program, World};
 use queue_states::{put_count_line, put_state_line};
 use script_disks::{controls_on, names_of, numbers_of, state_on};
+use script_fates::Fates;
 use script_traces::put_escaped;
 use std::alloc::Global;
 
@@ -46,7 +47,7 @@ fn put_mails(alloc: Global, world: &World<CrashDisk>, text: &mut Vec<u8>) -> Res
     ensures { OnOk result ((own : List ℕ) × (text.new.items ≡ text.old.items ++ own)
         × ((d : Disk) (plan : Plan) (h : List Deed) → IsPlaying d world.now plan h → own ≡ all_mail_lines d (history_of h))) }
 {
-    let fates = Fates::of(alloc, world.history().events())?;
+    let fates = fates_by(alloc, world.history().events())?;
     put_fated(alloc, &fates, world, text)
 }
 

@@ -5,19 +5,20 @@ ghost use Rattle.call_fs.specs.Disk.{Disk};
 ghost use Rattle.call_fs.specs.Plan.{Plan};
 ghost use Rattle.queue_law.specs.Books.{Books};
 ghost use Rattle.scenario.specs.Deeds.{Deed, after, history_of};
-ghost use Rattle.scenario.specs.Fates.{AreFates, IsUsed};
+ghost use Rattle.script_fates.specs.Fates.{AreFates, IsUsed};
 ghost use Rattle.scenario.specs.Playing.{IsPlaying};
 ghost use Rattle.scenario.specs.Summed.{all_fates, sum_text};
 ghost use Rattle.scenario.specs.Viewed.{view_at};
 ghost use Rattle.scenario.specs.inside.Viewed.{IsOf, given_fates};
 
-use crate::fates::Fates;
+use crate::fates::fates_by;
 use crate::overview::Overview;
 use crate::showing::{Given, given_by};
 use crash_fs::CrashDisk;
 use mail_bytes::Memory;
 use mail_world::{Entry, World};
 use script_disks::controls_on;
+use script_fates::Fates;
 use script_traces::{RecipientFate, put_sum};
 use std::alloc::Global;
 
@@ -36,7 +37,7 @@ fn fates_in(alloc: Global, world: &World<CrashDisk>) -> Result<Vec<RecipientFate
     ensures { IfOk result (λ fates. (d : Disk) (plan : Plan) (h : List Deed) → IsPlaying d world.now plan h
         → fates.items ≡ all_fates d (history_of h)) }
 {
-    let heard = Fates::of(alloc, world.history().events())?;
+    let heard = fates_by(alloc, world.history().events())?;
     fates_heard(alloc, &heard, world)
 }
 

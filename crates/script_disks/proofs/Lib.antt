@@ -1,3 +1,7 @@
+-- the directories of each script's disk
+pub mod Dirs
+-- directories that are made if they are missing, and entries
+pub mod MadeDirs
 -- the names of a directory, one after the other
 pub mod NamesAfter
 -- the message numbers of the files in directories

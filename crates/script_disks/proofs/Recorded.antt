@@ -10,7 +10,7 @@ use Rattle.address_rules.specs.declared.rewriting.Route.TheVariants as route
 use Rattle.address_rules.specs.Routes.{address_in, route_of}
 use Rattle.envelope_records.specs.Envelope.{record_of}
 use Rattle.queue_law.specs.Routes.{channel_of}
-use Rattle.send_jobs.specs.declared.channels.Channel.{Channel}
+use Rattle.send_known.specs.declared.channel.Channel.{Channel}
 use Rattle.todo_pass.specs.Places.{place_by}
 use Rattle.todo_pass.specs.Sorting.{channel_text, local_of, remote_of, locals_of, remotes_of}
 use Rattle.script_disks.specs.declared.routes.Lanes.{Lanes}

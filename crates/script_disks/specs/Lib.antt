@@ -1,3 +1,5 @@
+-- the disk that a script begins with
+pub mod FirstDisk
 -- the numbers that have a file
 pub mod Numbers
 -- what the control files say

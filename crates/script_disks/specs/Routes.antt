@@ -7,7 +7,7 @@ use Rattle.bounce_record.specs.Notes.{note_name}
 use Rattle.envelope_records.specs.Envelope.{read_envelope, record_of}
 use Rattle.queue_inject.specs.Texts.{limit, recipients_read}
 use Rattle.queue_law.specs.Routes.{channel_of}
-use Rattle.send_jobs.specs.declared.channels.Channel.{Channel}
+use Rattle.send_known.specs.declared.channel.Channel.{Channel}
 use Rattle.todo_pass.specs.Places.{place_by}
 use Rattle.todo_pass.specs.Sorting.{channel_text, locals_of, remotes_of}
 use Rattle.script_disks.specs.declared.routes.Lanes.{Lanes}

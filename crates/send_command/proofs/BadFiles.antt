@@ -22,8 +22,8 @@ use Rattle.send_parts.specs.declared.rows.StartRow.TheVariants as start
 use Rattle.send_parts.specs.Start.{file_after}
 use Rattle.send_parts.specs.Steps.{control_text}
 use Rattle.send_core.specs.declared.desk.Desk.{Desk}
-use Rattle.send_core.specs.declared.row.Row.{Row}
-use Rattle.send_core.specs.declared.row.Row.TheVariants as at
+use Rattle.send_parts.specs.declared.row.Row.{Row}
+use Rattle.send_parts.specs.declared.row.Row.TheVariants as at
 use Rattle.send_core.specs.Papers.{Paper, Papers, control_named, filed, filed_if, judged, opened_paper, papers, papers_by}
 use Rattle.send_core.specs.Papers.Papers.{Reads}
 use Rattle.send_core.specs.Senders.{IsSaid}

@@ -16,9 +16,9 @@ use Rattle.todo_pass.specs.declared.row.Row.{Row as PassRow}
 use Rattle.todo_pass.specs.declared.row.Row.TheVariants as todo
 use Rattle.todo_pass.specs.Table.{Pass, due_at as pass_due}
 use Rattle.send_core.specs.declared.desk.Desk.{Desk}
-use Rattle.send_core.specs.declared.row.MarkRow.TheVariants as mark
-use Rattle.send_core.specs.declared.row.Row.{Row}
-use Rattle.send_core.specs.declared.row.Row.TheVariants as at
+use Rattle.send_parts.specs.declared.row.MarkRow.TheVariants as mark
+use Rattle.send_parts.specs.declared.row.Row.{Row}
+use Rattle.send_parts.specs.declared.row.Row.TheVariants as at
 use Rattle.send_parts.specs.declared.rows.FinishRow.TheVariants as finish
 use Rattle.send_core.specs.Table.{Next, due_at, place_after, row_now, step_of, words_of}
 

@@ -17,8 +17,8 @@ use Rattle.call_fs.specs.Program.{MayCome}
 use Rattle.envelope_records.specs.declared.channel.Record.{Record}
 use Rattle.mail_bytes.specs.Decimal.{digits}
 use Rattle.send_jobs.specs.declared.attempts.Attempt.{Attempt}
-use Rattle.send_jobs.specs.declared.channels.Channel.{Channel}
-use Rattle.send_jobs.specs.declared.channels.Channel.TheVariants.{Local, Remote}
+use Rattle.send_known.specs.declared.channel.Channel.{Channel}
+use Rattle.send_known.specs.declared.channel.Channel.TheVariants.{Local, Remote}
 use Rattle.send_jobs.specs.declared.jobs.Job.{Job}
 use Rattle.send_jobs.specs.Lanes.{job_over, left_unmarked, mark_settled, next, reported}
 use Rattle.send_jobs.specs.Sending.{at_lane, lane, sent_on}
@@ -37,7 +37,8 @@ use Rattle.send_parts.specs.declared.rows.Search.{Search}
 use Rattle.send_parts.specs.declared.rows.StartRow.{StartRow}
 use Rattle.send_parts.specs.declared.rows.SweepRow.{SweepRow}
 use Rattle.send_parts.specs.declared.rows.SweepRow.TheVariants as sweep
-use Rattle.send_parts.specs.Files.{message_number, records_of}
+use Rattle.send_links.specs.Records.{records_of}
+use Rattle.send_parts.specs.Files.{message_number}
 use Rattle.send_parts.specs.Finish.{finish_to}
 use Rattle.send_parts.specs.Readings.{begun_at, read_on}
 use Rattle.send_parts.specs.Replies.{Said, said}
@@ -50,13 +51,13 @@ use Rattle.todo_pass.specs.declared.row.Row.TheVariants as todo
 use Rattle.todo_pass.specs.Rows.{is_done}
 use Rattle.todo_pass.specs.Table.{Pass, answer_row, moved as pass_moved}
 use Rattle.send_core.specs.declared.desk.Desk.{Desk}
-use Rattle.send_core.specs.declared.row.MarkRow.{MarkRow}
-use Rattle.send_core.specs.declared.row.MarkRow.TheVariants as mark
-use Rattle.send_core.specs.declared.row.Marked.{Marked}
-use Rattle.send_core.specs.declared.row.Point.{Point}
-use Rattle.send_core.specs.declared.row.Point.TheVariants as point
-use Rattle.send_core.specs.declared.row.Row.{Row}
-use Rattle.send_core.specs.declared.row.Row.TheVariants as at
+use Rattle.send_parts.specs.declared.row.MarkRow.{MarkRow}
+use Rattle.send_parts.specs.declared.row.MarkRow.TheVariants as mark
+use Rattle.send_parts.specs.declared.row.Marked.{Marked}
+use Rattle.send_parts.specs.declared.row.Point.{Point}
+use Rattle.send_parts.specs.declared.row.Point.TheVariants as point
+use Rattle.send_parts.specs.declared.row.Row.{Row}
+use Rattle.send_parts.specs.declared.row.Row.TheVariants as at
 use Rattle.queue_limits.specs.declared.counts.TheConstants.{MAX_SLOTS}
 use Rattle.send_core.specs.Desk.{closed_by, deferred, failure_in, goes, has_begun, heard, is_final, is_free_for, link, next_idle, past_finish, past_todo, request_sent, retried, retried_if, settle, stands_at, sweep_due, told, told_all, told_by, turn_counted, turn_over, waits, with_reader, with_requests}
 use Rattle.send_core.specs.Finish.{act_finish, bounce_on, finish_at, forgot, looked_up, put_off_to, returned_to, sweep_at, sweep_begun}

@@ -34,8 +34,8 @@ use Rattle.send_parts.specs.Replies.{Said, answered, said}
 use Rattle.send_parts.specs.Start.{act_start, by_way, control_read, file_after, info_read, remote_stated, scanned}
 use Rattle.send_parts.specs.Steps.{control_text, dir_text}
 use Rattle.send_core.specs.declared.desk.Desk.{Desk}
-use Rattle.send_core.specs.declared.row.Row.{Row}
-use Rattle.send_core.specs.declared.row.Row.TheVariants as at
+use Rattle.send_parts.specs.declared.row.Row.{Row}
+use Rattle.send_parts.specs.declared.row.Row.TheVariants as at
 use Rattle.send_core.specs.Table.{due_at}
 use Rattle.send_command.specs.Ends.{IsLost, LacksDir, IsStarved}
 use Rattle.send_command.specs.Ends.IsLost.{HasEnded, Unheard}

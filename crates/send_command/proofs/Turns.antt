@@ -25,8 +25,8 @@ use Rattle.call_fs.specs.Past.{IsRunBy}
 use Rattle.call_fs.specs.Program.{MayCome}
 use Rattle.program_runner.specs.Serving.{HasBytes}
 use Rattle.mail_bytes.specs.Decimal.{digits}
-use Rattle.send_jobs.specs.declared.channels.Channel.{Channel}
-use Rattle.send_jobs.specs.declared.channels.Channel.TheVariants.{Local, Remote}
+use Rattle.send_known.specs.declared.channel.Channel.{Channel}
+use Rattle.send_known.specs.declared.channel.Channel.TheVariants.{Local, Remote}
 use Rattle.send_known.specs.declared.known.Known.{Known}
 use Rattle.send_known.specs.Messages.{learned}
 use Rattle.send_known.specs.Known.{is_known}
@@ -44,7 +44,7 @@ use Rattle.send_parts.specs.declared.rows.SweepRow.TheVariants as sweep
 use Rattle.send_parts.specs.Files.{message_number}
 use Rattle.send_parts.specs.Finish.{info_gone}
 use Rattle.send_parts.specs.Readings.{begun_at, read_on, reading_step}
-use Rattle.send_parts.specs.Requests.{first_text}
+use Rattle.send_links.specs.Requests.{first_text}
 use Rattle.send_parts.specs.Start.{act_start}
 use Rattle.send_parts.specs.Steps.{due_by, remove_text}
 use Rattle.send_parts.specs.declared.step.Step.{Step}
@@ -60,9 +60,9 @@ use Rattle.todo_pass.specs.declared.sorted.Sorted.{Sorted}
 use Rattle.todo_pass.specs.Sorting.{has, sort_todo, text_of}
 use Rattle.todo_pass.specs.Table.{Pass, answer_row, answered as pass_answered, appended, clear_row, cleared, command_text, create_row, due_at as pass_due, local_row, made_row, moved_at, open_row, read, remote_row, sorted_with, stated, sync_row}
 use Rattle.send_core.specs.declared.desk.Desk.{Desk}
-use Rattle.send_core.specs.declared.row.MarkRow.TheVariants as mark
-use Rattle.send_core.specs.declared.row.Row.{Row}
-use Rattle.send_core.specs.declared.row.Row.TheVariants as at
+use Rattle.send_parts.specs.declared.row.MarkRow.TheVariants as mark
+use Rattle.send_parts.specs.declared.row.Row.{Row}
+use Rattle.send_parts.specs.declared.row.Row.TheVariants as at
 use Rattle.send_core.specs.Finish.{act_finish, bounce_on, finish_at, looked_up, sweep_begun}
 use Rattle.send_core.specs.Table.{Next, act, arrive, due_at, file_of, from_point, place_after, row_now}
 use Rattle.send_core.specs.Turn.{known_of, todo_on, todo_over, todo_went}

@@ -22,9 +22,9 @@ use Rattle.program_runner.specs.Lines.{LineState, brought, link_of}
 use Rattle.program_runner.specs.Outside.{Outside}
 use Rattle.program_runner.specs.Members.{Beside, Step, all_asked, all_calls, events_of}
 use Rattle.queue_limits.specs.declared.statuses.TheConstants.{BAD_CONTROL, DONE, MEMORY, NO_CLEANER, NO_LOCAL, NO_REMOTE, NO_START}
-use Rattle.send_core.specs.declared.row.Point.TheVariants as point
-use Rattle.send_core.specs.declared.row.Row.{Row}
-use Rattle.send_core.specs.declared.row.Row.TheVariants as at
+use Rattle.send_parts.specs.declared.row.Point.TheVariants as point
+use Rattle.send_parts.specs.declared.row.Row.{Row}
+use Rattle.send_parts.specs.declared.row.Row.TheVariants as at
 use Rattle.send_core.specs.Papers.{papers}
 use Rattle.send_core.specs.Papers.Papers.{Reads}
 use Rattle.send_core.specs.Table.{place_after}

@@ -3,12 +3,12 @@ use Rattle.std.proofs.Common.{◌≡◌, ℕ, List, [], ◌∷◌, length, drop,
 use Rattle.std.specs.Prelude.{◌&&◌, is_some, nat_lt}
 use Rattle.envelope_records.specs.declared.channel.Record.{Record}
 use Rattle.send_core.specs.declared.desk.Desk.{Desk}
-use Rattle.send_core.specs.declared.row.Row.{Row}
-use Rattle.send_core.specs.declared.row.Row.TheVariants as at
+use Rattle.send_parts.specs.declared.row.Row.{Row}
+use Rattle.send_parts.specs.declared.row.Row.TheVariants as at
 use Rattle.send_core.specs.Desk.{deferred, due_again, failure_in, has_begun, heard, is_dying, is_final, never, ready, request_sent, retried_if, retry_of, settle, told, told_all, told_by, waits, with_reader, with_requests}
 use Rattle.send_jobs.specs.declared.attempts.Attempt.{Attempt}
-use Rattle.send_jobs.specs.declared.channels.Channel.{Channel}
-use Rattle.send_jobs.specs.declared.channels.Channel.TheVariants.{Local, Remote}
+use Rattle.send_known.specs.declared.channel.Channel.{Channel}
+use Rattle.send_known.specs.declared.channel.Channel.TheVariants.{Local, Remote}
 use Rattle.send_jobs.specs.declared.jobs.Job.{Job}
 use Rattle.send_jobs.specs.declared.lane.Lane.{Lane}
 use Rattle.send_jobs.specs.Lanes.{job_over, left_unmarked, next, reported, sent, sent_in}
@@ -21,7 +21,7 @@ use Rattle.send_parts.specs.declared.reading.Reading.TheVariants.{Closing, Going
 use Rattle.send_parts.specs.declared.rows.StartRow.{StartRow}
 use Rattle.send_parts.specs.declared.rows.StartRow.TheVariants as start
 use Rattle.send_parts.specs.Files.{sender_in}
-use Rattle.send_parts.specs.Requests.{addressed, request_of, requests_of, to_slot}
+use Rattle.send_links.specs.Requests.{addressed, request_of, requests_of, to_slot}
 use Rattle.spawn_protocol.specs.declared.report.Report.{Report}
 use Rattle.spawn_protocol.specs.Report.{counted, read_on}
 use Rattle.todo_pass.specs.declared.row.Row.{Row as PassRow}

@@ -10,8 +10,8 @@ use Rattle.send_core.specs.Desk.{deferred, has_begun, heard, is_dying, ready, re
 use Rattle.send_jobs.specs.declared.attempts.Attempt.{Attempt}
 use Rattle.send_jobs.specs.declared.attempts.Failure.{Failure}
 use Rattle.send_jobs.specs.declared.attempts.Mark.{Mark}
-use Rattle.send_jobs.specs.declared.channels.Channel.{Channel}
-use Rattle.send_jobs.specs.declared.channels.Channel.TheVariants.{Local, Remote}
+use Rattle.send_known.specs.declared.channel.Channel.{Channel}
+use Rattle.send_known.specs.declared.channel.Channel.TheVariants.{Local, Remote}
 use Rattle.send_jobs.specs.declared.jobs.Job.{Job}
 use Rattle.send_jobs.specs.declared.lane.Lane.{Lane}
 use Rattle.send_jobs.specs.declared.slots.Slots.{Slots}
@@ -21,9 +21,9 @@ use Rattle.send_jobs.specs.Sending.{at_lane, lane, next_delivery, sent_as, sent_
 use Rattle.send_jobs.specs.Slots.{IsLeastFree, attempt_in, lowest}
 use Rattle.send_jobs.proofs.SlotLemmas.{lowest_is_least}
 use Rattle.send_known.specs.Known.{sender_of}
-use Rattle.send_parts.specs.declared.link.Link.{Link}
-use Rattle.send_parts.specs.Files.{records_of}
-use Rattle.send_parts.specs.Requests.{addressed}
+use Rattle.send_links.specs.declared.link.Link.{Link}
+use Rattle.send_links.specs.Records.{records_of}
+use Rattle.send_links.specs.Requests.{addressed}
 use Rattle.spawn_protocol.specs.declared.report.Report.{Report}
 use Rattle.spawn_protocol.specs.Report.{Reader, counted, read_on}
 use Rattle.spawn_protocol.specs.Report.Reader.{AtBegin}

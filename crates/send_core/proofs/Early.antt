@@ -19,21 +19,21 @@ use Rattle.queue_paths.specs.Names.{Name, parse, path}
 use Rattle.queue_paths.specs.Names.Name.{Of}
 use Rattle.queue_paths.specs.Names.Part.{Info as InfoFile}
 use Rattle.send_core.specs.declared.desk.Desk.{Desk}
-use Rattle.send_core.specs.declared.row.MarkRow.{MarkRow}
-use Rattle.send_core.specs.declared.row.Marked.{Marked}
-use Rattle.send_core.specs.declared.row.Row.{Row}
-use Rattle.send_core.specs.declared.row.Row.TheVariants as at
+use Rattle.send_parts.specs.declared.row.MarkRow.{MarkRow}
+use Rattle.send_parts.specs.declared.row.Marked.{Marked}
+use Rattle.send_parts.specs.declared.row.Row.{Row}
+use Rattle.send_parts.specs.declared.row.Row.TheVariants as at
 use Rattle.send_core.specs.Start.{start_at}
 use Rattle.send_core.specs.Table.{act, due_at}
 use Rattle.send_jobs.specs.declared.attempts.Attempt.{Attempt}
 use Rattle.send_jobs.specs.declared.attempts.Mark.{Mark}
-use Rattle.send_jobs.specs.declared.channels.Channel.TheVariants.{Local, Remote}
+use Rattle.send_known.specs.declared.channel.Channel.TheVariants.{Local, Remote}
 use Rattle.send_jobs.specs.declared.lane.Lane.{Lane}
 use Rattle.send_jobs.specs.declared.slots.Slots.{Slots}
 use Rattle.send_jobs.specs.Lanes.{empty}
 use Rattle.send_jobs.specs.Sending.{lane}
 use Rattle.send_parts.specs.declared.book.Book.{Book}
-use Rattle.send_parts.specs.declared.link.Link.{Link}
+use Rattle.send_links.specs.declared.link.Link.{Link}
 use Rattle.send_parts.specs.declared.reading.Progress.{Progress}
 use Rattle.send_parts.specs.declared.reading.Progress.TheVariants.{Failed, Goes, Missing, Whole}
 use Rattle.send_parts.specs.declared.reading.Reading.{Reading}

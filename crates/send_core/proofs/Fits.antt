@@ -7,8 +7,8 @@ use Rattle.send_jobs.specs.declared.attempts.Attempt.{Attempt}
 use Rattle.send_jobs.specs.declared.lane.Lane.{Lane}
 use Rattle.send_jobs.specs.Passes.{attempts_of}
 use Rattle.send_jobs.specs.Slots.{attempt_in}
-use Rattle.send_parts.specs.declared.link.Link.{Link}
-use Rattle.send_parts.specs.Requests.{addressed, request_of, requests_of, to_slot}
+use Rattle.send_links.specs.declared.link.Link.{Link}
+use Rattle.send_links.specs.Requests.{addressed, request_of, requests_of, to_slot}
 use Rattle.spawn_protocol.specs.Report.{read_on}
 use Rattle.spawn_protocol.specs.Report.Reader.{AtBegin}
 use Rattle.send_core.specs.Agrees.{owed_at, task_of, unopened}

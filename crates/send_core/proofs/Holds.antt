@@ -36,8 +36,8 @@ use Rattle.queue_paths.specs.Names.Part.{Todo as TodoFile, Info as InfoFile, Loc
 use Rattle.retry_schedule.specs.Due.{first_due}
 use Rattle.send_jobs.specs.declared.attempts.Failure.{Failure}
 use Rattle.send_jobs.specs.declared.attempts.Mark.{Mark}
-use Rattle.send_jobs.specs.declared.channels.Channel.{Channel}
-use Rattle.send_jobs.specs.declared.channels.Channel.TheVariants.{Local, Remote}
+use Rattle.send_known.specs.declared.channel.Channel.{Channel}
+use Rattle.send_known.specs.declared.channel.Channel.TheVariants.{Local, Remote}
 use Rattle.send_jobs.specs.declared.jobs.Job.{Job}
 use Rattle.send_jobs.specs.Lanes.{next, job_over, left_unmarked, mark_settled}
 use Rattle.send_jobs.specs.Sending.{lane, at_lane, sent_on}
@@ -53,7 +53,8 @@ use Rattle.send_parts.specs.declared.reply.Way.{Way}
 use Rattle.send_parts.specs.declared.reply.Way.TheVariants as way
 use Rattle.send_parts.specs.declared.step.Step.{Step}
 use Rattle.send_parts.specs.declared.step.Step.TheVariants as step_at
-use Rattle.send_parts.specs.Files.{message_number, records_of}
+use Rattle.send_links.specs.Records.{records_of}
+use Rattle.send_parts.specs.Files.{message_number}
 use Rattle.send_parts.specs.Readings.{opened, read_more, reading_step}
 use Rattle.send_parts.specs.Replies.{Said, said, answered}
 use Rattle.send_parts.specs.Steps.{control_text, dir_text, due_by}
@@ -65,13 +66,13 @@ use Rattle.todo_pass.proofs.Holds.{HoldsRow, some_held, step as pass_step, uses_
 use Rattle.send_core.specs.declared.desk.Desk.{Desk}
 use Rattle.send_parts.specs.declared.rows.FinishRow.{FinishRow}
 use Rattle.send_parts.specs.declared.rows.FinishRow.TheVariants as finish
-use Rattle.send_core.specs.declared.row.MarkRow.{MarkRow}
-use Rattle.send_core.specs.declared.row.MarkRow.TheVariants as mark
-use Rattle.send_core.specs.declared.row.Marked.{Marked}
-use Rattle.send_core.specs.declared.row.Point.{Point}
-use Rattle.send_core.specs.declared.row.Point.TheVariants as point
-use Rattle.send_core.specs.declared.row.Row.{Row}
-use Rattle.send_core.specs.declared.row.Row.TheVariants as at
+use Rattle.send_parts.specs.declared.row.MarkRow.{MarkRow}
+use Rattle.send_parts.specs.declared.row.MarkRow.TheVariants as mark
+use Rattle.send_parts.specs.declared.row.Marked.{Marked}
+use Rattle.send_parts.specs.declared.row.Point.{Point}
+use Rattle.send_parts.specs.declared.row.Point.TheVariants as point
+use Rattle.send_parts.specs.declared.row.Row.{Row}
+use Rattle.send_parts.specs.declared.row.Row.TheVariants as at
 use Rattle.send_parts.specs.declared.rows.Search.{Search}
 use Rattle.send_parts.specs.declared.rows.Search.TheVariants as searches
 use Rattle.send_parts.specs.declared.rows.StartRow.{StartRow}

@@ -10,8 +10,8 @@ use Rattle.send_jobs.specs.declared.attempts.Attempt.{Attempt}
 use Rattle.send_jobs.specs.Lanes.{numbered}
 use Rattle.send_jobs.specs.Passes.{attempts_of}
 use Rattle.send_jobs.specs.Slots.{attempt_in, is_on}
-use Rattle.send_parts.specs.Files.{Within, and_then, records_from, records_of}
-use Rattle.send_parts.specs.Files.Within.{Before, In}
+use Rattle.send_links.specs.Records.{Within, and_then, records_from, records_of}
+use Rattle.send_links.specs.Records.Within.{Before, In}
 use Rattle.send_core.specs.Past.{Owed}
 use Rattle.send_core.proofs.Lists.{free_of}
 

@@ -30,19 +30,19 @@ use Rattle.call_fs.specs.Past.{IsRunBy}
 use Rattle.call_fs.specs.Program.{MayCome}
 use Rattle.queue_paths.specs.Names.{name_of, path}
 use Rattle.send_core.specs.declared.desk.Desk.{Desk}
-use Rattle.send_core.specs.declared.row.MarkRow.{MarkRow}
-use Rattle.send_core.specs.declared.row.MarkRow.TheVariants as mark
-use Rattle.send_core.specs.declared.row.Marked.{Marked}
-use Rattle.send_core.specs.declared.row.Row.{Row}
-use Rattle.send_core.specs.declared.row.Row.TheVariants as at
+use Rattle.send_parts.specs.declared.row.MarkRow.{MarkRow}
+use Rattle.send_parts.specs.declared.row.MarkRow.TheVariants as mark
+use Rattle.send_parts.specs.declared.row.Marked.{Marked}
+use Rattle.send_parts.specs.declared.row.Row.{Row}
+use Rattle.send_parts.specs.declared.row.Row.TheVariants as at
 use Rattle.send_core.specs.Desk.{is_dying, link}
 use Rattle.send_core.specs.Table.{Next, act, arrive, place_after as sender_after, due_at, file_of, row_now}
 use Rattle.send_core.specs.Turn.{note_of, told_report}
 use Rattle.send_jobs.specs.declared.attempts.Attempt.{Attempt}
 use Rattle.send_jobs.specs.declared.attempts.Failure.{Failure}
 use Rattle.send_jobs.specs.declared.attempts.Mark.{Mark}
-use Rattle.send_jobs.specs.declared.channels.Channel.{Channel}
-use Rattle.send_jobs.specs.declared.channels.Channel.TheVariants.{Local, Remote}
+use Rattle.send_known.specs.declared.channel.Channel.{Channel}
+use Rattle.send_known.specs.declared.channel.Channel.TheVariants.{Local, Remote}
 use Rattle.send_jobs.specs.declared.lane.Lane.{Lane}
 use Rattle.send_jobs.specs.Lanes.{empty, next}
 use Rattle.send_jobs.specs.Sending.{lane}
@@ -50,7 +50,7 @@ use Rattle.send_jobs.specs.Slots.{IsLeastFree, attempt_in, lowest}
 use Rattle.send_jobs.proofs.SlotLemmas.{lowest_is_least}
 use Rattle.send_known.specs.Known.{birth_of, is_known}
 use Rattle.send_known.specs.Messages.{none_known}
-use Rattle.send_parts.specs.declared.link.Link.{Link}
+use Rattle.send_links.specs.declared.link.Link.{Link}
 use Rattle.send_parts.specs.declared.reading.Reading.{Reading}
 use Rattle.send_parts.specs.declared.reading.Reading.TheVariants.{Closing, Going, Opening, Shutting}
 use Rattle.send_parts.specs.declared.rows.FinishRow.{FinishRow}
@@ -59,7 +59,7 @@ use Rattle.send_parts.specs.declared.rows.StartRow.{StartRow}
 use Rattle.send_parts.specs.declared.rows.StartRow.TheVariants as start
 use Rattle.send_parts.specs.declared.rows.SweepRow.{SweepRow}
 use Rattle.send_parts.specs.declared.rows.SweepRow.TheVariants as sweep
-use Rattle.send_parts.specs.Requests.{addressed, first_text, quiet, request_of, to_slot}
+use Rattle.send_links.specs.Requests.{addressed, first_text, quiet, request_of, to_slot}
 use Rattle.todo_pass.specs.declared.row.Row.{Row as PassRow}
 use Rattle.todo_pass.specs.declared.row.Row.TheVariants as todo
 use Rattle.todo_pass.specs.Table.{Pass}

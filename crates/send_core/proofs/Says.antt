@@ -26,10 +26,10 @@ use Rattle.queue_paths.specs.Names.Part.{Info as InfoFile, Local as LocalFile, R
 use Rattle.queue_paths.proofs.Paths.{parse-path}
 use Rattle.retry_schedule.specs.Due.{first_due}
 use Rattle.send_core.specs.declared.desk.Desk.{Desk}
-use Rattle.send_core.specs.declared.row.Point.{Point}
-use Rattle.send_core.specs.declared.row.Point.TheVariants as point
-use Rattle.send_core.specs.declared.row.Row.{Row}
-use Rattle.send_core.specs.declared.row.Row.TheVariants as at
+use Rattle.send_parts.specs.declared.row.Point.{Point}
+use Rattle.send_parts.specs.declared.row.Point.TheVariants as point
+use Rattle.send_parts.specs.declared.row.Row.{Row}
+use Rattle.send_parts.specs.declared.row.Row.TheVariants as at
 use Rattle.send_core.specs.Desk.{due_on, next_idle, ready as made_ready, sweep_due}
 use Rattle.send_core.specs.Finish.{looked_up, sweep_begun}
 use Rattle.send_core.specs.Table.{act, arrive, beginning, due_at, finishing, finishing_by, from_begin, from_local, from_point, from_remote, from_reports, from_sweep, from_take, going_on, holds, link_of, marking, marking_by, or_else, passing, sweeping, taking}
@@ -37,8 +37,8 @@ use Rattle.send_core.specs.Start.{start_at}
 use Rattle.send_core.specs.Turn.{begun_at, known_of, todo_on, todo_over, todo_went}
 use Rattle.send_jobs.specs.declared.attempts.Attempt.{Attempt}
 use Rattle.send_jobs.specs.declared.attempts.Mark.{Mark}
-use Rattle.send_jobs.specs.declared.channels.Channel.{Channel}
-use Rattle.send_jobs.specs.declared.channels.Channel.TheVariants.{Local, Remote}
+use Rattle.send_known.specs.declared.channel.Channel.{Channel}
+use Rattle.send_known.specs.declared.channel.Channel.TheVariants.{Local, Remote}
 use Rattle.send_jobs.specs.declared.slots.Slots.{Slots}
 use Rattle.send_jobs.specs.Lanes.{next}
 use Rattle.send_jobs.specs.Sending.{lane}
@@ -60,7 +60,7 @@ use Rattle.send_parts.specs.Files.{is_info, message_number, sender_in}
 use Rattle.send_parts.specs.Finish.{finish_to}
 use Rattle.send_parts.specs.Readings.{read_on}
 use Rattle.send_parts.specs.Replies.{answered, said}
-use Rattle.send_parts.specs.Requests.{addressed, first_text, request_of, to_slot}
+use Rattle.send_links.specs.Requests.{addressed, first_text, request_of, to_slot}
 use Rattle.send_parts.specs.declared.book.Book.{Book}
 use Rattle.send_parts.specs.declared.reading.Progress.TheVariants.{Goes}
 use Rattle.send_parts.specs.Start.{act_start, control_read, info_read}

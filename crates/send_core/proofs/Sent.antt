@@ -1,8 +1,8 @@
 -- What is in flight once a request was given.
 use Rattle.std.proofs.Common.{◌≡◌, drop, Bool, true, false, if◌then◌else◌, refl}
 use Rattle.std.specs.Prelude.{is_some}
-use Rattle.send_jobs.specs.declared.channels.Channel.{Channel}
-use Rattle.send_jobs.specs.declared.channels.Channel.TheVariants.{Local, Remote}
+use Rattle.send_known.specs.declared.channel.Channel.{Channel}
+use Rattle.send_known.specs.declared.channel.Channel.TheVariants.{Local, Remote}
 use Rattle.send_jobs.specs.Lanes.{next}
 use Rattle.send_jobs.specs.Sending.{lane, sent_on}
 use Rattle.send_core.specs.declared.desk.Desk.{Desk}

@@ -14,8 +14,8 @@ use Rattle.send_parts.specs.Files.{message_number, sender_in}
 use Rattle.send_known.specs.Messages.{learned}
 use Rattle.send_parts.specs.Start.{begins_at, by_way, filed, greeted_local, greeted_remote, info_row, judged_by, remote_stated, scan_next, scan_row, scanned, start_failed}
 use Rattle.todo_pass.specs.Table.{Pass}
-use Rattle.send_core.specs.declared.row.Row.{Row}
-use Rattle.send_core.specs.declared.row.Row.TheVariants as at
+use Rattle.send_parts.specs.declared.row.Row.{Row}
+use Rattle.send_parts.specs.declared.row.Row.TheVariants as at
 use Rattle.send_core.specs.Papers.{filed as filed_paper, judged}
 use Rattle.send_core.specs.Papers.Papers.{Told}
 use Rattle.send_core.proofs.Known.{Sound}

@@ -26,28 +26,28 @@ use Rattle.queue_paths.specs.Names.Name.{Of}
 use Rattle.queue_paths.specs.Names.Part.{Bounce as BounceFile, Info as InfoFile, Local as LocalFile, Remote as RemoteFile, Todo as TodoFile, Mess as MessFile}
 use Rattle.queue_paths.proofs.Paths.{parse-path}
 use Rattle.send_core.specs.declared.desk.Desk.{Desk}
-use Rattle.send_core.specs.declared.row.MarkRow.{MarkRow}
-use Rattle.send_core.specs.declared.row.MarkRow.TheVariants as mark
-use Rattle.send_core.specs.declared.row.Marked.{Marked}
-use Rattle.send_core.specs.declared.row.Point.{Point}
-use Rattle.send_core.specs.declared.row.Point.TheVariants as point
-use Rattle.send_core.specs.declared.row.Row.{Row}
-use Rattle.send_core.specs.declared.row.Row.TheVariants as at
+use Rattle.send_parts.specs.declared.row.MarkRow.{MarkRow}
+use Rattle.send_parts.specs.declared.row.MarkRow.TheVariants as mark
+use Rattle.send_parts.specs.declared.row.Marked.{Marked}
+use Rattle.send_parts.specs.declared.row.Point.{Point}
+use Rattle.send_parts.specs.declared.row.Point.TheVariants as point
+use Rattle.send_parts.specs.declared.row.Row.{Row}
+use Rattle.send_parts.specs.declared.row.Row.TheVariants as at
 use Rattle.send_core.specs.Desk.{closed, closed_by, goes, has_begun, is_dying, is_free_for, later, past_todo, request_sent, retried, stands_at, with_requests}
 use Rattle.send_core.specs.Finish.{bounce_on, finish_at, forgot, looked_up, put_off_to, returned_to, sweep_at, sweep_begun}
 use Rattle.send_core.specs.Table.{act, busy, due_at, port_of}
 use Rattle.send_core.specs.Turn.{file_read, is_done, known_of, lost, mark_over, pass_opened, put_later, todo_found, todo_named, todo_none, todo_on, todo_over, todo_went, unlinked}
 use Rattle.send_jobs.specs.declared.attempts.Attempt.{Attempt}
 use Rattle.send_jobs.specs.declared.attempts.Mark.{Mark}
-use Rattle.send_jobs.specs.declared.channels.Channel.{Channel}
-use Rattle.send_jobs.specs.declared.channels.Channel.TheVariants.{Local, Remote}
+use Rattle.send_known.specs.declared.channel.Channel.{Channel}
+use Rattle.send_known.specs.declared.channel.Channel.TheVariants.{Local, Remote}
 use Rattle.send_jobs.specs.declared.jobs.Job.{Job}
 use Rattle.send_jobs.specs.declared.lane.Lane.{Lane}
 use Rattle.send_jobs.specs.Lanes.{finished, is_in_flight, is_open_on, job_over, left_unmarked, next, mark_settled}
 use Rattle.send_jobs.specs.Sending.{at_lane, lane, sent_on}
 use Rattle.send_jobs.specs.Slots.{lowest}
 use Rattle.send_known.specs.Messages.{learned}
-use Rattle.send_parts.specs.declared.link.Link.{Link}
+use Rattle.send_links.specs.declared.link.Link.{Link}
 use Rattle.send_parts.specs.declared.reading.Progress.TheVariants.{Goes}
 use Rattle.send_parts.specs.declared.reading.Reading.{Reading}
 use Rattle.send_parts.specs.declared.reading.Reading.TheVariants.{Closing, Going, Opening, Shutting}
@@ -58,10 +58,11 @@ use Rattle.send_parts.specs.declared.rows.FinishRow.TheVariants as finish
 use Rattle.send_parts.specs.declared.rows.Search.{Search}
 use Rattle.send_parts.specs.declared.rows.SweepRow.{SweepRow}
 use Rattle.send_parts.specs.declared.rows.SweepRow.TheVariants as sweep
-use Rattle.send_parts.specs.Files.{message_number, records_of}
+use Rattle.send_links.specs.Records.{records_of}
+use Rattle.send_parts.specs.Files.{message_number}
 use Rattle.send_parts.specs.Finish.{finish_to}
 use Rattle.send_parts.specs.Replies.{Said, answered, said}
-use Rattle.send_parts.specs.Requests.{first_text}
+use Rattle.send_links.specs.Requests.{first_text}
 use Rattle.send_parts.specs.Rows.{is_again}
 use Rattle.send_parts.specs.Sweep.{sweep_to}
 use Rattle.todo_pass.specs.declared.part.Target.TheVariants as target

@@ -4,8 +4,8 @@ use Rattle.envelope_records.specs.declared.channel.Record.{Record}
 use Rattle.queue_limits.specs.declared.counts.TheConstants.{MAX_SLOTS}
 use Rattle.send_jobs.specs.declared.attempts.Attempt.{Attempt}
 use Rattle.send_jobs.specs.declared.attempts.Failure.{Failure}
-use Rattle.send_jobs.specs.declared.channels.Channel.{Channel}
-use Rattle.send_jobs.specs.declared.channels.Channel.TheVariants.{Local, Remote}
+use Rattle.send_known.specs.declared.channel.Channel.{Channel}
+use Rattle.send_known.specs.declared.channel.Channel.TheVariants.{Local, Remote}
 use Rattle.send_jobs.specs.declared.jobs.Job.{Job}
 use Rattle.send_jobs.specs.Lanes.{next, begun_by, reported, owes, left_unmarked, job_over, ended}
 use Rattle.send_jobs.specs.Sending.{lane, at_lane, sent_on}
@@ -15,12 +15,12 @@ use Rattle.send_known.specs.Known.{birth_of, sender_of, first_idle}
 use Rattle.spawn_protocol.specs.declared.report.Report.{Report}
 use Rattle.spawn_protocol.specs.Report.{Reader, counted, read_on}
 use Rattle.send_core.specs.declared.desk.Desk.{Desk}
-use Rattle.send_core.specs.declared.row.Point.{Point}
-use Rattle.send_core.specs.declared.row.Point.TheVariants as point
-use Rattle.send_core.specs.declared.row.Row.{Row}
-use Rattle.send_core.specs.declared.row.Row.TheVariants as at
-use Rattle.send_parts.specs.declared.link.Link.{Link}
-use Rattle.send_parts.specs.Requests.{requests_of, addressed}
+use Rattle.send_parts.specs.declared.row.Point.{Point}
+use Rattle.send_parts.specs.declared.row.Point.TheVariants as point
+use Rattle.send_parts.specs.declared.row.Row.{Row}
+use Rattle.send_parts.specs.declared.row.Row.TheVariants as at
+use Rattle.send_links.specs.declared.link.Link.{Link}
+use Rattle.send_links.specs.Requests.{requests_of, addressed}
 pub use Rattle.send_jobs.specs.Failures.{is_final, failure_in}
 pub use Rattle.send_jobs.specs.Lanes.{is_free_for}
 pub use Rattle.send_jobs.specs.Tries.{due_on, due_then, file_gone, moment_of}

@@ -15,7 +15,7 @@ use Rattle.send_parts.specs.Finish.{finish_to}
 use Rattle.send_parts.specs.Replies.{Said, said}
 use Rattle.send_parts.specs.Sweep.{searched, sweep_to}
 use Rattle.send_core.specs.declared.desk.Desk.{Desk}
-use Rattle.send_core.specs.declared.row.Row.TheVariants as at
+use Rattle.send_parts.specs.declared.row.Row.TheVariants as at
 use Rattle.send_core.specs.Desk.{goes, later, past_finish, turn_over}
 use Rattle.queue_limits.specs.declared.statuses.TheConstants.{NO_CLEANER}
 

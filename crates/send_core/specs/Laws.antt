@@ -17,9 +17,9 @@ use Rattle.queue_paths.specs.Names.{path, name_of}
 use Rattle.send_core.specs.Table.{file_of, port_of}
 use Rattle.send_core.specs.Turn.{told_report}
 use Rattle.send_jobs.specs.declared.attempts.Failure.{Failure}
-use Rattle.send_jobs.specs.declared.channels.Channel.{Channel}
-use Rattle.send_jobs.specs.declared.channels.Channel.TheVariants.{Local, Remote}
-use Rattle.send_parts.specs.Requests.{request_of, to_slot}
+use Rattle.send_known.specs.declared.channel.Channel.{Channel}
+use Rattle.send_known.specs.declared.channel.Channel.TheVariants.{Local, Remote}
+use Rattle.send_links.specs.Requests.{request_of, to_slot}
 use Rattle.send_core.specs.Papers.{controls_told}
 use Rattle.send_core.specs.Past.{Account, Owed, Task, account}
 use Rattle.send_core.specs.Senders.{IsSaid}

@@ -23,10 +23,10 @@ use Rattle.queue_paths.specs.Names.{Name, parse}
 use Rattle.queue_paths.specs.Names.Name.{Of}
 use Rattle.queue_paths.specs.Names.Part.{Bounce as BounceFile, Local as LocalFile, Remote as RemoteFile}
 use Rattle.send_jobs.specs.declared.attempts.Failure.{Failure}
-use Rattle.send_jobs.specs.declared.channels.Channel.{Channel}
-use Rattle.send_jobs.specs.declared.channels.Channel.TheVariants.{Local, Remote}
+use Rattle.send_known.specs.declared.channel.Channel.{Channel}
+use Rattle.send_known.specs.declared.channel.Channel.TheVariants.{Local, Remote}
 use Rattle.send_jobs.specs.Failures.{failure_in, is_final}
-use Rattle.send_parts.specs.Files.{records_of}
+use Rattle.send_links.specs.Records.{records_of}
 use Rattle.spawn_protocol.specs.declared.report.Report.{Report}
 use Rattle.spawn_protocol.specs.Report.{counted, read_on}
 use Rattle.spawn_protocol.specs.Report.Reader.{AtBegin}

@@ -7,14 +7,7 @@ use Rattle.send_parts.specs.declared.rows.StartRow.TheVariants as start
 use Rattle.send_parts.specs.Replies.{Said}
 use Rattle.send_parts.specs.Start.{act_start, remote_limit}
 use Rattle.send_core.specs.declared.desk.Desk.{Desk}
-use Rattle.send_core.specs.declared.row.Point.TheVariants as point
-use Rattle.send_core.specs.declared.row.Row.{Row}
-use Rattle.send_core.specs.declared.row.Row.TheVariants as at
-
-abbrev pub start_at : StartRow → Row
-start_at start.Over = at.Turn point.TakeLocal
-start_at (start.Ended status) = at.Ended status
-start_at row = at.Start row
+pub use Rattle.send_parts.specs.Points.{start_at}
 
 -- each channel has as many slots as its spawner's byte says, and no more than its control file
 abbrev pub slots_by : StartRow → List ℕ → Desk → Slots

@@ -6,71 +6,52 @@ use Rattle.bounce_record.specs.declared.note_row.NoteRow.TheVariants as written
 use Rattle.bounce_record.specs.declared.return_row.ReturnRow.TheVariants as back
 use Rattle.bounce_record.specs.Returning.{bare, due_by as return_due}
 use Rattle.bounce_record.specs.Writing.{Writing, due_by as note_due}
-use Rattle.call_fs.specs.declared.calls.How.TheVariants as how
 use Rattle.call_fs.specs.declared.past.GotData.{GotData}
 use Rattle.call_fs.specs.declared.past.NeedData.{NeedData}
 use Rattle.call_fs.specs.declared.past.Own.{Own}
 use Rattle.call_fs.specs.declared.program.Ready.{Ready}
-use Rattle.queue_paths.specs.declared.names.Name.TheVariants as name
 use Rattle.retry_schedule.specs.Due.{first_due}
 use Rattle.send_jobs.specs.declared.attempts.Failure.{Failure}
 use Rattle.send_jobs.specs.declared.attempts.Mark.{Mark}
-use Rattle.send_jobs.specs.declared.channels.Channel.{Channel}
-use Rattle.send_jobs.specs.declared.channels.Channel.TheVariants.{Local, Remote}
+use Rattle.send_known.specs.declared.channel.Channel.{Channel}
+use Rattle.send_known.specs.declared.channel.Channel.TheVariants.{Local, Remote}
 use Rattle.send_jobs.specs.Lanes.{next}
 use Rattle.send_jobs.specs.Sending.{lane, none_out}
 use Rattle.send_jobs.specs.Slots.{lowest}
-use Rattle.send_parts.specs.declared.dir.Dir.TheVariants as dir
 use Rattle.send_parts.specs.declared.reading.Reading.TheVariants.{Opening}
-use Rattle.send_parts.specs.declared.step.Step.{Step}
-use Rattle.send_parts.specs.declared.step.Step.TheVariants as step
 use Rattle.send_parts.specs.Lines.{finish_takes_memory}
-use Rattle.send_parts.specs.Readings.{read_on, reading_step}
+use Rattle.send_parts.specs.Readings.{read_on}
 use Rattle.send_parts.specs.Replies.{said}
 use Rattle.send_parts.specs.Steps.{due_by}
 use Rattle.todo_pass.specs.Table.{begun as pass_begun, due_by as pass_due}
 use Rattle.send_core.specs.declared.desk.Desk.{Desk}
 use Rattle.send_parts.specs.declared.rows.FinishRow.TheVariants as finish
-use Rattle.send_core.specs.declared.row.MarkRow.{MarkRow}
-use Rattle.send_core.specs.declared.row.MarkRow.TheVariants as mark
-use Rattle.send_core.specs.declared.row.Marked.{Marked}
-use Rattle.send_core.specs.declared.row.Point.{Point}
-use Rattle.send_core.specs.declared.row.Point.TheVariants as point
-use Rattle.send_core.specs.declared.row.Row.{Row}
-use Rattle.send_core.specs.declared.row.Row.TheVariants as at
+use Rattle.send_parts.specs.declared.row.MarkRow.{MarkRow}
+use Rattle.send_parts.specs.declared.row.MarkRow.TheVariants as mark
+use Rattle.send_parts.specs.declared.row.Point.{Point}
+use Rattle.send_parts.specs.declared.row.Point.TheVariants as point
+use Rattle.send_parts.specs.declared.row.Row.{Row}
+use Rattle.send_parts.specs.declared.row.Row.TheVariants as at
 use Rattle.send_parts.specs.declared.rows.Search.{Search}
 use Rattle.send_parts.specs.declared.rows.Search.TheVariants as search
 use Rattle.send_parts.specs.declared.rows.StartRow.{StartRow}
 use Rattle.send_parts.specs.declared.rows.StartRow.TheVariants as start
 use Rattle.send_parts.specs.declared.rows.SweepRow.{SweepRow}
 use Rattle.send_parts.specs.declared.rows.SweepRow.TheVariants as sweep
-use Rattle.send_parts.specs.Requests.{first_text, quiet}
-use Rattle.send_parts.specs.Rows.{finish_step, start_step, sweep_step}
+use Rattle.send_links.specs.Requests.{first_text, quiet}
 use Rattle.send_parts.specs.Start.{new_book, start_takes_memory}
 use Rattle.send_core.specs.Desk.{link, due_on, sweep_due, next_idle, ready}
 use Rattle.send_core.specs.Start.{started}
 use Rattle.send_core.specs.Turn.{act_mark, mark_takes_memory, begun_at, file_read, in_todo, requested, took, todo_named, unlinked}
 use Rattle.send_core.specs.Finish.{act_finish, act_sweep}
-pub use Rattle.send_jobs.specs.Channels.{port_of, file_of}
+pub use Rattle.send_parts.specs.Channels.{file_of, port_of}
+pub use Rattle.send_parts.specs.Points.{beginning, finishing_by, going_on, holds, link_of, or_else, taking}
+pub use Rattle.send_parts.specs.Rows.{mark_step, step_of}
 
 -- Where a step comes from: between two steps, from the first point of the turn that has something to do, by this moment and by
 -- what is ready. Nothing is changed by it, so a later look may come out otherwise.
 
-abbrev pub or_else : Option Row → Row → Row
-or_else None row = row
-or_else (Some first) row = first
-
-abbrev pub holds : Option Bool → Bool
-holds None = false
-holds (Some link) = link
-
-abbrev pub link_of : Channel → ℕ
-link_of Local = 1
-link_of Remote = 2
-
--- 1: the taking from a link that holds something or has ended
-abbrev pub taking : Channel → Ready → Option Row
-taking c ready = if holds (slice_get ready.links (link_of c)) then Some (at.TakeLink c) else None
+-- 1: the taking from a link that holds something or has ended is `taking`
 
 -- 2: the mark of the first report that waits for one; of the local spawner they were taken first
 -- it begins at its note, if it has one
@@ -89,24 +70,11 @@ abbrev pub marking : Channel → Desk → Option Row
 marking c d = marking_by c (slice_get (lane c d.slots).marks 0)
 
 -- 3: the open pass goes on while a slot is free; if none is open, one is begun for the message that is due first
-abbrev pub beginning : Channel → Bool → Option (ℕ × ℕ) → Option Row
-beginning c false entry = None
-beginning c true None = None
-beginning c true (Some e) = Some (at.ReadFile c e.1 0 Opening)
-
-abbrev pub going_on : Channel → Option ℕ → Option Row
-going_on c None = None
-going_on c (Some slot) = Some (at.Request c)
-
 abbrev pub passing : Channel → Bool → Desk → ℕ → Option Row
 passing c may d now =
     if is_some (next (lane c d.slots)) then going_on c (lowest (lane c d.slots).slots) else beginning c may (first_due now (due_on c d.book.messages))
 
 -- 5: the least number that may be finished
-abbrev pub finishing_by : Option ℕ → Option Row
-finishing_by None = None
-finishing_by (Some n) = Some (at.Finish finish.OpenBounce n)
-
 abbrev pub finishing : Desk → ℕ → Option Row
 finishing d now = finishing_by (next_idle now d)
 
@@ -147,27 +115,6 @@ arrive (at.Turn p) d now ready = from_point p d now ready
 arrive row d now ready = row
 
 -- What is done there
-
-abbrev pub mark_step : MarkRow → Marked → Step
-mark_step mark.Note m = step.Open (name.Bounce m.n) how.Append
-mark_step mark.Noting m = step.Wait
-mark_step mark.Open m = step.Open (file_of m.channel m.n) how.Write
-mark_step (mark.Write fd) m = step.Mark fd m.place
-mark_step (mark.Close fd written) m = step.Close fd
-
-abbrev pub step_of : Row → ℕ → Step
-step_of (at.Start row) read = start_step row read
-step_of (at.Turn p) read = step.Wait
-step_of (at.TakeLink c) read = step.Take (port_of c)
-step_of (at.Mark row m) read = mark_step row m
-step_of (at.UnlinkFile c n p) read = step.Unlink (file_of c n)
-step_of (at.ReadFile c n begun reading) read = reading_step reading (step.Open (file_of c n) how.Read) read
-step_of (at.Request c) read = step.Give (port_of c)
-step_of (at.FindTodo search) read = step.Search dir.Todo
-step_of at.InTodo read = step.Wait
-step_of (at.Finish row n) read = finish_step row n
-step_of (at.Sweep row) read = sweep_step row
-step_of (at.Ended status) read = step.Ended status
 
 -- after which name a search goes on: a search of the start and of the sweep after the last one, that of `todo` as it says
 abbrev pub start_words : StartRow → Desk → List ℕ

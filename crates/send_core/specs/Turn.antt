@@ -11,31 +11,30 @@ use Rattle.envelope_records.specs.declared.channel.Record.{Record}
 use Rattle.mail_bytes.specs.Decimal.{digits}
 use Rattle.send_jobs.specs.declared.attempts.Failure.{Failure}
 use Rattle.send_jobs.specs.declared.attempts.Mark.{Mark}
-use Rattle.send_jobs.specs.declared.channels.Channel.{Channel}
-use Rattle.send_jobs.specs.declared.channels.Channel.TheVariants.{Local, Remote}
+use Rattle.send_known.specs.declared.channel.Channel.{Channel}
+use Rattle.send_known.specs.declared.channel.Channel.TheVariants.{Local, Remote}
 use Rattle.send_jobs.specs.Lanes.{mark_settled, left_unmarked}
 use Rattle.send_jobs.specs.Sending.{lane, at_lane}
-use Rattle.send_known.specs.declared.known.Known.{Known}
 use Rattle.send_known.specs.Messages.{learned}
 use Rattle.send_parts.specs.declared.reading.Progress.{Progress}
 use Rattle.send_parts.specs.declared.reading.Progress.TheVariants.{Goes, Whole, Missing, Failed}
 use Rattle.send_parts.specs.declared.reading.Reading.{Reading}
 use Rattle.send_parts.specs.declared.reply.Way.{Way}
 use Rattle.send_parts.specs.declared.reply.Way.TheVariants as way
-use Rattle.send_parts.specs.Files.{message_number, records_of}
+use Rattle.send_links.specs.Records.{records_of}
+use Rattle.send_parts.specs.Files.{message_number}
 use Rattle.send_parts.specs.Replies.{Said, said}
 use Rattle.todo_pass.specs.declared.row.Row.{Row as PassRow}
 use Rattle.todo_pass.specs.declared.row.Row.TheVariants as todo
-use Rattle.todo_pass.specs.Sorting.{has}
 use Rattle.todo_pass.specs.Table.{Pass, answer_row, begun, moved}
 use Rattle.send_core.specs.declared.desk.Desk.{Desk}
-use Rattle.send_core.specs.declared.row.MarkRow.{MarkRow}
-use Rattle.send_core.specs.declared.row.MarkRow.TheVariants as mark
-use Rattle.send_core.specs.declared.row.Marked.{Marked}
-use Rattle.send_core.specs.declared.row.Point.{Point}
-use Rattle.send_core.specs.declared.row.Point.TheVariants as point
-use Rattle.send_core.specs.declared.row.Row.{Row}
-use Rattle.send_core.specs.declared.row.Row.TheVariants as at
+use Rattle.send_parts.specs.declared.row.MarkRow.{MarkRow}
+use Rattle.send_parts.specs.declared.row.MarkRow.TheVariants as mark
+use Rattle.send_parts.specs.declared.row.Marked.{Marked}
+use Rattle.send_parts.specs.declared.row.Point.{Point}
+use Rattle.send_parts.specs.declared.row.Point.TheVariants as point
+use Rattle.send_parts.specs.declared.row.Row.{Row}
+use Rattle.send_parts.specs.declared.row.Row.TheVariants as at
 use Rattle.send_parts.specs.declared.rows.Search.{Search}
 use Rattle.send_parts.specs.declared.rows.Search.TheVariants as searches
 use Rattle.send_core.specs.Desk.{goes, stands_at, later, due_again, done_with, closed, heard, is_free_for, has_begun, request_sent, past_todo}
@@ -43,6 +42,7 @@ use Rattle.send_parts.specs.Rows.{is_again}
 use Rattle.send_parts.specs.Start.{kept}
 pub use Rattle.send_parts.specs.Readings.{begun_at}
 pub use Rattle.send_parts.specs.Replies.{is_fine}
+pub use Rattle.todo_pass.specs.Known.{known_of}
 pub use Rattle.todo_pass.specs.Rows.{is_done}
 use Rattle.queue_limits.specs.declared.statuses.TheConstants.{NO_CLEANER, NO_LOCAL, NO_REMOTE}
 
@@ -153,17 +153,6 @@ todo_none again last_left now d = past_todo now d
 abbrev pub todo_named : Way → List ℕ → Search → ℕ → Desk → Desk
 todo_named way.Fine text search now d = todo_found (message_number text) text search d
 todo_named w text search now d = todo_none (is_again search) d.last_left now d
-
--- a message that was preprocessed, as it is known
-abbrev pub known_of : Pass → Known
-known_of p = record {
-  n = p.n;
-  birth = p.birth;
-  finish_at = 0;
-  local = has p.sorted.local;
-  remote = has p.sorted.remote;
-  sender = p.sorted.sender;
-}
 
 -- Without the link to the cleaner the sender ends. A pass that is left is remembered.
 abbrev pub todo_on : PassRow → Pass → ℕ → Desk → Desk

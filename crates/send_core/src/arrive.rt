@@ -1,12 +1,12 @@
 // Where a step comes from.
 ghost use Rattle.std.specs.Prelude.{◌≡◌};
 ghost use Rattle.std.specs.Option.{option_copied};
-ghost use Rattle.send_core.specs.Table.{beginning, finishing, from_begin, from_local, from_point, from_remote, from_reports, from_sweep, from_take, going_on, mark_begin, marking, marking_by, or_else, passing, row_now, sweeping, taking};
+ghost use Rattle.send_core.specs.Table.{finishing, from_begin, from_local, from_point, from_remote, from_reports, from_sweep, from_take, mark_begin, marking, marking_by, or_else, passing, row_now, sweeping, taking};
 
 use crate::{Desk, MarkRow, Marked, Point, Row};
 use call_fs::Ready;
 use send_jobs::{Channel, Mark, first_due};
-use send_parts::{FinishRow, Reading, Search, SweepRow, sweep_due};
+use send_parts::{Search, SweepRow, beginning, finishing_by, going_on, or_else, sweep_due, taking};
 
 /// The row at which a sender that keeps this is, at this moment and with this ready.
 pub fn row_now(desk: &Desk, now: u64, ready: &Ready) -> Row
@@ -82,31 +82,6 @@ fn from_remote(may: bool, desk: &Desk, now: u64) -> Row
     )
 }
 
-/// The first row if there is one, else the other.
-fn or_else(first: Option<Row>, row: Row) -> Row
-    ensures { result ≡ or_else first row }
-{
-    match first {
-        None => row,
-        Some(first) => first,
-    }
-}
-
-/// The taking from a link that holds something or has ended.
-fn taking(channel: Channel, ready: &Ready) -> Option<Row>
-    ensures { result ≡ taking channel ready.now }
-{
-    let link = match channel {
-        Channel::Local => ready.links[1],
-        Channel::Remote => ready.links[2],
-    };
-    if link {
-        Some(Row::TakeLink(channel))
-    } else {
-        None
-    }
-}
-
 /// The mark of the first report that waits for one.
 fn marking(channel: Channel, desk: &Desk) -> Option<Row>
     ensures { result ≡ marking channel desk.now }
@@ -149,39 +124,11 @@ fn passing(channel: Channel, may: bool, desk: &Desk, now: u64) -> Option<Row>
     }
 }
 
-/// The request of the next attempt, if a slot is free.
-fn going_on(channel: Channel, slot: Option<u8>) -> Option<Row>
-    ensures { result ≡ going_on channel slot }
-{
-    match slot {
-        None => None,
-        Some(_) => Some(Row::Request(channel)),
-    }
-}
-
-/// The begin of the pass over the message that is due, if there is one and a pass may begin.
-fn beginning(channel: Channel, may: bool, entry: Option<(u64, u64)>) -> Option<Row>
-    ensures { result ≡ beginning channel may entry }
-{
-    match entry {
-        Some(entry) if may => Some(Row::ReadFile {
-            channel,
-            n: entry.1,
-            begun: 0,
-            reading: Reading::Opening,
-        }),
-        _ => None,
-    }
-}
-
 /// The least number that may be finished.
 fn finishing(desk: &Desk, now: u64) -> Option<Row>
     ensures { result ≡ finishing desk.now now }
 {
-    match desk.next_idle(now) {
-        None => None,
-        Some(n) => Some(Row::Finish(FinishRow::OpenBounce, n)),
-    }
+    finishing_by(desk.next_idle(now))
 }
 
 /// The sweep, if it is due.

@@ -7,7 +7,8 @@ use envelope_records::Record;
 use mail_bytes::{Memory, NameBuf};
 use send_jobs::{Channel, Job, Slots, due_then, retry};
 use send_known::NEVER;
-use send_parts::{Book, Link, Requests, sweep_due};
+use send_links::{Link, Requests};
+use send_parts::{Book, sweep_due};
 use std::alloc::Global;
 use todo_pass::Pass;
 

@@ -15,8 +15,9 @@ use crate::{Desk, Point, Row};
 use envelope_records::Record;
 use mail_bytes::Memory;
 use send_jobs::{Channel, due_again, put_starting, status_if};
+use send_links::records_in;
 use send_log::Log;
-use send_parts::{Progress, Reading, Reply, Way, keep, read_on, records_in};
+use send_parts::{Progress, Reading, Reply, Way, keep, read_on};
 use std::alloc::Global;
 
 /// A step of reading a channel file, whose pass begins or began then. After an `Err` all is as before.

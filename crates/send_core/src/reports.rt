@@ -2,7 +2,8 @@
 ghost use Rattle.std.specs.Prelude.{◌≡◌, ◌≤◌, ◌+◌, ◌++◌, OnOk, OnErr};
 ghost use Rattle.mail_bytes.specs.Moments.{IsMoment};
 ghost use Rattle.send_jobs.specs.Lines.{settled_room};
-ghost use Rattle.send_parts.specs.Lines.{if_fine, reports_room};
+ghost use Rattle.send_links.specs.Rooms.{reports_room};
+ghost use Rattle.send_parts.specs.Lines.{if_fine};
 ghost use Rattle.send_parts.specs.Replies.{said_of};
 ghost use Rattle.send_core.specs.Desk.{deferred, heard, retried_if, settle, told, told_all, with_reader};
 ghost use Rattle.send_core.specs.Log.{report_lines_on, taken_lines, told_lines};
@@ -14,8 +15,9 @@ use queue_limits::{MAX_SLOTS, NO_LOCAL, NO_REMOTE};
 use send_jobs::{
     Attempt, Channel, Job, Mark, done_with, due_again, failure_in, is_final, put_settled,
 };
+use send_links::make_room;
 use send_log::{Line, Log};
-use send_parts::{Reply, Way, make_room};
+use send_parts::{Reply, Way};
 use spawn_protocol::{Report, ReportReader};
 use std::alloc::Global;
 

@@ -10,15 +10,16 @@ ghost use Rattle.send_core.specs.Table.{Next, begun, due_at, takes_memory};
 
 use crate::act::go_on;
 use crate::arrive::row_now;
-use crate::steps::{step_of, words_of};
+use crate::steps::words_of;
 use crate::{Desk, MarkRow, Point, Row};
 use address_rules::ControlFile;
 use bounce_record::{BounceSender, NoteWriter};
 use call_fs::{Got, Need, Ready};
 use mail_bytes::{Memory, NameBuf};
 use send_jobs::{Channel, Marks, Slots};
+use send_links::Link;
 use send_log::Log;
-use send_parts::{Book, FinishRow, Link, NamedStep, Reading, StartRow};
+use send_parts::{Book, FinishRow, NamedStep, Reading, StartRow, step_of};
 use std::alloc::Global;
 use std::marker::Model;
 use todo_pass::Pass;

@@ -3,14 +3,14 @@ ghost use Rattle.std.specs.Prelude.{◌≡◌, ◌++◌, false, IsOk, OnOk, OnEr
 ghost use Rattle.send_parts.specs.Replies.{said_of};
 ghost use Rattle.send_parts.specs.Start.{start_takes_memory};
 ghost use Rattle.send_core.specs.Log.{start_lines};
-ghost use Rattle.send_core.specs.Start.{entered, start_at, started};
+ghost use Rattle.send_core.specs.Start.{entered, started};
 
-use crate::{Desk, Point, Row};
+use crate::Desk;
 use mail_bytes::Memory;
 use send_jobs::Slots;
 use send_log::{LINE_ROOM, Log};
 use send_parts::{
-    Reply, StartRow, act_start, is_info, is_skipped, put_skipped, read_on, remote_limit,
+    Reply, StartRow, act_start, is_info, is_skipped, put_skipped, read_on, remote_limit, start_at,
 };
 use std::alloc::Global;
 
@@ -64,15 +64,4 @@ fn entered(
         _ => act_start(&mut desk.book, alloc, row, reply)?,
     }
     Ok(())
-}
-
-/// The row at which the sender then stands.
-fn start_at(row: StartRow) -> Row
-    ensures { result ≡ start_at row }
-{
-    match row {
-        StartRow::Over => Row::Turn(Point::TakeLocal),
-        StartRow::Ended(status) => Row::Ended(status),
-        row => Row::Start(row),
-    }
 }

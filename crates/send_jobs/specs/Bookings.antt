@@ -1,6 +1,6 @@
 -- What a sender did of which its books tell.
 use Rattle.std.specs.Prelude.{ℕ, List, Bool}
-use Rattle.send_jobs.specs.declared.channels.Channel.{Channel}
+use Rattle.send_known.specs.declared.channel.Channel.{Channel}
 
 pub data Booking : Type 0 where
   -- A final report was taken of the recipient at this place: that it was delivered to, or that it failed for good.

@@ -1,4 +1,4 @@
--- the two channels
+-- the schedule of a channel
 pub mod Channels
 -- what is in flight
 pub mod Slots

@@ -1,8 +1,8 @@
 -- Both channels of the sender, and how many deliveries it has begun.
 use Rattle.std.specs.Prelude.{ℕ, Option, Some, None}
 use Rattle.mail_bytes.specs.Told.{raised}
-use Rattle.send_jobs.specs.declared.channels.Channel.{Channel}
-use Rattle.send_jobs.specs.declared.channels.Channel.TheVariants.{Local, Remote}
+use Rattle.send_known.specs.declared.channel.Channel.{Channel}
+use Rattle.send_known.specs.declared.channel.Channel.TheVariants.{Local, Remote}
 use Rattle.send_jobs.specs.declared.lane.Lane.{Lane}
 use Rattle.send_jobs.specs.declared.slots.Slots.{Slots}
 use Rattle.send_jobs.specs.Lanes.{empty, sent}

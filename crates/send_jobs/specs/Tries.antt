@@ -2,8 +2,8 @@
 use Rattle.std.specs.Prelude.{ℕ, List, min}
 use Rattle.retry_schedule.specs.Due.{moved}
 use Rattle.retry_schedule.specs.Retry.{next_retry}
-use Rattle.send_jobs.specs.declared.channels.Channel.{Channel}
-use Rattle.send_jobs.specs.declared.channels.Channel.TheVariants.{Local, Remote}
+use Rattle.send_known.specs.declared.channel.Channel.{Channel}
+use Rattle.send_known.specs.declared.channel.Channel.TheVariants.{Local, Remote}
 use Rattle.send_jobs.specs.Channels.{skip_of}
 use Rattle.send_known.specs.declared.messages.Messages.{Messages}
 use Rattle.send_known.specs.Known.{birth_of}

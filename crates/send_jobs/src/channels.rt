@@ -1,41 +1,11 @@
-// The two channels.
+// The schedule of a channel.
 ghost use Rattle.std.specs.Prelude.{◌≡◌, ◌≤◌};
 ghost use Rattle.mail_bytes.specs.Moments.{IsMoment};
 ghost use Rattle.retry_schedule.specs.Retry.{next_retry};
-ghost use Rattle.send_jobs.specs.Channels.{file_of, port_of, skip_of};
+ghost use Rattle.send_jobs.specs.Channels.{skip_of};
 
-use call_fs::Port;
-use queue_paths::Name;
 use retry_schedule::next_retry;
-
-/// The channel of a recipient.
-#[derive(Clone, Copy, Debug, PartialEq, Eq)]
-pub enum Channel {
-    /// By qmail-lspawn(8).
-    Local,
-    /// By qmail-rspawn(8).
-    Remote,
-}
-
-/// The port of the spawner of a channel.
-pub fn port_of(channel: Channel) -> Port
-    ensures { result ≡ port_of channel }
-{
-    match channel {
-        Channel::Local => Port::Lspawn,
-        Channel::Remote => Port::Rspawn,
-    }
-}
-
-/// The channel file of a message.
-pub fn file_of(channel: Channel, n: u64) -> Name
-    ensures { result ≡ file_of channel n }
-{
-    match channel {
-        Channel::Local => Name::Local(n),
-        Channel::Remote => Name::Remote(n),
-    }
-}
+use send_known::Channel;
 
 /// By how much the root of a message's age grows from one try to the next.
 fn skip_of(channel: Channel) -> u64

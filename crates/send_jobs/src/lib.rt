@@ -37,10 +37,11 @@ mod slots;
 mod tries;
 
 pub use attempts::{Attempt, Failure, Mark, failure_in, is_final};
-pub use channels::{Channel, file_of, port_of, retry_at};
+pub use channels::retry_at;
 pub use jobs::Job;
 pub use laws::{jobs_are_a_map, marks_have_room, slots_are_sound};
 pub use lines::{put_settled, put_starting, put_status, status_if};
 pub use marks::Marks;
+pub use send_known::Channel;
 pub use slots::{OutOfRange, Slots};
 pub use tries::{done_with, due_again, due_then, first_due, retry};

@@ -5,8 +5,9 @@ ghost use Rattle.send_jobs.specs.Lines.{channel_word, settled_lines, settled_roo
 ghost use Rattle.send_jobs.specs.Sending.{lane};
 ghost use Rattle.send_log.specs.Lines.{address_of, channel_of};
 
-use crate::{Attempt, Channel, Slots};
+use crate::{Attempt, Slots};
 use mail_bytes::Memory;
+use send_known::Channel;
 use send_log::{LINE_ROOM, Line, Load, Log, Outcome, Target};
 
 /// Puts the line of what is in flight. The condition: there is room for it.

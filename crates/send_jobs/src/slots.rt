@@ -1,13 +1,13 @@
 // The slots, passes, marks and jobs of both channels.
 
 use crate::attempts::{Attempt, Mark};
-use crate::channels::Channel;
 use crate::jobs::Job;
 use crate::lane::Lane;
 use crate::marks::Marks;
 use envelope_records::Record;
 use mail_bytes::Memory;
 use queue_limits::MAX_SLOTS;
+use send_known::Channel;
 use std::alloc::Global;
 use thiserror::Error;
 

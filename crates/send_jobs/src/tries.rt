@@ -6,10 +6,10 @@ ghost use Rattle.send_jobs.specs.Lanes.{ended};
 ghost use Rattle.send_jobs.specs.Sending.{at_lane};
 ghost use Rattle.send_jobs.specs.Tries.{due_on, due_then, file_gone, moment_of, retry_of};
 
-use crate::channels::{Channel, retry_at};
+use crate::channels::retry_at;
 use crate::slots::Slots;
 use mail_bytes::LAST_MOMENT;
-use send_known::Messages;
+use send_known::{Channel, Messages};
 
 /// The message that is due first on a channel, with the moment before it.
 pub fn first_due(messages: &Messages, channel: Channel, now: u64) -> Option<(u64, u64)>

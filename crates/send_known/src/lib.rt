@@ -1,5 +1,5 @@
 //! The messages that the sender knows: their birth and sender, which of their channel files are there, when each channel of
-//! each is due, and which may be finished (qmail-send(8); INTERNALS, section 6).
+//! each is due, and which may be finished (qmail-send(8); INTERNALS, section 6). And the two channels themselves (`Channel`).
 //!
 //! The contract of this crate: each call of `Messages` does what the definition of the same name does to the list of known
 //! messages, in order of number, and to the two schedules. Only `learn` may answer that there is no memory, and then nothing changed.
@@ -15,8 +15,10 @@
 #![tactic(auto)]
 
 mod by_number;
+mod channel;
 mod known;
 mod messages;
 
+pub use channel::Channel;
 pub use known::{Known, KnownList};
 pub use messages::{Messages, NEVER};

@@ -6,10 +6,12 @@ pub mod Replies
 pub mod Readings
 -- what the files that it reads say
 pub mod Files
--- requests as they lie ready, and the link to a spawner
-pub mod Requests
--- what is done at rows of the table that stand by themselves
+-- the link and the files of a channel
+pub mod Channels
+-- what is done at a row of the table
 pub mod Rows
+-- where a step comes from and leads by what is ready and the channel alone
+pub mod Points
 -- the start
 pub mod Start
 -- the finish of a message

@@ -1,6 +1,5 @@
--- Lines of the sender's log (qmail-log(5)): those of the start and of a finish, and the room of those of reports.
-use Rattle.std.specs.Prelude.{ℕ, ◌+◌, List, [], ◌∷◌, length, Bool, true, false, not}
-use Rattle.send_log.specs.declared.lines.TheConstants.{LINE_ROOM}
+-- Lines of the sender's log (qmail-log(5)): those of the start and of a finish.
+use Rattle.std.specs.Prelude.{ℕ, List, [], Bool, true, false, not}
 use Rattle.send_log.specs.Lines.{end_message, skipped}
 use Rattle.send_parts.specs.declared.reading.Progress.{Progress}
 use Rattle.send_parts.specs.declared.reading.Progress.TheVariants.{Goes, Whole, Missing, Failed}
@@ -8,7 +7,6 @@ use Rattle.send_parts.specs.declared.reply.Way.{Way}
 use Rattle.send_parts.specs.declared.reply.Way.TheVariants as way
 use Rattle.send_parts.specs.declared.rows.FinishRow.{FinishRow}
 use Rattle.send_parts.specs.declared.rows.FinishRow.TheVariants as finish
-use Rattle.spawn_protocol.specs.declared.report.Report.{Report}
 
 -- an info file of the start scan that is missing, or isn't one: it is passed over
 abbrev pub is_skipped : Progress → Bool → Bool
@@ -35,8 +33,3 @@ abbrev pub finish_takes_memory : FinishRow → Bool
 finish_takes_memory finish.Return = true
 finish_takes_memory finish.Take = true
 finish_takes_memory row = false
-
--- how much room the lines of reports take at most: two for each
-abbrev pub reports_room : List Report → ℕ
-reports_room [] = 0
-reports_room (r ∷ rs) = (LINE_ROOM + LINE_ROOM + length r.text) + reports_room rs

@@ -1,24 +1,9 @@
 // What the files and names that the sender reads say.
 ghost use Rattle.std.specs.Prelude.{◌≡◌, ◌≤◌, ◌<◌, ◌+◌, ◌++◌, take, length, position, IfOk, IfSome};
-ghost use Rattle.std.specs.Option.{option_map};
-ghost use Rattle.mail_bytes.specs.Decimal.{digits};
-ghost use Rattle.send_parts.specs.Files.{begins_by, cut_at, before_nul, from_one, is_info, is_nul, message_number, records_of, sender_in};
+ghost use Rattle.send_parts.specs.Files.{begins_by, cut_at, before_nul, from_one, is_info, is_nul, message_number, sender_in};
 
-use envelope_records::{Record, RecordError, records};
-use mail_bytes::{ByteText, Memory, NameBuf, dec, undec};
-use std::alloc::{AllocError, Global};
-
-/// The records of a channel file; `None` if it has anything but records. Fails only if out of memory.
-pub fn records_in(alloc: Global, bytes: &[u8]) -> Result<Option<Vec<Record>>, Memory>
-    ensures { IfOk result (λ found. option_map (λ (v : _). v.items) found ≡ records_of bytes.now) }
-{
-    match records(alloc, bytes) {
-        Ok(found) => Ok(Some(found)),
-        Err(RecordError::Memory) => Err(AllocError),
-        Err(RecordError::Letter { .. }) => Ok(None),
-        Err(RecordError::Unended { .. }) => Ok(None),
-    }
-}
+use mail_bytes::{ByteText, Memory, NameBuf, undec};
+use std::alloc::Global;
 
 /// Whether it is the text of an info file: `F`, an address, NUL.
 pub fn is_info(text: &[u8]) -> bool
@@ -107,17 +92,6 @@ fn prefix(text: &[u8]) -> &[u8]
 {
     let len = text.len().min(255);
     &text[..len]
-}
-
-/// The digits of a number. Takes no memory.
-pub fn number_text(n: u64) -> NameBuf
-    ensures { result ≡ digits n }
-{
-    let mut name = NameBuf::new();
-    let mut text = [0; 20];
-    let len = dec(n, &mut text);
-    put(&mut name, &text[..len]);
-    name
 }
 
 /// Puts bytes at the end. The condition: there is room for them.

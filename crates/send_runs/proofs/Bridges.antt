@@ -9,21 +9,21 @@ use Rattle.send_core.proofs.Standing.{Early, FitAt, Half, InMark, InStart}
 use Rattle.send_core.specs.Agrees.{Agrees, has_ended, task_of}
 use Rattle.send_core.specs.Past.{Account, Owed, Task, Work}
 use Rattle.send_core.specs.declared.desk.Desk.{Desk}
-use Rattle.send_core.specs.declared.row.MarkRow.{MarkRow}
-use Rattle.send_core.specs.declared.row.MarkRow.TheVariants as mark
-use Rattle.send_core.specs.declared.row.Marked.{Marked}
-use Rattle.send_core.specs.declared.row.Row.{Row}
-use Rattle.send_core.specs.declared.row.Row.TheVariants as at
+use Rattle.send_parts.specs.declared.row.MarkRow.{MarkRow}
+use Rattle.send_parts.specs.declared.row.MarkRow.TheVariants as mark
+use Rattle.send_parts.specs.declared.row.Marked.{Marked}
+use Rattle.send_parts.specs.declared.row.Row.{Row}
+use Rattle.send_parts.specs.declared.row.Row.TheVariants as at
 use Rattle.send_jobs.specs.declared.attempts.Attempt.{Attempt}
 use Rattle.send_jobs.specs.declared.attempts.Mark.{Mark}
-use Rattle.send_jobs.specs.declared.channels.Channel.{Channel}
-use Rattle.send_jobs.specs.declared.channels.Channel.TheVariants.{Local, Remote}
+use Rattle.send_known.specs.declared.channel.Channel.{Channel}
+use Rattle.send_known.specs.declared.channel.Channel.TheVariants.{Local, Remote}
 use Rattle.send_jobs.specs.declared.lane.Lane.{Lane}
 use Rattle.send_jobs.specs.declared.slots.Slots.{Slots}
 use Rattle.send_jobs.specs.Lanes.{is_in_flight, is_mark_on, is_open_on}
 use Rattle.send_jobs.specs.Sending.{lane}
 use Rattle.send_jobs.specs.Slots.{attempt_in, is_on}
-use Rattle.send_parts.specs.declared.link.Link.{Link}
+use Rattle.send_links.specs.declared.link.Link.{Link}
 use Rattle.send_parts.specs.declared.rows.StartRow.{StartRow}
 use Rattle.send_parts.specs.declared.rows.StartRow.TheVariants as start
 use Rattle.send_runs.specs.DueMoments.{is_owed}

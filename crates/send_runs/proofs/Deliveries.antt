@@ -36,19 +36,19 @@ use Rattle.send_core.specs.Past.Happening.{Gives, Nothing}
 use Rattle.send_core.specs.Table.{Next, act, place_after as sender_after, due_at, port_of, row_now}
 use Rattle.send_core.specs.Turn.{took}
 use Rattle.send_core.specs.declared.desk.Desk.{Desk}
-use Rattle.send_core.specs.declared.row.MarkRow.{MarkRow}
-use Rattle.send_core.specs.declared.row.MarkRow.TheVariants as mark
-use Rattle.send_core.specs.declared.row.Marked.{Marked}
-use Rattle.send_core.specs.declared.row.Point.{Point}
-use Rattle.send_core.specs.declared.row.Point.TheVariants as point
-use Rattle.send_core.specs.declared.row.Row.{Row}
-use Rattle.send_core.specs.declared.row.Row.TheVariants as at
+use Rattle.send_parts.specs.declared.row.MarkRow.{MarkRow}
+use Rattle.send_parts.specs.declared.row.MarkRow.TheVariants as mark
+use Rattle.send_parts.specs.declared.row.Marked.{Marked}
+use Rattle.send_parts.specs.declared.row.Point.{Point}
+use Rattle.send_parts.specs.declared.row.Point.TheVariants as point
+use Rattle.send_parts.specs.declared.row.Row.{Row}
+use Rattle.send_parts.specs.declared.row.Row.TheVariants as at
 use Rattle.send_jobs.specs.declared.attempts.Attempt.{Attempt}
 use Rattle.send_jobs.specs.declared.attempts.Mark.{Mark}
-use Rattle.send_jobs.specs.declared.channels.Channel.{Channel}
-use Rattle.send_jobs.specs.declared.channels.Channel.TheVariants.{Local, Remote}
+use Rattle.send_known.specs.declared.channel.Channel.{Channel}
+use Rattle.send_known.specs.declared.channel.Channel.TheVariants.{Local, Remote}
 use Rattle.send_jobs.specs.declared.slots.Slots.{Slots}
-use Rattle.send_jobs.specs.Channels.{file_of}
+use Rattle.send_parts.specs.Channels.{file_of}
 use Rattle.send_jobs.proofs.SlotLemmas.{lowest_is_least}
 use Rattle.send_jobs.specs.declared.lane.Lane.{Lane}
 use Rattle.send_jobs.specs.Lanes.{next, numbered, reported, sent, sent_in}
@@ -57,7 +57,7 @@ use Rattle.send_jobs.specs.Sending.{at_lane, lane, next_delivery, none_out, sent
 use Rattle.send_jobs.specs.Slots.{IsLeastFree, attempt_in, lowest}
 use Rattle.send_log.specs.Lines.{starting}
 use Rattle.send_parts.specs.Readings.{reading_step}
-use Rattle.send_parts.specs.Requests.{first_text, request_of, to_slot}
+use Rattle.send_links.specs.Requests.{first_text, request_of, to_slot}
 use Rattle.send_parts.specs.Start.{remote_limit}
 use Rattle.send_parts.specs.Replies.{said}
 use Rattle.send_parts.specs.Steps.{due_by}

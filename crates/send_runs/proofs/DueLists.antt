@@ -4,8 +4,8 @@ use Rattle.std.specs.Prelude.{◌==◌}
 use Rattle.std.proofs.lemmas.Bool.{or_left, or_right}
 use Rattle.call_fs.specs.Disk.{Among}
 use Rattle.retry_schedule.specs.Due.{added, before, is_due, moved, put, removed}
-use Rattle.send_jobs.specs.declared.channels.Channel.{Channel}
-use Rattle.send_jobs.specs.declared.channels.Channel.TheVariants.{Local, Remote}
+use Rattle.send_known.specs.declared.channel.Channel.{Channel}
+use Rattle.send_known.specs.declared.channel.Channel.TheVariants.{Local, Remote}
 use Rattle.send_jobs.specs.declared.jobs.Job.{Job}
 use Rattle.send_jobs.specs.Jobs.{is_job_of, job_of, new_job, put as put_job, unmark, unmarked_if, without}
 use Rattle.send_jobs.specs.Tries.{due_on, due_then, file_gone}

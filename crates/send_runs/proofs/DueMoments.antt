@@ -47,19 +47,20 @@ use Rattle.send_core.specs.Senders.{IsSaid}
 use Rattle.send_core.specs.Table.{Next, act, busy, place_after, due_at, row_now}
 use Rattle.send_core.specs.Turn.{file_read, known_of, pass_opened, put_later, todo_on, todo_over, todo_went, took, unlinked}
 use Rattle.send_core.specs.declared.desk.Desk.{Desk}
-use Rattle.send_core.specs.declared.row.MarkRow.{MarkRow}
-use Rattle.send_core.specs.declared.row.Marked.{Marked}
-use Rattle.send_core.specs.declared.row.Point.{Point}
-use Rattle.send_core.specs.declared.row.Point.TheVariants as point
-use Rattle.send_core.specs.declared.row.Row.{Row}
-use Rattle.send_core.specs.declared.row.Row.TheVariants as at
+use Rattle.send_parts.specs.declared.row.MarkRow.{MarkRow}
+use Rattle.send_parts.specs.declared.row.Marked.{Marked}
+use Rattle.send_parts.specs.declared.row.Point.{Point}
+use Rattle.send_parts.specs.declared.row.Point.TheVariants as point
+use Rattle.send_parts.specs.declared.row.Row.{Row}
+use Rattle.send_parts.specs.declared.row.Row.TheVariants as at
 use Rattle.send_jobs.specs.declared.attempts.Attempt.{Attempt}
 use Rattle.send_jobs.specs.declared.attempts.Failure.{Failure}
 use Rattle.send_jobs.specs.declared.attempts.Mark.{Mark}
-use Rattle.send_jobs.specs.declared.channels.Channel.{Channel}
-use Rattle.send_jobs.specs.declared.channels.Channel.TheVariants.{Local, Remote}
+use Rattle.send_known.specs.declared.channel.Channel.{Channel}
+use Rattle.send_known.specs.declared.channel.Channel.TheVariants.{Local, Remote}
 use Rattle.send_jobs.specs.declared.jobs.Job.{Job}
-use Rattle.send_jobs.specs.Channels.{file_of, skip_of}
+use Rattle.send_jobs.specs.Channels.{skip_of}
+use Rattle.send_parts.specs.Channels.{file_of}
 use Rattle.send_jobs.specs.declared.lane.Lane.{Lane}
 use Rattle.send_jobs.specs.Jobs.{job_of, new_job}
 use Rattle.send_jobs.proofs.JobLemmas.{job_put}
@@ -83,7 +84,8 @@ use Rattle.send_parts.specs.declared.rows.Search.{Search}
 use Rattle.send_parts.specs.declared.rows.StartRow.{StartRow}
 use Rattle.send_parts.specs.declared.rows.StartRow.TheVariants as start
 use Rattle.send_parts.specs.declared.rows.SweepRow.{SweepRow}
-use Rattle.send_parts.specs.Files.{records_of, sender_in}
+use Rattle.send_links.specs.Records.{records_of}
+use Rattle.send_parts.specs.Files.{sender_in}
 use Rattle.send_parts.specs.Finish.{finish_to}
 use Rattle.send_parts.specs.Readings.{read_more, read_on}
 use Rattle.send_parts.specs.Replies.{answered as replied, said}

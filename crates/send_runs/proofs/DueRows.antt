@@ -27,22 +27,22 @@ use Rattle.send_core.specs.Past.{Account, Task, Work, tasks_by}
 use Rattle.send_core.specs.Table.{act, busy, due_at}
 use Rattle.send_core.specs.Turn.{begin_note, file_read, lost, mark_over, noted_at, pass_opened, put_later, took, unlinked}
 use Rattle.send_core.specs.declared.desk.Desk.{Desk}
-use Rattle.send_core.specs.declared.row.MarkRow.TheVariants as mark
-use Rattle.send_core.specs.declared.row.MarkRow.{MarkRow}
-use Rattle.send_core.specs.declared.row.Marked.{Marked}
-use Rattle.send_core.specs.declared.row.Point.TheVariants as point
-use Rattle.send_core.specs.declared.row.Point.{Point}
-use Rattle.send_core.specs.declared.row.Row.{Row}
+use Rattle.send_parts.specs.declared.row.MarkRow.TheVariants as mark
+use Rattle.send_parts.specs.declared.row.MarkRow.{MarkRow}
+use Rattle.send_parts.specs.declared.row.Marked.{Marked}
+use Rattle.send_parts.specs.declared.row.Point.TheVariants as point
+use Rattle.send_parts.specs.declared.row.Point.{Point}
+use Rattle.send_parts.specs.declared.row.Row.{Row}
 use Rattle.send_jobs.proofs.JobLemmas.{job_put}
-use Rattle.send_jobs.specs.Channels.{file_of}
+use Rattle.send_parts.specs.Channels.{file_of}
 use Rattle.send_jobs.specs.Jobs.{job_of, new_job, put, without}
 use Rattle.send_jobs.specs.Lanes.{begun_by, ended, is_in_flight, is_mark_on, job_over, left_unmarked, mark_settled}
 use Rattle.send_jobs.specs.Passes.{attempts_of}
 use Rattle.send_jobs.specs.Sending.{at_lane, lane}
 use Rattle.send_jobs.specs.Slots.{is_on}
 use Rattle.send_jobs.specs.declared.attempts.Attempt.{Attempt}
-use Rattle.send_jobs.specs.declared.channels.Channel.TheVariants.{Local, Remote}
-use Rattle.send_jobs.specs.declared.channels.Channel.{Channel}
+use Rattle.send_known.specs.declared.channel.Channel.TheVariants.{Local, Remote}
+use Rattle.send_known.specs.declared.channel.Channel.{Channel}
 use Rattle.send_jobs.specs.declared.jobs.Job.{Job}
 use Rattle.send_jobs.specs.declared.lane.Lane.{Lane}
 use Rattle.send_jobs.specs.declared.slots.Slots.{Slots}
@@ -67,7 +67,7 @@ use Rattle.std.proofs.Common.{Bool, List, None, Option, Some, [], ap, eq-eqb, eq
 use Rattle.std.proofs.lemmas.Bool.{cases_eq, cond-false, cond-true, ne_eqb}
 use Rattle.std.specs.List.{list_any}
 use Rattle.std.specs.Prelude.{is_none, is_some, slice_get, ◌&&◌, ◌==◌}
-use Rattle.send_core.specs.declared.row.Row.TheVariants as at
+use Rattle.send_parts.specs.declared.row.Row.TheVariants as at
 use Rattle.std.proofs.Math.Bool.{and-false}
 
 -- no mark is at work

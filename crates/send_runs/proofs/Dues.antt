@@ -39,19 +39,19 @@ use Rattle.send_core.specs.Start.{start_at, started}
 use Rattle.send_core.specs.Table.{Next, act, arrive, busy, place_after, due_at, from_point, port_of, row_now}
 use Rattle.send_core.specs.Turn.{file_read, known_of, todo_on, todo_over, todo_went}
 use Rattle.send_core.specs.declared.desk.Desk.{Desk}
-use Rattle.send_core.specs.declared.row.MarkRow.{MarkRow}
-use Rattle.send_core.specs.declared.row.Marked.{Marked}
-use Rattle.send_core.specs.declared.row.Point.TheVariants as point
-use Rattle.send_core.specs.declared.row.Row.TheVariants as at
-use Rattle.send_core.specs.declared.row.Row.{Row}
+use Rattle.send_parts.specs.declared.row.MarkRow.{MarkRow}
+use Rattle.send_parts.specs.declared.row.Marked.{Marked}
+use Rattle.send_parts.specs.declared.row.Point.TheVariants as point
+use Rattle.send_parts.specs.declared.row.Row.TheVariants as at
+use Rattle.send_parts.specs.declared.row.Row.{Row}
 use Rattle.send_jobs.specs.Jobs.{job_of}
 use Rattle.send_jobs.specs.Lanes.{is_in_flight, next, sent, sent_in}
 use Rattle.send_jobs.specs.Sending.{at_lane, lane, next_delivery, none_out, sent_as, sent_on}
 use Rattle.send_jobs.specs.Slots.{lowest}
 use Rattle.send_jobs.specs.Tries.{due_on}
 use Rattle.send_jobs.specs.declared.attempts.Attempt.{Attempt}
-use Rattle.send_jobs.specs.declared.channels.Channel.TheVariants.{Local, Remote}
-use Rattle.send_jobs.specs.declared.channels.Channel.{Channel}
+use Rattle.send_known.specs.declared.channel.Channel.TheVariants.{Local, Remote}
+use Rattle.send_known.specs.declared.channel.Channel.{Channel}
 use Rattle.send_jobs.specs.declared.jobs.Job.{Job}
 use Rattle.send_jobs.specs.declared.lane.Lane.{Lane}
 use Rattle.send_jobs.specs.declared.slots.Slots.{Slots}
@@ -76,11 +76,12 @@ use Rattle.send_runs.proofs.Unlinks.{sent_busy, unlinks_row}
 use Rattle.send_runs.specs.DueMoments.Shift.{Learns, Same}
 use Rattle.send_runs.specs.DueMoments.{Shift, Trial, closed, found, has_unlinked, is_unlink, is_whole, shift, shift_by, shift_if, trial}
 use Rattle.send_runs.specs.Dues.{DueExactly, due_by, due_in, flies, is_marking, is_over, is_task, over_at, pass_in, retry_at, unlinks}
-use Rattle.send_parts.specs.Files.{records_of, sender_in}
+use Rattle.send_links.specs.Records.{records_of}
+use Rattle.send_parts.specs.Files.{sender_in}
 use Rattle.send_parts.specs.Finish.{finish_to}
 use Rattle.send_parts.specs.Readings.{read_more, read_on}
 use Rattle.send_parts.specs.Replies.{answered as replied, said}
-use Rattle.send_parts.specs.Requests.{first_text, request_of, to_slot}
+use Rattle.send_links.specs.Requests.{first_text, request_of, to_slot}
 use Rattle.send_parts.specs.Start.{remote_limit, remote_stated}
 use Rattle.send_parts.specs.Steps.{remove_text}
 use Rattle.send_parts.specs.Sweep.{sweep_to}

@@ -6,8 +6,8 @@ use Rattle.call_fs.specs.declared.past.Own.{Own}
 use Rattle.retry_schedule.proofs.Entries.{in_added, in_removed}
 use Rattle.retry_schedule.specs.Due.{HasEntry, is_due, moved, put, removed}
 use Rattle.send_core.specs.Table.{place_after}
-use Rattle.send_jobs.specs.declared.channels.Channel.{Channel}
-use Rattle.send_jobs.specs.declared.channels.Channel.TheVariants.{Local, Remote}
+use Rattle.send_known.specs.declared.channel.Channel.{Channel}
+use Rattle.send_known.specs.declared.channel.Channel.TheVariants.{Local, Remote}
 use Rattle.send_jobs.specs.Tries.{due_then, file_gone}
 use Rattle.send_known.specs.Known as known
 use Rattle.send_known.specs.declared.known.Known.{Known}

@@ -35,21 +35,22 @@ use Rattle.send_core.specs.Senders.{IsSaid}
 use Rattle.send_core.specs.Table.{Next, act, place_after, due_at, row_now}
 use Rattle.send_core.specs.Turn.{begun_at, file_read, known_of, pass_opened, put_later, todo_on, todo_over, todo_went, unlinked}
 use Rattle.send_core.specs.declared.desk.Desk.{Desk}
-use Rattle.send_core.specs.declared.row.Point.TheVariants as point
-use Rattle.send_core.specs.declared.row.Point.{Point}
-use Rattle.send_core.specs.declared.row.Row.TheVariants as at
-use Rattle.send_core.specs.declared.row.Row.{Row}
-use Rattle.send_jobs.specs.Channels.{file_of}
+use Rattle.send_parts.specs.declared.row.Point.TheVariants as point
+use Rattle.send_parts.specs.declared.row.Point.{Point}
+use Rattle.send_parts.specs.declared.row.Row.TheVariants as at
+use Rattle.send_parts.specs.declared.row.Row.{Row}
+use Rattle.send_parts.specs.Channels.{file_of}
 use Rattle.send_jobs.specs.Lanes.{job_over}
 use Rattle.send_jobs.specs.Sending.{lane}
-use Rattle.send_jobs.specs.declared.channels.Channel.TheVariants.{Local, Remote}
-use Rattle.send_jobs.specs.declared.channels.Channel.{Channel}
+use Rattle.send_known.specs.declared.channel.Channel.TheVariants.{Local, Remote}
+use Rattle.send_known.specs.declared.channel.Channel.{Channel}
 use Rattle.send_jobs.specs.declared.jobs.Job.{Job}
 use Rattle.send_known.specs.Known as known
 use Rattle.send_known.specs.Known.{sender_of}
 use Rattle.send_known.specs.declared.known.Known.{Known}
 use Rattle.send_known.specs.declared.messages.Messages.{Messages}
-use Rattle.send_parts.specs.Files.{records_of, sender_in}
+use Rattle.send_links.specs.Records.{records_of}
+use Rattle.send_parts.specs.Files.{sender_in}
 use Rattle.send_parts.specs.Finish.{finish_to}
 use Rattle.send_parts.specs.Readings.{read_on}
 use Rattle.send_parts.specs.Replies.{Said, answered as replied, said}

@@ -17,23 +17,23 @@ use Rattle.send_core.specs.Start.{start_at, started}
 use Rattle.send_core.specs.Table.{Next, act, arrive, place_after, due_at, from_point, row_now}
 use Rattle.send_core.specs.Turn.{act_mark, begin_note, begun_at, file_read, lost, mark_opened, mark_over, noted, pass_opened, put_later, requested, took, unlinked}
 use Rattle.send_core.specs.declared.desk.Desk.{Desk}
-use Rattle.send_core.specs.declared.row.MarkRow.TheVariants as mark
-use Rattle.send_core.specs.declared.row.MarkRow.{MarkRow}
-use Rattle.send_core.specs.declared.row.Marked.{Marked}
-use Rattle.send_core.specs.declared.row.Point.TheVariants as point
-use Rattle.send_core.specs.declared.row.Point.{Point}
-use Rattle.send_core.specs.declared.row.Row.TheVariants as at
-use Rattle.send_core.specs.declared.row.Row.{Row}
+use Rattle.send_parts.specs.declared.row.MarkRow.TheVariants as mark
+use Rattle.send_parts.specs.declared.row.MarkRow.{MarkRow}
+use Rattle.send_parts.specs.declared.row.Marked.{Marked}
+use Rattle.send_parts.specs.declared.row.Point.TheVariants as point
+use Rattle.send_parts.specs.declared.row.Point.{Point}
+use Rattle.send_parts.specs.declared.row.Row.TheVariants as at
+use Rattle.send_parts.specs.declared.row.Row.{Row}
 use Rattle.send_jobs.specs.Lanes.{job_over, next}
 use Rattle.send_jobs.specs.Sending.{lane, sent_on}
-use Rattle.send_jobs.specs.declared.channels.Channel.TheVariants.{Local, Remote}
-use Rattle.send_jobs.specs.declared.channels.Channel.{Channel}
+use Rattle.send_known.specs.declared.channel.Channel.TheVariants.{Local, Remote}
+use Rattle.send_known.specs.declared.channel.Channel.{Channel}
 use Rattle.send_jobs.specs.declared.slots.Slots.{Slots}
 use Rattle.send_runs.proofs.Calm.{IsFresh, point_fresh}
 use Rattle.send_runs.proofs.DueRows.{free_opened, shut_closed, shut_marked, shut_noted}
 use Rattle.send_runs.proofs.Fates.{same_channel}
 use Rattle.send_runs.proofs.Kept.{fresh_free, kept_row}
-use Rattle.send_parts.specs.Files.{records_of}
+use Rattle.send_links.specs.Records.{records_of}
 use Rattle.send_parts.specs.Readings.{read_on}
 use Rattle.send_parts.specs.Replies.{Said, said}
 use Rattle.send_parts.specs.declared.reading.Progress.TheVariants.{Failed, Goes, Missing, Whole}

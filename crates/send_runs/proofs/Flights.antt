@@ -26,8 +26,8 @@ use Rattle.send_core.specs.Past.{Account, Happening, Owed, Source, Task, Work, a
 use Rattle.send_core.specs.Past.Happening.{Gives, GivesUp, Marks, Nothing, Reads, Takes}
 use Rattle.send_core.specs.Past.Work.{Missing, Noting, Reading}
 use Rattle.send_core.specs.Table.{port_of}
-use Rattle.send_jobs.specs.declared.channels.Channel.{Channel}
-use Rattle.send_jobs.specs.declared.channels.Channel.TheVariants.{Local, Remote}
+use Rattle.send_known.specs.declared.channel.Channel.{Channel}
+use Rattle.send_known.specs.declared.channel.Channel.TheVariants.{Local, Remote}
 use Rattle.spawn_protocol.specs.declared.report.Report.{Report}
 use Rattle.send_runs.specs.Reports.{FlightsWereGiven, HasNoReport, WasGiven, ending_in, given_by, reports_at, taken_by, taken_when}
 

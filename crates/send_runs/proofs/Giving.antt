@@ -25,9 +25,9 @@ use Rattle.send_core.specs.Past.{Account, Happening, Owed, Source, Task, Work, a
 use Rattle.send_core.specs.Past.Happening.{Gives, GivesUp, Marks, Nothing, Reads, Takes}
 use Rattle.send_core.specs.Past.Work.{Missing, Noting, Reading}
 use Rattle.send_core.specs.Past as past_of
-use Rattle.send_jobs.specs.declared.channels.Channel.{Channel}
-use Rattle.send_jobs.specs.declared.channels.Channel.TheVariants.{Local, Remote}
-use Rattle.send_parts.specs.Files.{records_of}
+use Rattle.send_known.specs.declared.channel.Channel.{Channel}
+use Rattle.send_known.specs.declared.channel.Channel.TheVariants.{Local, Remote}
+use Rattle.send_links.specs.Records.{records_of}
 use Rattle.spawn_protocol.specs.declared.report.Report.{Report}
 use Rattle.bounce_record.specs.declared.note_row.NoteRow.{NoteRow}
 use Rattle.bounce_record.specs.declared.note_row.NoteRow.TheVariants as written
@@ -38,10 +38,10 @@ use Rattle.bounce_record.specs.Writing.{Writing, due_at as note_due_at}
 use Rattle.queue_paths.specs.declared.names.Name.TheVariants as name
 use Rattle.send_core.specs.Table.{due_at}
 use Rattle.send_core.specs.declared.desk.Desk.{Desk}
-use Rattle.send_core.specs.declared.row.MarkRow.TheVariants as mark
-use Rattle.send_core.specs.declared.row.Row.{Row}
-use Rattle.send_core.specs.declared.row.Row.TheVariants as at
-use Rattle.send_jobs.specs.Channels.{file_of}
+use Rattle.send_parts.specs.declared.row.MarkRow.TheVariants as mark
+use Rattle.send_parts.specs.declared.row.Row.{Row}
+use Rattle.send_parts.specs.declared.row.Row.TheVariants as at
+use Rattle.send_parts.specs.Channels.{file_of}
 use Rattle.send_parts.specs.declared.reading.Reading.{Reading as FileReading}
 use Rattle.send_parts.specs.declared.reading.Reading.TheVariants.{Closing, Going, Opening, Shutting}
 use Rattle.send_parts.specs.declared.rows.FinishRow.TheVariants as finish

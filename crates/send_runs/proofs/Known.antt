@@ -12,10 +12,10 @@ use Rattle.send_core.specs.Births.{births}
 use Rattle.send_core.specs.Senders.{IsSaid}
 use Rattle.send_core.specs.Table.{place_after}
 use Rattle.send_core.specs.declared.desk.Desk.{Desk}
-use Rattle.send_core.specs.declared.row.Row.{Row}
-use Rattle.send_core.specs.declared.row.Row.TheVariants as at
-use Rattle.send_jobs.specs.declared.channels.Channel.{Channel}
-use Rattle.send_jobs.specs.declared.channels.Channel.TheVariants.{Local, Remote}
+use Rattle.send_parts.specs.declared.row.Row.{Row}
+use Rattle.send_parts.specs.declared.row.Row.TheVariants as at
+use Rattle.send_known.specs.declared.channel.Channel.{Channel}
+use Rattle.send_known.specs.declared.channel.Channel.TheVariants.{Local, Remote}
 use Rattle.send_jobs.specs.Tries.{due_on}
 use Rattle.send_known.specs.declared.known.Known.{Known}
 use Rattle.send_known.specs.declared.messages.Messages.{Messages}

@@ -8,9 +8,9 @@ use Rattle.send_core.specs.Agrees.{Agrees, is_opened}
 use Rattle.send_core.specs.Desk.{due_on}
 use Rattle.send_core.specs.Past.{Account, Task}
 use Rattle.send_core.specs.declared.desk.Desk.{Desk}
-use Rattle.send_core.specs.declared.row.Row.{Row}
-use Rattle.send_core.specs.declared.row.Row.TheVariants as at
-use Rattle.send_jobs.specs.declared.channels.Channel.{Channel}
+use Rattle.send_parts.specs.declared.row.Row.{Row}
+use Rattle.send_parts.specs.declared.row.Row.TheVariants as at
+use Rattle.send_known.specs.declared.channel.Channel.{Channel}
 use Rattle.send_jobs.specs.declared.jobs.Job.{Job}
 use Rattle.send_jobs.specs.declared.lane.Lane.{Lane}
 use Rattle.send_jobs.specs.declared.slots.Slots.{Slots}

@@ -26,13 +26,13 @@ use Rattle.send_runs.proofs.BeforeAnswer.{IsBefore}
 use Rattle.send_core.specs.Past.{Work}
 use Rattle.send_core.specs.Table.{due_at}
 use Rattle.send_core.specs.declared.desk.Desk.{Desk}
-use Rattle.send_core.specs.declared.row.MarkRow.{MarkRow}
-use Rattle.send_core.specs.declared.row.MarkRow.TheVariants as mark
-use Rattle.send_core.specs.declared.row.Marked.{Marked}
-use Rattle.send_core.specs.declared.row.Row.TheVariants as at
-use Rattle.send_jobs.specs.declared.channels.Channel.{Channel}
-use Rattle.send_jobs.specs.declared.channels.Channel.TheVariants.{Local, Remote}
-use Rattle.send_jobs.specs.Channels.{file_of}
+use Rattle.send_parts.specs.declared.row.MarkRow.{MarkRow}
+use Rattle.send_parts.specs.declared.row.MarkRow.TheVariants as mark
+use Rattle.send_parts.specs.declared.row.Marked.{Marked}
+use Rattle.send_parts.specs.declared.row.Row.TheVariants as at
+use Rattle.send_known.specs.declared.channel.Channel.{Channel}
+use Rattle.send_known.specs.declared.channel.Channel.TheVariants.{Local, Remote}
+use Rattle.send_parts.specs.Channels.{file_of}
 use Rattle.send_parts.specs.declared.reading.Progress.{Progress}
 use Rattle.send_parts.specs.declared.reading.Progress.TheVariants.{Goes}
 use Rattle.send_parts.specs.declared.reading.Reading.{Reading}

@@ -12,8 +12,8 @@ use Rattle.retry_schedule.specs.Due.{IsFirst, IsSchedule, first_due, is_due, mov
 use Rattle.retry_schedule.proofs.Entries.{free_removed, head_first, none_first, schedule_added, schedule_removed}
 use Rattle.send_core.proofs.Lists.{none_passes}
 use Rattle.send_core.specs.Table.{place_after}
-use Rattle.send_jobs.specs.declared.channels.Channel.{Channel}
-use Rattle.send_jobs.specs.declared.channels.Channel.TheVariants.{Local, Remote}
+use Rattle.send_known.specs.declared.channel.Channel.{Channel}
+use Rattle.send_known.specs.declared.channel.Channel.TheVariants.{Local, Remote}
 use Rattle.send_jobs.specs.Tries.{due_on, due_then, file_gone}
 use Rattle.send_known.specs.declared.known.Known.{Known}
 use Rattle.send_known.specs.declared.messages.Messages.{Messages}

@@ -13,18 +13,18 @@ use Rattle.call_fs.specs.declared.calls.Fd.{Fd}
 use Rattle.call_fs.specs.declared.past.GotData.{GotData}
 use Rattle.mail_bytes.specs.Decimal.{digits}
 use Rattle.send_core.specs.declared.desk.Desk.{Desk}
-use Rattle.send_core.specs.declared.row.MarkRow.{MarkRow}
-use Rattle.send_core.specs.declared.row.MarkRow.TheVariants as mark
-use Rattle.send_core.specs.declared.row.Marked.{Marked}
-use Rattle.send_core.specs.declared.row.Point.{Point}
-use Rattle.send_core.specs.declared.row.Point.TheVariants as point
-use Rattle.send_core.specs.declared.row.Row.TheVariants as at
+use Rattle.send_parts.specs.declared.row.MarkRow.{MarkRow}
+use Rattle.send_parts.specs.declared.row.MarkRow.TheVariants as mark
+use Rattle.send_parts.specs.declared.row.Marked.{Marked}
+use Rattle.send_parts.specs.declared.row.Point.{Point}
+use Rattle.send_parts.specs.declared.row.Point.TheVariants as point
+use Rattle.send_parts.specs.declared.row.Row.TheVariants as at
 use Rattle.send_core.specs.Desk.{closed_by, deferred, due_again, failure_in, goes, heard, is_final, later, link, next_idle, past_finish, past_todo, request_sent, retried, retried_if, retry_of, settle, stands_at, sweep_due, told, told_all, told_by, turn_counted, turn_over, waits, with_reader, with_requests}
 use Rattle.send_core.specs.Finish.{finish_at, forgot, looked_up, put_off_to, sweep_at, sweep_begun}
 use Rattle.send_core.specs.Turn.{act_mark, begin_note, is_done, known_of, mark_opened, mark_over, noted, noted_at, requested, todo_found, todo_named, todo_none, todo_on, todo_over, took}
 use Rattle.send_jobs.specs.declared.attempts.Attempt.{Attempt}
-use Rattle.send_jobs.specs.declared.channels.Channel.{Channel}
-use Rattle.send_jobs.specs.declared.channels.Channel.TheVariants.{Local, Remote}
+use Rattle.send_known.specs.declared.channel.Channel.{Channel}
+use Rattle.send_known.specs.declared.channel.Channel.TheVariants.{Local, Remote}
 use Rattle.send_jobs.specs.declared.jobs.Job.{Job}
 use Rattle.send_jobs.specs.declared.lane.Lane.{Lane}
 use Rattle.send_jobs.specs.declared.slots.Slots.{Slots}

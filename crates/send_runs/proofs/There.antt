@@ -27,10 +27,10 @@ use Rattle.send_core.specs.Start.{start_at}
 use Rattle.send_core.specs.Table.{Next, act, arrive, place_after, due_at, from_point, row_now}
 use Rattle.send_core.specs.Turn.{begun_at, is_done, known_of, todo_found, todo_named, todo_none, todo_on, todo_over, todo_went}
 use Rattle.send_core.specs.declared.desk.Desk.{Desk}
-use Rattle.send_core.specs.declared.row.Row.{Row}
-use Rattle.send_core.specs.declared.row.Row.TheVariants as at
-use Rattle.send_jobs.specs.declared.channels.Channel.{Channel}
-use Rattle.send_jobs.specs.declared.channels.Channel.TheVariants.{Local, Remote}
+use Rattle.send_parts.specs.declared.row.Row.{Row}
+use Rattle.send_parts.specs.declared.row.Row.TheVariants as at
+use Rattle.send_known.specs.declared.channel.Channel.{Channel}
+use Rattle.send_known.specs.declared.channel.Channel.TheVariants.{Local, Remote}
 use Rattle.send_known.specs.Messages.{learned}
 use Rattle.send_parts.specs.declared.book.Book.{Book}
 use Rattle.send_parts.specs.declared.reading.Progress.{Progress}

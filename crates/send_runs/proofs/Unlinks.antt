@@ -21,15 +21,15 @@ use Rattle.queue_paths.proofs.Paths.{parse-path}
 use Rattle.send_core.specs.Agrees.{is_same}
 use Rattle.send_core.specs.Table.{due_at}
 use Rattle.send_core.specs.declared.desk.Desk.{Desk}
-use Rattle.send_core.specs.declared.row.MarkRow.TheVariants as mark
-use Rattle.send_core.specs.declared.row.Row.{Row}
-use Rattle.send_core.specs.declared.row.Row.TheVariants as at
+use Rattle.send_parts.specs.declared.row.MarkRow.TheVariants as mark
+use Rattle.send_parts.specs.declared.row.Row.{Row}
+use Rattle.send_parts.specs.declared.row.Row.TheVariants as at
 use Rattle.send_jobs.specs.declared.attempts.Attempt.{Attempt}
-use Rattle.send_jobs.specs.declared.channels.Channel.{Channel}
-use Rattle.send_jobs.specs.declared.channels.Channel.TheVariants.{Local, Remote}
+use Rattle.send_known.specs.declared.channel.Channel.{Channel}
+use Rattle.send_known.specs.declared.channel.Channel.TheVariants.{Local, Remote}
 use Rattle.send_jobs.specs.declared.lane.Lane.{Lane}
 use Rattle.send_jobs.proofs.SlotLemmas.{lowest_is_least}
-use Rattle.send_jobs.specs.Channels.{file_of}
+use Rattle.send_parts.specs.Channels.{file_of}
 use Rattle.send_jobs.specs.Lanes.{is_in_flight, is_mark_on, is_open_on, next, numbered, sent_in}
 use Rattle.send_jobs.specs.Slots.{IsLeastFree, attempt_in, is_on, lowest}
 use Rattle.send_parts.specs.declared.reading.Reading.{Reading as FileReading}

@@ -25,11 +25,11 @@ use Rattle.send_core.specs.Desk.{later, never}
 use Rattle.send_core.specs.Past.{Account, Owed, Task, Work, account, ends, work}
 use Rattle.send_core.specs.Past.Work.{Reading}
 use Rattle.send_core.specs.Table.{Next, place_after}
-use Rattle.send_jobs.specs.declared.channels.Channel.{Channel}
-use Rattle.send_jobs.specs.declared.channels.Channel.TheVariants.{Local, Remote}
+use Rattle.send_known.specs.declared.channel.Channel.{Channel}
+use Rattle.send_known.specs.declared.channel.Channel.TheVariants.{Local, Remote}
 use Rattle.send_jobs.specs.Channels.{skip_of}
 use Rattle.send_jobs.specs.Tries.{due_on, moment_of}
-use Rattle.send_parts.specs.Files.{records_of}
+use Rattle.send_links.specs.Records.{records_of}
 use Rattle.todo_pass.specs.Table.{command_text}
 
 -- The pass at work

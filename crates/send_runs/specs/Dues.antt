@@ -19,7 +19,7 @@ use Rattle.send_core.specs.Births.{births}
 use Rattle.send_core.specs.Desk.{later, never}
 use Rattle.send_core.specs.Past.{Account, Task, account}
 use Rattle.send_core.specs.Table.{Next, place_after}
-use Rattle.send_jobs.specs.declared.channels.Channel.{Channel}
+use Rattle.send_known.specs.declared.channel.Channel.{Channel}
 use Rattle.send_jobs.specs.Channels.{skip_of}
 use Rattle.send_jobs.specs.Tries.{due_on, moment_of}
 use Rattle.send_runs.specs.DueMoments.{Shift, is_file, is_owed, is_unlink, shift}

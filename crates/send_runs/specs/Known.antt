@@ -8,7 +8,7 @@ use Rattle.send_core.specs.Agrees.{has_ended}
 use Rattle.send_core.specs.Births.{births}
 use Rattle.send_core.specs.Senders.{IsSaid}
 use Rattle.send_core.specs.Table.{Next, place_after}
-use Rattle.send_jobs.specs.declared.channels.Channel.{Channel}
+use Rattle.send_known.specs.declared.channel.Channel.{Channel}
 use Rattle.send_jobs.specs.Tries.{due_on}
 use Rattle.send_known.specs.declared.known.Known.{Known}
 use Rattle.send_known.specs.declared.messages.Messages.{Messages}

@@ -6,8 +6,8 @@ use Rattle.send_core.specs.Log.{lines_of}
 use Rattle.send_core.specs.Past.{Account, Task, account, settle}
 use Rattle.send_core.specs.Past.Happening.{Takes}
 use Rattle.send_core.specs.Table.{Next, place_after}
-use Rattle.send_jobs.specs.declared.channels.Channel.{Channel}
-use Rattle.send_jobs.specs.declared.channels.Channel.TheVariants.{Local, Remote}
+use Rattle.send_known.specs.declared.channel.Channel.{Channel}
+use Rattle.send_known.specs.declared.channel.Channel.TheVariants.{Local, Remote}
 use Rattle.send_log.specs.Lines.{delivered, outcome_of, stray_report}
 use Rattle.spawn_protocol.specs.declared.report.Report.{Report}
 use Rattle.send_runs.specs.Deliveries.{number_in}

@@ -12,8 +12,8 @@ use Rattle.send_core.specs.Booked.{booked_at}
 use Rattle.send_core.specs.Past.{Account, Happening, Task, account, news, given, settle, settle_all, taken}
 use Rattle.send_core.specs.Past.Happening.{Gives, Nothing, Takes}
 use Rattle.send_core.specs.Table.{Next, place_after, port_of, row_now}
-use Rattle.send_jobs.specs.declared.channels.Channel.{Channel}
-use Rattle.send_jobs.specs.declared.channels.Channel.TheVariants.{Local, Remote}
+use Rattle.send_known.specs.declared.channel.Channel.{Channel}
+use Rattle.send_known.specs.declared.channel.Channel.TheVariants.{Local, Remote}
 use Rattle.send_jobs.specs.Bookings.{Booking}
 use Rattle.send_jobs.specs.Bookings.Booking.{Dropped, Noted, ReadNotes, Reported, Returned}
 use Rattle.send_jobs.specs.Failures.{is_final}

@@ -5,8 +5,8 @@ use Rattle.call_fs.specs.declared.past.Own.{Own}
 use Rattle.queue_limits.specs.declared.counts.TheConstants.{MAX_SLOTS}
 use Rattle.send_core.specs.Papers.{controls_told}
 use Rattle.send_core.specs.Past.{Account, Task, account}
-use Rattle.send_jobs.specs.declared.channels.Channel.{Channel}
-use Rattle.send_jobs.specs.declared.channels.Channel.TheVariants.{Local, Remote}
+use Rattle.send_known.specs.declared.channel.Channel.{Channel}
+use Rattle.send_known.specs.declared.channel.Channel.TheVariants.{Local, Remote}
 use Rattle.send_log.specs.Lines.{status}
 
 -- how many deliveries the control file of a channel allows

@@ -5,7 +5,7 @@ ghost use Rattle.call_fs.specs.declared.past.NeedData.TheVariants as needs;
 ghost use Rattle.send_core.specs.Desk.{never};
 ghost use Rattle.send_core.specs.Table.{begun};
 ghost use Rattle.send_jobs.specs.Bookings.Booking.{Reported};
-ghost use Rattle.send_jobs.specs.declared.channels.Channel.TheVariants.{Local, Remote};
+ghost use Rattle.send_known.specs.declared.channel.Channel.TheVariants.{Local, Remote};
 ghost use Rattle.send_runs.specs.Deliveries.{DeliveriesAreNumbered, number_in, requests_given};
 ghost use Rattle.send_runs.specs.DueMoments.{DuesAreOfPast, begun_in, shift};
 ghost use Rattle.send_runs.specs.DueMoments.Shift.{Fails, Learns, Same};

@@ -1,13 +1,13 @@
 -- The slots of a sender that begins a turn.
 use Rattle.std.proofs.Common.{◌≡◌, ℕ, length, None}
 use Rattle.address_rules.specs.declared.controls.Controls.{Controls}
-use Rattle.send_core.specs.declared.row.Row.{Row}
-use Rattle.send_core.specs.declared.row.Row.TheVariants as at
+use Rattle.send_parts.specs.declared.row.Row.{Row}
+use Rattle.send_parts.specs.declared.row.Row.TheVariants as at
 use Rattle.send_core.specs.Papers.{controls_told}
 use Rattle.send_core.specs.Past.{Account, account}
 use Rattle.send_core.specs.Table.{place_after}
-use Rattle.send_jobs.specs.declared.channels.Channel.{Channel}
-use Rattle.send_jobs.specs.declared.channels.Channel.TheVariants.{Local, Remote}
+use Rattle.send_known.specs.declared.channel.Channel.{Channel}
+use Rattle.send_known.specs.declared.channel.Channel.TheVariants.{Local, Remote}
 use Rattle.send_jobs.specs.declared.slots.Slots.{Slots}
 use Rattle.send_jobs.specs.Sending.{lane}
 use Rattle.send_runs.specs.Status.{limit_by}

@@ -8,13 +8,13 @@ use Rattle.send_core.proofs.Runs.{Was, keeps}
 use Rattle.send_core.proofs.Standing.{FitAt}
 use Rattle.send_core.specs.Past.{account, work}
 use Rattle.send_core.specs.Table.{Next}
-use Rattle.send_core.specs.declared.row.Row.TheVariants as at
-use Rattle.send_core.specs.declared.row.Row.{Row}
+use Rattle.send_parts.specs.declared.row.Row.TheVariants as at
+use Rattle.send_parts.specs.declared.row.Row.{Row}
 use Rattle.send_jobs.specs.Lanes.{is_free_for, is_in_flight}
 use Rattle.send_jobs.specs.Sending.{lane}
 use Rattle.send_jobs.specs.Slots.{is_on}
 use Rattle.send_jobs.specs.declared.attempts.Attempt.{Attempt}
-use Rattle.send_jobs.specs.declared.channels.Channel.TheVariants.{Local, Remote}
+use Rattle.send_known.specs.declared.channel.Channel.TheVariants.{Local, Remote}
 use Rattle.send_jobs.specs.declared.lane.Lane.{Lane}
 use Rattle.send_parts.specs.declared.reading.Reading.TheVariants.{Closing}
 use Rattle.world_events.specs.declared.event.Program.{Program}

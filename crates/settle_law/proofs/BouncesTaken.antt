@@ -15,8 +15,8 @@ use Rattle.queue_inject.specs.Causes.{first_fault}
 use Rattle.queue_law.specs.Books.{Child as Bouncer, notes_read}
 use Rattle.queue_law.specs.Numbers.{Queue, about}
 use Rattle.send_core.specs.declared.desk.Desk.{Desk}
-use Rattle.send_core.specs.declared.row.Row.{Row}
-use Rattle.send_core.specs.declared.row.Row.TheVariants as at
+use Rattle.send_parts.specs.declared.row.Row.{Row}
+use Rattle.send_parts.specs.declared.row.Row.TheVariants as at
 use Rattle.send_core.specs.Booked.{booked_at, returned_at}
 use Rattle.send_core.specs.Table.{Next, place_after, row_now}
 use Rattle.send_known.specs.Known.{sender_of}

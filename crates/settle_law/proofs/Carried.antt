@@ -27,9 +27,9 @@ use Rattle.send_core.specs.Past.{Account, Owed, Task, Work, account, account_by,
 use Rattle.send_core.specs.Past.Happening.{Gives}
 use Rattle.send_core.specs.Table.{Next}
 use Rattle.send_core.proofs.Runs.{gives_requests}
-use Rattle.send_jobs.specs.declared.channels.Channel.{Channel}
-use Rattle.send_jobs.specs.declared.channels.Channel.TheVariants.{Local, Remote}
-use Rattle.send_jobs.specs.Channels.{port_of}
+use Rattle.send_known.specs.declared.channel.Channel.{Channel}
+use Rattle.send_known.specs.declared.channel.Channel.TheVariants.{Local, Remote}
+use Rattle.send_parts.specs.Channels.{port_of}
 use Rattle.send_runs.specs.Reports.{HasNoReport}
 use Rattle.send_runs.proofs.Flights.{all_settled}
 use Rattle.spawn_protocol.specs.declared.report.Report.{Report}

@@ -28,7 +28,7 @@ use Rattle.send_core.specs.Desk.{ready}
 use Rattle.send_core.specs.Finish.{finish_at, returned_to}
 use Rattle.send_core.specs.Table.{Next, due_at, moved_by, place_after, row_now}
 use Rattle.send_core.specs.declared.desk.Desk.{Desk}
-use Rattle.send_core.specs.declared.row.Row.{Row}
+use Rattle.send_parts.specs.declared.row.Row.{Row}
 use Rattle.send_known.specs.Known.{sender_of}
 use Rattle.world_events.specs.declared.event.Program.{Program}
 use Rattle.world_events.specs.declared.event.Program.TheVariants.{Injector, Cleaner, Sender, LocalSpawner, RemoteSpawner, Delivery}

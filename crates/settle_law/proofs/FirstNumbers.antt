@@ -7,7 +7,7 @@ use Rattle.script_words.specs.declared.entry.Entry.{Entry}
 use Rattle.script_words.specs.declared.entry.Entry.TheVariants.{Dir, File}
 use Rattle.script_words.specs.Entries.{dirs_above}
 use Rattle.script_lines.specs.Contents.{HaveEntryPaths}
-use Rattle.scenario.specs.FirstDisk.{AreMade, Enters, EntersAll, HasMade, IsBareDisk, IsFirstDisk}
+use Rattle.script_disks.specs.FirstDisk.{AreMade, Enters, EntersAll, HasMade, IsBareDisk, IsFirstDisk}
 use Rattle.scenario.proofs.Openings.{is_ready, none_of}
 use Rattle.settle_law.specs.Well.{TodoIsEmpty, todo_name}
 use Rattle.settle_law.proofs.PlayedNumbers.{UsesFew}

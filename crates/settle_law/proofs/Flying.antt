@@ -13,8 +13,8 @@ use Rattle.send_core.specs.Past.{Account, account, news, reports_in}
 use Rattle.send_core.specs.Table.{Next}
 use Rattle.send_core.proofs.Agreed.{lanes_agree}
 use Rattle.send_jobs.specs.declared.attempts.Attempt.{Attempt}
-use Rattle.send_jobs.specs.declared.channels.Channel.{Channel}
-use Rattle.send_jobs.specs.declared.channels.Channel.TheVariants.{Local, Remote}
+use Rattle.send_known.specs.declared.channel.Channel.{Channel}
+use Rattle.send_known.specs.declared.channel.Channel.TheVariants.{Local, Remote}
 use Rattle.send_jobs.specs.Sending.{lane}
 use Rattle.send_jobs.specs.Slots.{attempt_in}
 use Rattle.spawn_protocol.specs.declared.inbox.Intake.TheVariants.{Open}

@@ -24,12 +24,12 @@ use Rattle.remote_spawn.specs.Table.{place_after as remote_after, program_of as 
 use Rattle.send_core.specs.Agrees.{has_ended}
 use Rattle.send_core.specs.Past.{account, news, reports_in}
 use Rattle.send_core.specs.Table.{holds, link_of}
-use Rattle.send_core.specs.declared.row.Row.{Row as SendRow}
-use Rattle.send_core.specs.declared.row.Row.TheVariants as sends_at
+use Rattle.send_parts.specs.declared.row.Row.{Row as SendRow}
+use Rattle.send_parts.specs.declared.row.Row.TheVariants as sends_at
 use Rattle.send_jobs.specs.declared.attempts.Attempt.{Attempt}
-use Rattle.send_jobs.specs.declared.channels.Channel.{Channel}
-use Rattle.send_jobs.specs.declared.channels.Channel.TheVariants.{Local, Remote}
-use Rattle.send_jobs.specs.Channels.{port_of}
+use Rattle.send_known.specs.declared.channel.Channel.{Channel}
+use Rattle.send_known.specs.declared.channel.Channel.TheVariants.{Local, Remote}
+use Rattle.send_parts.specs.Channels.{port_of}
 use Rattle.send_jobs.specs.Sending.{lane}
 use Rattle.send_jobs.specs.Slots.{attempt_in}
 use Rattle.spawn_protocol.specs.Cut.{cut}

@@ -10,9 +10,9 @@ use Rattle.call_fs.specs.declared.program.Port.TheVariants as port
 use Rattle.program_law.specs.Post.Posts.{told_by}
 use Rattle.program_law.specs.Post.Senders.{told_on}
 use Rattle.send_core.specs.Past.{Account, account, account_by, first_of, happening, took, work}
-use Rattle.send_jobs.specs.declared.channels.Channel.{Channel}
-use Rattle.send_jobs.specs.declared.channels.Channel.TheVariants.{Local, Remote}
-use Rattle.send_jobs.specs.Channels.{port_of}
+use Rattle.send_known.specs.declared.channel.Channel.{Channel}
+use Rattle.send_known.specs.declared.channel.Channel.TheVariants.{Local, Remote}
+use Rattle.send_parts.specs.Channels.{port_of}
 use Rattle.spawner_parts.specs.Table.{greeting}
 use Rattle.settle_law.proofs.Greeting.{SentAs, StepsFrom, is_greeting, kept_heard, kept_limit, sent_as, took_heard, took_later}
 use Rattle.settle_law.proofs.Greeting.SentAs.{Hears, Other}

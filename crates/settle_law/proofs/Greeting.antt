@@ -35,9 +35,9 @@ use Rattle.remote_spawn.specs.Table.{due_by as remote_due, place_after as remote
 use Rattle.send_core.specs.Past.{Account, Happening, Owed, Source, Task, Work, account_by, called, closed, closed_if, ends, first_of, given, given_up, happening, news, note_closed, opened, settle, settle_all, settle_by, took, uncreated_note, unopened_note, whole_of}
 use Rattle.send_core.specs.Past.Happening.{Gives, GivesUp, Marks, Nothing, Reads, Takes}
 use Rattle.send_core.specs.Past.Work.{Missing, Noting, Reading}
-use Rattle.send_jobs.specs.declared.channels.Channel.{Channel}
-use Rattle.send_jobs.specs.declared.channels.Channel.TheVariants.{Local, Remote}
-use Rattle.send_jobs.specs.Channels.{port_of}
+use Rattle.send_known.specs.declared.channel.Channel.{Channel}
+use Rattle.send_known.specs.declared.channel.Channel.TheVariants.{Local, Remote}
+use Rattle.send_parts.specs.Channels.{port_of}
 use Rattle.spawn_protocol.specs.Inbox.{pull, with_more}
 use Rattle.spawn_protocol.specs.declared.report.Report.{Report}
 use Rattle.spawn_protocol.specs.declared.request.Request.{Request}

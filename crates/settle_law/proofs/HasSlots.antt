@@ -6,8 +6,8 @@ use Rattle.call_fs.specs.Disk.{Disk}
 use Rattle.call_fs.specs.Past.{IsRunBy}
 use Rattle.call_fs.specs.declared.past.Own.{Own}
 use Rattle.send_core.specs.declared.desk.Desk.{Desk}
-use Rattle.send_core.specs.declared.row.Row.{Row}
-use Rattle.send_core.specs.declared.row.Row.TheVariants as at
+use Rattle.send_parts.specs.declared.row.Row.{Row}
+use Rattle.send_parts.specs.declared.row.Row.TheVariants as at
 use Rattle.send_core.specs.Papers.{controls_in, controls_told}
 use Rattle.send_core.specs.Past.{account, work}
 use Rattle.send_core.specs.Senders.{IsSaid}
@@ -16,8 +16,8 @@ use Rattle.send_core.proofs.Asked.{KnowsAt}
 use Rattle.send_core.proofs.Changes.{Heard}
 use Rattle.send_core.proofs.Runs.{Was, all_kept, facts, keeps}
 use Rattle.send_core.proofs.Standing.{FitAt}
-use Rattle.send_jobs.specs.declared.channels.Channel.{Channel}
-use Rattle.send_jobs.specs.declared.channels.Channel.TheVariants.{Local, Remote}
+use Rattle.send_known.specs.declared.channel.Channel.{Channel}
+use Rattle.send_known.specs.declared.channel.Channel.TheVariants.{Local, Remote}
 use Rattle.send_runs.specs.Status.{allowed}
 use Rattle.program_law.specs.Sender.Stands.{HasControls}
 use Rattle.world_events.specs.declared.event.Program.{Program}

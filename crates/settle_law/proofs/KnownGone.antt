@@ -8,10 +8,10 @@ use Rattle.queue_paths.specs.Names.Name.{Of}
 use Rattle.program_law.specs.Sender.Knows.{IsKnown, IsLeaving, Knows, has_file}
 use Rattle.program_law.specs.Sender.Knows.Knows.{Leaves, Stays}
 use Rattle.retry_law.specs.Retries.{has_file as has_channel_file}
-use Rattle.send_core.specs.declared.row.Row.{Row}
-use Rattle.send_core.specs.declared.row.Row.TheVariants as at
-use Rattle.send_jobs.specs.declared.channels.Channel.{Channel}
-use Rattle.send_jobs.specs.declared.channels.Channel.TheVariants.{Local, Remote}
+use Rattle.send_parts.specs.declared.row.Row.{Row}
+use Rattle.send_parts.specs.declared.row.Row.TheVariants as at
+use Rattle.send_known.specs.declared.channel.Channel.{Channel}
+use Rattle.send_known.specs.declared.channel.Channel.TheVariants.{Local, Remote}
 use Rattle.send_known.specs.declared.known.Known.{Known}
 use Rattle.mail_world.specs.History.{after}
 use Rattle.mail_world.specs.Untouched.{queue}

@@ -23,20 +23,20 @@ use Rattle.retry_law.specs.Tried.{tried_in}
 use Rattle.send_core.specs.Stands.{ends_idle}
 use Rattle.send_core.specs.Table.{Next, due_at, place_after, row_now}
 use Rattle.send_core.specs.declared.desk.Desk.{Desk}
-use Rattle.send_core.specs.declared.row.MarkRow.TheVariants as mark
-use Rattle.send_core.specs.declared.row.MarkRow.{MarkRow}
-use Rattle.send_core.specs.declared.row.Marked.{Marked}
-use Rattle.send_core.specs.declared.row.Row.TheVariants as at
-use Rattle.send_core.specs.declared.row.Row.{Row}
+use Rattle.send_parts.specs.declared.row.MarkRow.TheVariants as mark
+use Rattle.send_parts.specs.declared.row.MarkRow.{MarkRow}
+use Rattle.send_parts.specs.declared.row.Marked.{Marked}
+use Rattle.send_parts.specs.declared.row.Row.TheVariants as at
+use Rattle.send_parts.specs.declared.row.Row.{Row}
 use Rattle.send_jobs.specs.Jobs.{job_of}
 use Rattle.send_jobs.specs.Sending.{lane}
 use Rattle.send_jobs.specs.Slots.{attempt_in}
-use Rattle.send_jobs.specs.declared.channels.Channel.TheVariants.{Local, Remote}
-use Rattle.send_jobs.specs.declared.channels.Channel.{Channel}
+use Rattle.send_known.specs.declared.channel.Channel.TheVariants.{Local, Remote}
+use Rattle.send_known.specs.declared.channel.Channel.{Channel}
 use Rattle.send_jobs.specs.declared.jobs.Job.{Job}
 use Rattle.send_jobs.specs.declared.slots.Slots.{Slots}
 use Rattle.send_known.specs.declared.known.Known.{Known}
-use Rattle.send_parts.specs.Files.{records_of}
+use Rattle.send_links.specs.Records.{records_of}
 use Rattle.send_parts.specs.Replies.{said}
 use Rattle.send_parts.specs.declared.reading.Reading.TheVariants.{Closing, Going, Opening, Shutting}
 use Rattle.send_parts.specs.declared.rows.StartRow.TheVariants as start

@@ -16,9 +16,9 @@ use Rattle.queue_law.specs.Numbers.{Entry, find}
 use Rattle.queue_law.specs.Routes.{lane_part}
 use Rattle.queue_paths.specs.Names.Name.{Of}
 use Rattle.send_jobs.specs.declared.attempts.Attempt.{Attempt}
-use Rattle.send_jobs.specs.declared.channels.Channel.{Channel}
-use Rattle.send_parts.proofs.Records.{are_read}
-use Rattle.send_parts.specs.Files.{records_of}
+use Rattle.send_known.specs.declared.channel.Channel.{Channel}
+use Rattle.send_links.proofs.WholeRecords.{are_read}
+use Rattle.send_links.specs.Records.{records_of}
 use Rattle.settle_law.proofs.LaneTexts.{files_on}
 
 abbrev dee : List ℕ

@@ -20,10 +20,10 @@ use Rattle.queue_law.specs.Marks.{HasItsSpots, IsDone, IsMarked}
 use Rattle.queue_law.specs.Routes.{lane_text}
 use Rattle.queue_law.proofs.Places.{done_spot}
 use Rattle.queue_law.proofs.Readings.{records_are}
-use Rattle.send_jobs.specs.declared.channels.Channel.{Channel}
-use Rattle.send_jobs.specs.declared.channels.Channel.TheVariants.{Local, Remote}
-use Rattle.send_parts.specs.Files.{records_of}
-use Rattle.send_parts.proofs.Records.{are_read}
+use Rattle.send_known.specs.declared.channel.Channel.{Channel}
+use Rattle.send_known.specs.declared.channel.Channel.TheVariants.{Local, Remote}
+use Rattle.send_links.specs.Records.{records_of}
+use Rattle.send_links.proofs.WholeRecords.{are_read}
 use Rattle.todo_pass.specs.Todo.{IsTodo, Todo}
 use Rattle.todo_pass.proofs.Channels.{channels_are}
 use Rattle.program_law.specs.Channel.Versions.{HasVersions, IsMarkedFrom}

@@ -17,8 +17,8 @@ use Rattle.queue_law.specs.Numbers.{find}
 use Rattle.queue_law.specs.Routes.{lane_part}
 use Rattle.queue_paths.specs.Names.Name.{Of}
 use Rattle.queue_paths.specs.Names.{path}
-use Rattle.send_jobs.specs.declared.channels.Channel.{Channel}
-use Rattle.send_parts.specs.Files.{records_of}
+use Rattle.send_known.specs.declared.channel.Channel.{Channel}
+use Rattle.send_links.specs.Records.{records_of}
 
 -- the channel files of a disk by their records
 abbrev pub files_on : Disk → Channel → Files

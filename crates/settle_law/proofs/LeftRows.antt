@@ -17,10 +17,10 @@ use Rattle.send_core.specs.Agrees.{is_same}
 use Rattle.send_core.specs.Desk.{closed_by, deferred, failure_in, goes, has_begun, is_dying, is_final, is_free_for, link, request_sent, retried, retried_if, stands_at, told, told_all, told_by, waits, with_reader, with_requests}
 use Rattle.send_core.specs.Turn.{begun_at, file_read, is_fine, lost, mark_over, pass_opened, put_later, requested, took, unlinked}
 use Rattle.send_core.specs.declared.desk.Desk.{Desk}
-use Rattle.send_core.specs.declared.row.MarkRow.TheVariants as mark
-use Rattle.send_core.specs.declared.row.Point.TheVariants as point
-use Rattle.send_core.specs.declared.row.Point.{Point}
-use Rattle.send_core.specs.declared.row.Row.TheVariants as at
+use Rattle.send_parts.specs.declared.row.MarkRow.TheVariants as mark
+use Rattle.send_parts.specs.declared.row.Point.TheVariants as point
+use Rattle.send_parts.specs.declared.row.Point.{Point}
+use Rattle.send_parts.specs.declared.row.Row.TheVariants as at
 use Rattle.send_jobs.proofs.JobLemmas.{job_put, job_unmarked, job_without}
 use Rattle.send_jobs.specs.Jobs.{job_of, new_job, unmark, unmarked_if}
 use Rattle.send_jobs.specs.Lanes.{begun_by, ended, finished, job_over, left_unmarked, mark_settled, next, owes, reported, sent}
@@ -28,12 +28,12 @@ use Rattle.send_jobs.specs.Sending.{at_lane, lane, next_delivery, sent_as, sent_
 use Rattle.send_jobs.specs.Slots.{attempt_in, lowest}
 use Rattle.send_jobs.specs.declared.attempts.Attempt.{Attempt}
 use Rattle.send_jobs.specs.declared.attempts.Mark.{Mark}
-use Rattle.send_jobs.specs.declared.channels.Channel.TheVariants.{Local, Remote}
-use Rattle.send_jobs.specs.declared.channels.Channel.{Channel}
+use Rattle.send_known.specs.declared.channel.Channel.TheVariants.{Local, Remote}
+use Rattle.send_known.specs.declared.channel.Channel.{Channel}
 use Rattle.send_jobs.specs.declared.jobs.Job.{Job}
 use Rattle.send_jobs.specs.declared.lane.Lane.{Lane}
 use Rattle.send_jobs.specs.declared.slots.Slots.{Slots}
-use Rattle.send_parts.specs.Files.{records_of}
+use Rattle.send_links.specs.Records.{records_of}
 use Rattle.send_parts.specs.Readings.{read_on}
 use Rattle.send_parts.specs.Replies.{Said, said}
 use Rattle.send_parts.specs.declared.reading.Progress.TheVariants.{Goes, Whole, Missing, Failed}

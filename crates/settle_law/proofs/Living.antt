@@ -30,8 +30,8 @@ use Rattle.queue_clean.specs.Causes.EndsWith.{GiveFailed as AnswerFailed, InputE
 use Rattle.queue_clean.proofs.Reasons.{ends as clean_ends}
 use Rattle.queue_law.proofs.Tests.{other_text}
 use Rattle.remote_spawn.proofs.Tells.{ends as remote_ends}
-use Rattle.send_jobs.specs.declared.channels.Channel.{Channel}
-use Rattle.send_jobs.specs.declared.channels.Channel.TheVariants.{Local, Remote}
+use Rattle.send_known.specs.declared.channel.Channel.{Channel}
+use Rattle.send_known.specs.declared.channel.Channel.TheVariants.{Local, Remote}
 use Rattle.spawn_protocol.specs.Request.{IsTooLong, request_text}
 use Rattle.spawn_protocol.specs.Request.Start.{NoByte}
 use Rattle.spawn_protocol.proofs.Requests.{never_text}

@@ -19,7 +19,7 @@ use Rattle.queue_paths.specs.Names.Part.{Info}
 use Rattle.retry_law.specs.Left.{NoneLeft}
 use Rattle.send_core.specs.Table.{Next, due_at, row_now}
 use Rattle.send_core.specs.declared.desk.Desk.{Desk}
-use Rattle.send_core.specs.declared.row.Row.{Row}
+use Rattle.send_parts.specs.declared.row.Row.{Row}
 use Rattle.world_events.specs.declared.event.Program.TheVariants.{Sender}
 use Rattle.world_events.specs.declared.event.Program.{Program}
 use Rattle.mail_world.specs.History.Event.{Start, Act, Child, Generation, Report, End, Stop, Moment, Halt}

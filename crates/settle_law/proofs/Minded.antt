@@ -21,8 +21,8 @@ use Rattle.call_fs.specs.declared.calls.CallData.TheVariants as call
 use Rattle.queue_inject.specs.Table.{after_came, place_after as inject_after}
 use Rattle.queue_paths.specs.Names.Part.{Mess}
 use Rattle.send_core.specs.Table.{arrive, due_at}
-use Rattle.send_core.specs.declared.row.Row.{Row}
-use Rattle.send_core.specs.declared.row.Row.TheVariants as at
+use Rattle.send_parts.specs.declared.row.Row.{Row}
+use Rattle.send_parts.specs.declared.row.Row.TheVariants as at
 use Rattle.send_parts.specs.declared.rows.FinishRow.TheVariants as finish
 use Rattle.send_parts.specs.Steps.{remove_text}
 use Rattle.world_events.specs.declared.event.Program.{Program}

@@ -29,11 +29,11 @@ use Rattle.queue_paths.specs.Names.Name.{Of}
 use Rattle.queue_paths.specs.Names.Part.{Info, Mess, Todo}
 use Rattle.remote_spawn.specs.Table.{place_after as remote_after, program_of as remote_program}
 use Rattle.send_core.specs.declared.desk.Desk.{Desk}
-use Rattle.send_core.specs.declared.row.MarkRow.{MarkRow}
-use Rattle.send_core.specs.declared.row.MarkRow.TheVariants as mark
-use Rattle.send_core.specs.declared.row.Marked.{Marked}
-use Rattle.send_core.specs.declared.row.Row.{Row}
-use Rattle.send_core.specs.declared.row.Row.TheVariants as at
+use Rattle.send_parts.specs.declared.row.MarkRow.{MarkRow}
+use Rattle.send_parts.specs.declared.row.MarkRow.TheVariants as mark
+use Rattle.send_parts.specs.declared.row.Marked.{Marked}
+use Rattle.send_parts.specs.declared.row.Row.{Row}
+use Rattle.send_parts.specs.declared.row.Row.TheVariants as at
 use Rattle.send_core.specs.Table.{due_at, place_after as sender_after, row_now}
 use Rattle.send_parts.specs.declared.reading.Reading.TheVariants.{Closing, Going, Opening, Shutting}
 use Rattle.send_parts.specs.declared.rows.FinishRow.{FinishRow}

@@ -21,8 +21,8 @@ use Rattle.queue_paths.specs.Names.Part.{Bounce, Info, Intd, Local, Mess, Remote
 use Rattle.queue_states.specs.declared.state.State.TheVariants.{S2, S3}
 use Rattle.queue_states.specs.States.{is_there, state_by, state_of}
 use Rattle.send_core.specs.Stands.{ends_idle}
-use Rattle.send_core.specs.declared.row.Row.{Row}
-use Rattle.send_core.specs.declared.row.Row.TheVariants as at
+use Rattle.send_parts.specs.declared.row.Row.{Row}
+use Rattle.send_parts.specs.declared.row.Row.TheVariants as at
 use Rattle.send_parts.specs.declared.rows.FinishRow.{FinishRow}
 use Rattle.send_parts.specs.declared.rows.FinishRow.TheVariants as finish
 use Rattle.world_events.specs.declared.event.Program.{Program}

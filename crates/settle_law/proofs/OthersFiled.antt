@@ -45,8 +45,8 @@ use Rattle.queue_paths.specs.Names.Name.{Of}
 use Rattle.queue_paths.specs.Names.Part.{Info, Intd, Todo as TodoFile}
 use Rattle.remote_spawn.specs.Table.{place_after as remote_after, program_of as remote_asks}
 use Rattle.send_core.specs.declared.desk.Desk.{Desk}
-use Rattle.send_core.specs.declared.row.Row.{Row}
-use Rattle.send_core.specs.declared.row.Row.TheVariants as at
+use Rattle.send_parts.specs.declared.row.Row.{Row}
+use Rattle.send_parts.specs.declared.row.Row.TheVariants as at
 use Rattle.send_parts.specs.declared.rows.FinishRow.TheVariants as finish
 use Rattle.send_parts.specs.declared.rows.SweepRow.TheVariants as sweep
 use Rattle.spawner_parts.specs.Table.{row_now as remote_now}

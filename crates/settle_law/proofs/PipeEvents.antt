@@ -26,9 +26,9 @@ use Rattle.program_law.specs.Sender.Stands.{HasControls}
 use Rattle.program_law.proofs.Sender.Asking.{requests_are_texts}
 use Rattle.queue_law.specs.Numbers.{Role}
 use Rattle.send_core.specs.Table.{Next}
-use Rattle.send_jobs.specs.declared.channels.Channel.{Channel}
-use Rattle.send_jobs.specs.declared.channels.Channel.TheVariants.{Local, Remote}
-use Rattle.send_jobs.specs.Channels.{port_of}
+use Rattle.send_known.specs.declared.channel.Channel.{Channel}
+use Rattle.send_known.specs.declared.channel.Channel.TheVariants.{Local, Remote}
+use Rattle.send_parts.specs.Channels.{port_of}
 use Rattle.world_pipes.specs.Pipework.{is_writer, writer}
 use Rattle.world_events.specs.declared.event.Program.{Program}
 use Rattle.world_events.specs.declared.event.Program.TheVariants.{Injector, Sender, LocalSpawner, RemoteSpawner, Delivery}

@@ -15,8 +15,8 @@ use Rattle.queue_states.specs.declared.state.State.TheVariants.{S5}
 use Rattle.queue_states.specs.States.{is_there, state_by, state_of}
 use Rattle.send_core.specs.Table.{Next}
 use Rattle.send_core.specs.declared.desk.Desk.{Desk}
-use Rattle.send_core.specs.declared.row.Row.{Row}
-use Rattle.send_core.specs.declared.row.Row.TheVariants as at
+use Rattle.send_parts.specs.declared.row.Row.{Row}
+use Rattle.send_parts.specs.declared.row.Row.TheVariants as at
 use Rattle.send_known.specs.Known.{is_known}
 use Rattle.send_known.specs.declared.known.Known.{Known}
 use Rattle.send_runs.proofs.Knowing.{known_exactly}

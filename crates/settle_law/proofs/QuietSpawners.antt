@@ -37,8 +37,8 @@ use Rattle.queue_inject.specs.declared.row.Row.TheVariants as inject
 use Rattle.queue_inject.specs.Table.{call_at, has_input, in_time, is_late, next_piece, place_after as inject_after, work_of}
 use Rattle.remote_spawn.specs.Table.{place_after as remote_after, program_of as remote_program}
 use Rattle.send_core.proofs.Lists.{none_passes}
-use Rattle.send_jobs.specs.declared.channels.Channel.{Channel}
-use Rattle.send_jobs.specs.declared.channels.Channel.TheVariants.{Local, Remote}
+use Rattle.send_known.specs.declared.channel.Channel.{Channel}
+use Rattle.send_known.specs.declared.channel.Channel.TheVariants.{Local, Remote}
 use Rattle.spawn_protocol.specs.declared.request.Request.{Request}
 use Rattle.spawner_parts.specs.declared.place.Place.{Place}
 use Rattle.spawner_parts.specs.declared.row.Row.{Row}

@@ -6,7 +6,7 @@ use Rattle.call_fs.specs.declared.past.Own.{Own}
 use Rattle.mail_bytes.specs.Moments.{IsMoment}
 use Rattle.send_core.specs.Table.{due_at, place_after, row_now}
 use Rattle.send_core.specs.declared.desk.Desk.{Desk}
-use Rattle.send_core.specs.declared.row.Row.{Row}
+use Rattle.send_parts.specs.declared.row.Row.{Row}
 use Rattle.program_law.proofs.Sender.Arrive.{arrived}
 use Rattle.program_law.specs.Sender.Stands.{StandsAt}
 use Rattle.queue_law.specs.Numbers.{Queue}

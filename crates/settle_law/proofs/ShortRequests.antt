@@ -31,8 +31,8 @@ use Rattle.program_law.proofs.Post.Plains.{requests_are_plain}
 use Rattle.program_law.proofs.Sender.Entries.{among_of}
 use Rattle.program_law.proofs.Sender.Texts.{they_are}
 use Rattle.send_core.specs.declared.desk.Desk.{Desk}
-use Rattle.send_core.specs.declared.row.Row.{Row}
-use Rattle.send_core.specs.declared.row.Row.TheVariants as at
+use Rattle.send_parts.specs.declared.row.Row.{Row}
+use Rattle.send_parts.specs.declared.row.Row.TheVariants as at
 use Rattle.send_core.specs.Papers.{papers}
 use Rattle.send_core.specs.Papers.Papers.{Told}
 use Rattle.send_core.specs.Senders.{IsSaid}
@@ -40,12 +40,12 @@ use Rattle.send_core.specs.Table.{Next, arrive, due_at}
 use Rattle.send_core.proofs.Asked.{KnowsAt}
 use Rattle.send_core.proofs.Runs.{all_kept, facts}
 use Rattle.send_jobs.specs.declared.attempts.Attempt.{Attempt}
-use Rattle.send_jobs.specs.declared.channels.Channel.{Channel}
-use Rattle.send_jobs.specs.Channels.{port_of}
+use Rattle.send_known.specs.declared.channel.Channel.{Channel}
+use Rattle.send_parts.specs.Channels.{port_of}
 use Rattle.send_jobs.specs.Sending.{lane}
 use Rattle.send_parts.specs.declared.reading.Reading.TheVariants.{Opening, Going, Closing, Shutting}
 use Rattle.send_parts.specs.declared.rows.StartRow.TheVariants as start
-use Rattle.send_parts.specs.Files.{records_of}
+use Rattle.send_links.specs.Records.{records_of}
 use Rattle.spawn_protocol.specs.Request.{IsField, IsRequest, request_text}
 use Rattle.spawn_protocol.specs.declared.request.Request.{Request}
 use Rattle.world_events.specs.declared.event.Program.TheVariants.{Sender}

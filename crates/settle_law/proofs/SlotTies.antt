@@ -22,8 +22,8 @@ use Rattle.local_spawn.specs.declared.row.Row.TheVariants as local_at
 use Rattle.local_spawn.specs.Table.{due_at as local_due_at, place_after as local_after, program_of as local_program}
 use Rattle.program_law.proofs.Post.Sums.{not_running}
 use Rattle.remote_spawn.specs.Table.{place_after as remote_after, program_of as remote_program}
-use Rattle.send_jobs.specs.declared.channels.Channel.{Channel}
-use Rattle.send_jobs.specs.declared.channels.Channel.TheVariants.{Local, Remote}
+use Rattle.send_known.specs.declared.channel.Channel.{Channel}
+use Rattle.send_known.specs.declared.channel.Channel.TheVariants.{Local, Remote}
 use Rattle.spawner_parts.specs.declared.place.Place.{Place}
 use Rattle.spawner_parts.specs.Asked.{runs_in}
 use Rattle.spawner_parts.specs.Causes.{programs, programs_by, slot_of}

@@ -10,8 +10,8 @@ use Rattle.local_spawn.proofs.Tells.{At, tells as local_tells}
 use Rattle.program_law.specs.Post.Posts.{told_by}
 use Rattle.remote_spawn.specs.Table.{Next as RemoteNext, place_after as remote_after}
 use Rattle.remote_spawn.proofs.Tells.{tells as remote_tells}
-use Rattle.send_jobs.specs.declared.channels.Channel.{Channel}
-use Rattle.send_jobs.specs.declared.channels.Channel.TheVariants.{Local, Remote}
+use Rattle.send_known.specs.declared.channel.Channel.{Channel}
+use Rattle.send_known.specs.declared.channel.Channel.TheVariants.{Local, Remote}
 use Rattle.spawner_parts.specs.Counts.{reported}
 use Rattle.spawner_parts.specs.Known.{Tells}
 use Rattle.world_law.specs.Spawned.{stands_after}

@@ -29,8 +29,8 @@ use Rattle.queue_paths.specs.Names.Name.{Of, Pid}
 use Rattle.queue_paths.specs.Names.Part.{Bounce, Info, Intd, Local, Mess, Remote, Todo}
 use Rattle.retry_law.specs.Left.{GivesStray, NoneLeft}
 use Rattle.retry_law.proofs.Left.{no_number_left, strays_were_given}
-use Rattle.send_core.specs.declared.row.Row.{Row}
-use Rattle.send_core.specs.declared.row.Row.TheVariants as at
+use Rattle.send_parts.specs.declared.row.Row.{Row}
+use Rattle.send_parts.specs.declared.row.Row.TheVariants as at
 use Rattle.send_core.specs.Stands.{ends_idle}
 use Rattle.send_core.specs.Table.{Next}
 use Rattle.send_parts.specs.declared.rows.Search.TheVariants as search

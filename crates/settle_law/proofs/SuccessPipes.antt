@@ -22,8 +22,8 @@ use Rattle.program_law.specs.Post.Senders.{asked_on, told_on}
 use Rattle.remote_spawn.specs.Table as remote
 use Rattle.send_core.proofs.Lists.{news_are}
 use Rattle.send_core.specs.Past.{account, news, reports_in}
-use Rattle.send_jobs.specs.declared.channels.Channel.{Channel}
-use Rattle.send_jobs.specs.declared.channels.Channel.TheVariants.{Local, Remote}
+use Rattle.send_known.specs.declared.channel.Channel.{Channel}
+use Rattle.send_known.specs.declared.channel.Channel.TheVariants.{Local, Remote}
 use Rattle.spawn_protocol.specs.Report.{Reader, counted, kept, read_on}
 use Rattle.spawn_protocol.specs.Report.Reader.{AtBegin}
 use Rattle.spawn_protocol.specs.declared.report.Report.{Report}

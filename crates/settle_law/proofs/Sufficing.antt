@@ -13,8 +13,8 @@ use Rattle.queue_states.specs.declared.state.State.{State as Named}
 use Rattle.queue_states.specs.declared.state.State.TheVariants.{S1, S2, S3, S4, S5, Other}
 use Rattle.queue_states.specs.States.{is_there, state_by, state_of}
 use Rattle.retry_schedule.specs.Retry.{next_retry}
-use Rattle.send_jobs.specs.declared.channels.Channel.{Channel}
-use Rattle.send_jobs.specs.declared.channels.Channel.TheVariants.{Local, Remote}
+use Rattle.send_known.specs.declared.channel.Channel.{Channel}
+use Rattle.send_known.specs.declared.channel.Channel.TheVariants.{Local, Remote}
 use Rattle.send_jobs.specs.Channels.{skip_of}
 use Rattle.send_jobs.specs.Tries.{due_on}
 use Rattle.send_known.specs.declared.known.Known.{Known}

@@ -37,8 +37,8 @@ use Rattle.program_law.specs.Sender.Stands.{Stands}
 use Rattle.program_law.specs.Sender.Rows.{works}
 use Rattle.program_law.specs.Sender.Waits.{awaits, awaits_at, awaits_in as awaits_in_pass}
 use Rattle.send_core.specs.declared.desk.Desk.{Desk}
-use Rattle.send_core.specs.declared.row.Row.{Row}
-use Rattle.send_core.specs.declared.row.Row.TheVariants as at
+use Rattle.send_parts.specs.declared.row.Row.{Row}
+use Rattle.send_parts.specs.declared.row.Row.TheVariants as at
 use Rattle.send_core.specs.Table.{due_at, place_after, row_now}
 use Rattle.send_core.specs.Turn.{known_of}
 use Rattle.send_parts.specs.declared.rows.FinishRow.TheVariants as finish

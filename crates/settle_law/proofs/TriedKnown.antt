@@ -7,7 +7,7 @@ use Rattle.call_fs.specs.declared.past.Own.{Own}
 use Rattle.retry_law.specs.Passes.{lane_after}
 use Rattle.send_core.specs.Table.{Next}
 use Rattle.send_jobs.specs.Jobs.{job_of}
-use Rattle.send_jobs.specs.declared.channels.Channel.{Channel}
+use Rattle.send_known.specs.declared.channel.Channel.{Channel}
 use Rattle.send_runs.specs.Knowing.{known_in}
 use Rattle.settle_law.proofs.TriedStay.{known_before, tried_before}
 use Rattle.settle_law.specs.inside.TriedStay.{tried_at}

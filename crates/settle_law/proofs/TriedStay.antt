@@ -24,7 +24,7 @@ use Rattle.send_core.specs.Births.{births}
 use Rattle.send_core.specs.Past.{Work, work}
 use Rattle.send_core.specs.Table.{Next}
 use Rattle.send_jobs.specs.Jobs.{job_of}
-use Rattle.send_jobs.specs.declared.channels.Channel.{Channel}
+use Rattle.send_known.specs.declared.channel.Channel.{Channel}
 use Rattle.send_runs.specs.DueMoments.Shift.{Begins, Fails, Learns, Same}
 use Rattle.send_runs.specs.DueMoments.{Shift, Trial, found, has_unlinked, shift, shift_by, shift_if, trial}
 use Rattle.send_runs.specs.Dues.{pass_in}

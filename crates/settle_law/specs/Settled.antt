@@ -10,9 +10,9 @@ use Rattle.queue_paths.specs.Names.Part.{Info}
 use Rattle.queue_states.specs.declared.state.State.TheVariants.{S1, S5}
 use Rattle.queue_states.specs.States.{state_of}
 use Rattle.retry_schedule.specs.Retry.{next_retry}
-use Rattle.send_jobs.specs.declared.channels.Channel.{Channel}
+use Rattle.send_known.specs.declared.channel.Channel.{Channel}
 use Rattle.send_jobs.specs.Channels.{skip_of}
-use Rattle.send_parts.specs.Files.{records_of}
+use Rattle.send_links.specs.Records.{records_of}
 use Rattle.retry_law.specs.Tried.{tried_in}
 use Rattle.mail_world.specs.History.{Actor, State}
 use Rattle.mail_world.specs.History.Life.{Alive}

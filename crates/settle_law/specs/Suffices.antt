@@ -11,7 +11,7 @@ use Rattle.queue_states.specs.States.{state_of}
 use Rattle.retry_schedule.specs.Retry.{next_retry}
 use Rattle.send_core.specs.declared.desk.Desk.{Desk}
 use Rattle.send_core.specs.Table.{place_after}
-use Rattle.send_jobs.specs.declared.channels.Channel.{Channel}
+use Rattle.send_known.specs.declared.channel.Channel.{Channel}
 use Rattle.send_jobs.specs.Channels.{skip_of}
 use Rattle.send_jobs.specs.Sending.{lane}
 use Rattle.send_jobs.specs.Slots.{attempt_in}

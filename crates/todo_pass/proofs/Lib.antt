@@ -6,6 +6,8 @@ pub mod Files
 pub mod Stages
 -- what each step makes of it
 pub mod Made
+-- the last step of a pass
+pub mod LastStep
 -- how a pass ends
 pub mod Ends
 -- what a pass holds open

@@ -24,6 +24,8 @@ pub mod Run
 pub mod Disks
 -- the lines of the log that speak of a pass
 pub mod Lines
+-- what a sender knows of a message that was preprocessed
+pub mod Known
 -- why a pass ended as it did
 pub mod Causes
 -- the laws of passes

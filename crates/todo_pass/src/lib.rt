@@ -5,7 +5,8 @@
 //! done only when the files of the route are complete and on the disk and the cleaner answered `+` (`laws`).
 //!
 //! `Pass` is the machine without its controls. A sender that holds both keeps one pass and begins it anew for each number;
-//! `TodoPass` borrows the controls, and is a machine like any other.
+//! `TodoPass` borrows the controls, and is a machine like any other. `work` and `learn` are the steps of a pass in a sender's
+//! hands: with the lines of its log, and after the last one what is known of the message.
 //!
 //! # What is claimed
 //!
@@ -21,6 +22,8 @@
 //!   `memory`, `stands`, and its `impl Machine`; `laws::{files_are_made_before_the_command,
 //!   a_pass_alone_is_left_alone, todos_are_exact, each_record_is_at_its_place, channels_are_records,
 //!   ends_have_causes}`.
+//! - What a step leaves in the log, and what is known of a message that was preprocessed; after out of memory pass, log
+//!   and what is known are as before: `work`, `learn`.
 #![tactic(auto)]
 
 mod arguments;
@@ -36,12 +39,15 @@ mod sorted;
 mod sorter;
 mod sorting;
 mod steps;
+mod working;
 
 pub use arguments::Arguments;
 pub use lines::{put_left, put_queued, queued_room};
 pub use machine::TodoPass;
+pub use names::number_text;
 pub use part::{Part, Target};
 pub use pass::Pass;
 pub use row::{End, Row, Why};
 pub use sorted::Sorted;
 pub use steps::is_plus;
+pub use working::{learn, work};

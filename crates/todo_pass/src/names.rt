@@ -1,5 +1,6 @@
 // The text that a row lends: the name of its call, or the command to the cleaner.
 ghost use Rattle.std.specs.Prelude.{◌≡◌, ◌≤◌, ◌+◌, ◌++◌, ◌∷◌, [], length};
+ghost use Rattle.mail_bytes.specs.Decimal.{digits};
 ghost use Rattle.todo_pass.specs.Parts.{path_in};
 ghost use Rattle.todo_pass.specs.Rows.{lent_at};
 ghost use Rattle.todo_pass.specs.Table.{command_text};
@@ -38,6 +39,17 @@ fn put_command(n: u64, into: &mut NameBuf)
     put(into, b"todo/");
     put(into, &number[..len]);
     put(into, &[0]);
+}
+
+/// The digits of a number. Takes no memory.
+pub fn number_text(n: u64) -> NameBuf
+    ensures { result ≡ digits n }
+{
+    let mut name = NameBuf::new();
+    let mut text = [0; 20];
+    let len = dec(n, &mut text);
+    put(&mut name, &text[..len]);
+    name
 }
 
 /// Puts bytes at the end. The condition: there is room for them.

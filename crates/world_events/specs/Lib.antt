@@ -6,6 +6,10 @@ pub mod Programs
 pub mod Books
 -- what a read brings, as an event keeps it
 pub mod Reads
+-- what the plan of a disk says of an event
+pub mod Planned
+-- what comes of asking a machine
+pub mod Asking
 -- how many programs an event starts
 pub mod Starting
 -- mails of a world
@@ -14,6 +18,8 @@ pub mod Mails
 pub mod Places
 -- who started, in order
 pub mod Starts
+-- what that order is
+pub mod Order
 -- the input of children, which is given after their starts
 pub mod Inputs
 -- the children that actors start, and how many there are

@@ -1,5 +1,5 @@
 // What became of each injection.
-ghost use Rattle.std.specs.Prelude.{◌≡◌, ◌++◌, ◌∷◌, ◌<◌, [], List, ℕ, Some, OnOk, length, map, set, bytes_eq, option_map};
+ghost use Rattle.std.specs.Prelude.{◌≡◌, ◌++◌, ◌∷◌, ◌<◌, [], List, ℕ, Some, None, OnOk, length, map, set, bytes_eq, option_map};
 ghost use Rattle.std.specs.List.{slice_get};
 ghost use Rattle.call_fs.specs.declared.past.NeedData.TheVariants.{File};
 ghost use Rattle.queue_inject.specs.Texts.{recipients_of};
@@ -307,5 +307,17 @@ fn queues(call: &CallData, answer: &Answer) -> bool
     match (call, answer) {
         (CallData::Link(_, new), Answer::Done) => new.as_slice().starts_with(b"todo/"),
         _ => false,
+    }
+}
+
+/// The books take the newest event into account, which is that of the actor with this entry, if it has one.
+pub fn note(books: &mut Books, entry: Option<usize>, newest: &Event)
+    requires { (k : ℕ) → entry ≡ Some k → k < length (entries_of books.old) }
+    ensures none { entry ≡ None → books.new ≡ books.old }
+    ensures own { (k : ℕ) (e : Entry) → entry ≡ Some k → slice_get (entries_of books.old) k ≡ Some e
+        → entries_of books.new ≡ set (entries_of books.old) k (noted newest.now e) }
+{
+    if let Some(entry) = entry {
+        books.note(entry, newest);
     }
 }

@@ -1,15 +1,19 @@
 // The children that actors start.
-ghost use Rattle.std.specs.Prelude.{◌≡◌, ◌<◌, ◌-◌, ◌^◌, Some, IfOk};
+ghost use Rattle.std.specs.Prelude.{◌≡◌, ◌<◌, ◌-◌, ◌^◌, Some, IfOk, OnOk, vec_len, vec_capacity};
+ghost use Rattle.world_events.specs.Books.{entries_of, HasPlace};
 ghost use Rattle.world_events.specs.Children.{Counts, IsActor, child_of, counted, counts_with};
+ghost use Rattle.world_events.specs.Starts.{IsSameOrder, HasRoomFor};
+ghost use Rattle.world_events.specs.declared.event.Event.TheVariants as kept;
 
-use crate::Program;
 use crate::mail::unfed;
+use crate::{Books, Event, Program, Starts};
 use actor_names::{ActorName, bounce_name, delivery_name, forward_of};
-use call_fs::ChildData;
+use call_fs::{ChildData, Own};
 use local_parts::LocalArgs;
 use mail_bytes::{Memory, OnHeap};
 use received_line::Invoked;
 use std::alloc::Global;
+use world_pipes::Mouths;
 
 /// A child that is to start.
 #[derive(Drop)]
@@ -72,4 +76,38 @@ pub fn child_of(
         }
         ChildData::Remote { .. } => unreachable!(),
     }
+}
+
+/// The event that an actor started this child.
+pub fn child_event(actor: &ActorName, own: OnHeap<Own>, born: Born) -> Event
+    ensures { result ≡ kept.Child actor.now own born.name born.program }
+{
+    Event::Child {
+        actor: actor.copy(),
+        own,
+        child: born.name,
+        program: born.program,
+    }
+}
+
+/// Makes room for one actor more, for its pipes, for its entry and for its start.
+pub fn room_for_one<A>(
+    actors: &mut Vec<A>,
+    mouths: &mut Vec<Mouths>,
+    books: &mut Books,
+    starts: &mut Starts,
+) -> Result<(), Memory>
+    ensures pipes { mouths.new.items ≡ mouths.old.items }
+    ensures one { OnOk result (vec_len mouths.new < vec_capacity mouths.new) }
+    ensures actors { actors.new.items ≡ actors.old.items }
+    ensures books { entries_of books.new ≡ entries_of books.old }
+    ensures starts { IsSameOrder starts.old starts.new }
+    ensures room { OnOk result (vec_len actors.new < vec_capacity actors.new) }
+    ensures entry { OnOk result (HasPlace books.new) }
+    ensures start { OnOk result (HasRoomFor starts.new 1) }
+{
+    actors.reserve(1)?;
+    mouths.reserve(1)?;
+    books.make_room()?;
+    starts.make_room(1)
 }

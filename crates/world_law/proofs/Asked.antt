@@ -12,7 +12,7 @@ use Rattle.program_law.specs.Sender.Control.{AreControls}
 use Rattle.send_core.specs.Past.{Task, account}
 use Rattle.send_core.specs.Past.Happening.{Gives}
 use Rattle.send_core.specs.Table.{port_of}
-use Rattle.send_jobs.specs.declared.channels.Channel.TheVariants.{Local}
+use Rattle.send_known.specs.declared.channel.Channel.TheVariants.{Local}
 use Rattle.send_runs.specs.Reports.{IsLeft, WasGiven, given_by}
 use Rattle.send_runs.proofs.Flights.{flights_were_given}
 use Rattle.world_events.specs.declared.event.Program.{Program}

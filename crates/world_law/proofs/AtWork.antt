@@ -6,7 +6,7 @@ use Rattle.call_fs.specs.Disk.{Among}
 use Rattle.program_law.specs.Post.Posts.{AreLast, At, Fares, HasPlainFields, IsAskedFor, Post, Waits, busy, goes_at, in_hand, most, owed_at, reports, told_of}
 use Rattle.program_law.proofs.Post.Sums.{own_one}
 use Rattle.send_jobs.specs.declared.attempts.Attempt.{Attempt}
-use Rattle.send_jobs.specs.declared.channels.Channel.{Channel}
+use Rattle.send_known.specs.declared.channel.Channel.{Channel}
 use Rattle.send_jobs.specs.Slots.{attempt_in}
 use Rattle.spawn_protocol.specs.declared.inbox.Intake.{Intake}
 use Rattle.spawn_protocol.specs.declared.inbox.Intake.TheVariants as intake

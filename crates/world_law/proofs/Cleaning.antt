@@ -35,8 +35,8 @@ use Rattle.queue_law.specs.Rests.{IsClosed, RestsAs, Spares}
 use Rattle.queue_law.specs.Senders.{called_queue}
 use Rattle.queue_law.proofs.Changes.{unlinks_one}
 use Rattle.queue_law.proofs.Cleaners.{cleaners_keep as calls_keep}
-use Rattle.send_core.specs.declared.row.Row.{Row as SenderRow}
-use Rattle.send_core.specs.declared.row.Row.TheVariants as sends
+use Rattle.send_parts.specs.declared.row.Row.{Row as SenderRow}
+use Rattle.send_parts.specs.declared.row.Row.TheVariants as sends
 use Rattle.send_core.specs.Table.{place_after as sender_after}
 use Rattle.send_core.specs.Turn.{known_of}
 use Rattle.send_parts.specs.declared.rows.FinishRow.TheVariants as finish

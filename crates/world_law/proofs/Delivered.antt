@@ -18,9 +18,9 @@ use Rattle.queue_law.specs.Routes.{Recipient, routed, spot_of}
 use Rattle.queue_law.specs.Senders.{HasLane}
 use Rattle.queue_law.proofs.Readings.{records_are}
 use Rattle.queue_law.proofs.Sends.{lane_there, sorted_of_lane}
-use Rattle.send_core.specs.declared.row.Row.{Row}
+use Rattle.send_parts.specs.declared.row.Row.{Row}
 use Rattle.send_jobs.specs.declared.attempts.Attempt.{Attempt}
-use Rattle.send_jobs.specs.declared.channels.Channel.{Channel}
+use Rattle.send_known.specs.declared.channel.Channel.{Channel}
 use Rattle.send_jobs.specs.declared.slots.Slots.{Slots}
 use Rattle.send_jobs.specs.Jobs.{job_of}
 use Rattle.send_jobs.specs.Sending.{lane}

@@ -25,14 +25,14 @@ use Rattle.queue_law.specs.Ledgers.{Spot}
 use Rattle.queue_law.specs.Numbers.{Queue}
 use Rattle.queue_law.specs.Routes.{Recipient, routed, spot_of}
 use Rattle.send_core.specs.declared.desk.Desk.{Desk}
-use Rattle.send_core.specs.declared.row.Row.{Row}
-use Rattle.send_core.specs.declared.row.Row.TheVariants as at
+use Rattle.send_parts.specs.declared.row.Row.{Row}
+use Rattle.send_parts.specs.declared.row.Row.TheVariants as at
 use Rattle.send_core.specs.Booked.{booked_at, reported_when}
 use Rattle.send_core.specs.Desk.{link, with_reader}
 use Rattle.send_core.specs.Table.{place_after as sender_after, due_at, row_now}
 use Rattle.send_jobs.specs.Bookings.Booking.{Reported}
-use Rattle.send_jobs.specs.declared.channels.Channel.{Channel}
-use Rattle.send_jobs.specs.declared.channels.Channel.TheVariants.{Local}
+use Rattle.send_known.specs.declared.channel.Channel.{Channel}
+use Rattle.send_known.specs.declared.channel.Channel.TheVariants.{Local}
 use Rattle.send_jobs.specs.Sending.{lane}
 use Rattle.send_jobs.specs.Slots.{attempt_in}
 use Rattle.send_parts.specs.declared.reply.Way.{Way}

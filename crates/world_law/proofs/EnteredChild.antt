@@ -32,7 +32,7 @@ use Rattle.program_law.specs.Post.Senders.{is_on}
 use Rattle.queue_inject.proofs.Acts.{IsAlone, next_alone}
 use Rattle.send_core.specs.declared.desk.Desk.{Desk}
 use Rattle.send_jobs.specs.declared.attempts.Attempt.{Attempt}
-use Rattle.send_jobs.specs.declared.channels.Channel.TheVariants.{Local}
+use Rattle.send_known.specs.declared.channel.Channel.TheVariants.{Local}
 use Rattle.send_jobs.specs.Sending.{lane}
 use Rattle.send_jobs.specs.Slots.{attempt_in}
 use Rattle.spawn_protocol.specs.declared.request.Request.{Request}

@@ -5,7 +5,7 @@ use Rattle.program_law.specs.Post.Posts.{Posted, Task, goes_at}
 use Rattle.program_law.specs.Post.Senders.{IsFirst, is_on}
 use Rattle.send_core.specs.declared.desk.Desk.{Desk}
 use Rattle.send_jobs.specs.declared.attempts.Attempt.{Attempt}
-use Rattle.send_jobs.specs.declared.channels.Channel.TheVariants.{Local}
+use Rattle.send_known.specs.declared.channel.Channel.TheVariants.{Local}
 use Rattle.send_jobs.specs.Sending.{lane}
 use Rattle.send_jobs.specs.Slots.{attempt_in}
 use Rattle.spawn_protocol.specs.declared.request.Request.{Request}

@@ -17,7 +17,7 @@ use Rattle.queue_paths.specs.Names.Name.{Of}
 use Rattle.queue_paths.specs.Names.Part.{Bounce, Info, Intd, Local as LocalPart, Mess, Remote, Todo}
 use Rattle.queue_states.specs.declared.state.State.TheVariants.{S5}
 use Rattle.queue_states.specs.States.{is_there, state_of}
-use Rattle.send_jobs.specs.declared.channels.Channel.TheVariants.{Local}
+use Rattle.send_known.specs.declared.channel.Channel.TheVariants.{Local}
 use Rattle.send_jobs.specs.Sending.{lane}
 use Rattle.send_jobs.specs.Slots.{attempt_in}
 use Rattle.spawner_parts.specs.declared.row.Row.{Row}

@@ -21,10 +21,10 @@ use Rattle.send_core.specs.Past.{Happening}
 use Rattle.send_core.specs.Past.Happening.{Gives}
 use Rattle.send_core.specs.Table.{place_after as sender_after, due_at, moved, row_now}
 use Rattle.send_jobs.specs.declared.attempts.Attempt.{Attempt}
-use Rattle.send_jobs.specs.declared.channels.Channel.TheVariants.{Local}
+use Rattle.send_known.specs.declared.channel.Channel.TheVariants.{Local}
 use Rattle.send_jobs.specs.Sending.{lane}
 use Rattle.send_jobs.specs.Slots.{attempt_in, lowest}
-use Rattle.send_parts.specs.Requests.{request_of, to_slot}
+use Rattle.send_links.specs.Requests.{request_of, to_slot}
 use Rattle.send_runs.specs.Reports.{given_by as given_at}
 use Rattle.spawn_protocol.specs.declared.request.Request.{Request}
 use Rattle.spawner_parts.specs.declared.place.Place.{Place}

@@ -20,7 +20,7 @@ use Rattle.local_spawn.specs.Table.{due_at as local_due_at, due_by, due_from, mo
 use Rattle.program_law.specs.Post.Posts.{At, Done, Task, done_by, goes_at, tasks_by}
 use Rattle.program_law.specs.Post.Senders.{is_on}
 use Rattle.send_jobs.specs.declared.attempts.Attempt.{Attempt}
-use Rattle.send_jobs.specs.declared.channels.Channel.TheVariants as channel
+use Rattle.send_known.specs.declared.channel.Channel.TheVariants as channel
 use Rattle.send_jobs.specs.Sending.{lane}
 use Rattle.send_jobs.specs.Slots.{attempt_in}
 use Rattle.spawn_protocol.specs.declared.request.Request.{Request}

@@ -13,7 +13,7 @@ use Rattle.program_law.specs.Post.Senders.{is_on}
 use Rattle.queue_law.specs.Injectors.{IsHeld}
 use Rattle.queue_paths.specs.Names.{split_text}
 use Rattle.send_jobs.specs.declared.attempts.Attempt.{Attempt}
-use Rattle.send_jobs.specs.declared.channels.Channel.TheVariants.{Local}
+use Rattle.send_known.specs.declared.channel.Channel.TheVariants.{Local}
 use Rattle.send_jobs.specs.Sending.{lane}
 use Rattle.send_jobs.specs.Slots.{attempt_in}
 use Rattle.spawn_protocol.specs.declared.request.Request.{Request}

@@ -27,10 +27,10 @@ use Rattle.queue_law.proofs.Cleaners.{cleaners_keep as calls_keep}
 use Rattle.queue_law.proofs.Looks.{find_none, find_some, found, mapped_some, not_found}
 use Rattle.queue_paths.specs.Names.Name.{Of}
 use Rattle.queue_paths.specs.Names.Part.{Info, Todo}
-use Rattle.send_core.specs.declared.row.Row.{Row as SenderRow}
+use Rattle.send_parts.specs.declared.row.Row.{Row as SenderRow}
 use Rattle.send_core.specs.Table.{place_after as sender_after}
 use Rattle.send_jobs.specs.declared.attempts.Attempt.{Attempt}
-use Rattle.send_jobs.specs.declared.channels.Channel.{Channel}
+use Rattle.send_known.specs.declared.channel.Channel.{Channel}
 use Rattle.send_jobs.specs.declared.slots.Slots.{Slots}
 use Rattle.send_jobs.specs.Jobs.{job_of}
 use Rattle.send_jobs.specs.Sending.{lane}

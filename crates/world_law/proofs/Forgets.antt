@@ -4,8 +4,8 @@ use Rattle.call_fs.specs.Disk.{Among}
 use Rattle.program_law.specs.Post.Posts.{AllTell, At, Done, Fares, IsDue, Post, Posted, Tells, WasDoneFor, busy, channel_of, goes_at, in_hand, most, owed_at, reports, told_of, work_of}
 use Rattle.program_law.proofs.Post.Frames.{is_apart}
 use Rattle.send_jobs.specs.declared.attempts.Attempt.{Attempt}
-use Rattle.send_jobs.specs.declared.channels.Channel.{Channel}
-use Rattle.send_jobs.specs.declared.channels.Channel.TheVariants as channel
+use Rattle.send_known.specs.declared.channel.Channel.{Channel}
+use Rattle.send_known.specs.declared.channel.Channel.TheVariants as channel
 use Rattle.send_jobs.specs.Slots.{IsLeastFree, attempt_in, lowest}
 use Rattle.send_jobs.proofs.SlotLemmas.{lowest_is_least}
 use Rattle.spawn_protocol.specs.declared.report.Report.{Report}

@@ -18,8 +18,8 @@ use Rattle.queue_clean.specs.Commands.{message_of}
 use Rattle.queue_clean.specs.Table.{Place, place_after}
 use Rattle.local_spawn.specs.Table.{place_after as local_after}
 use Rattle.remote_spawn.specs.Table.{place_after as spawn_after}
-use Rattle.send_core.specs.declared.row.Row.{Row}
-use Rattle.send_core.specs.declared.row.Row.TheVariants as at
+use Rattle.send_parts.specs.declared.row.Row.{Row}
+use Rattle.send_parts.specs.declared.row.Row.TheVariants as at
 use Rattle.send_core.specs.Table.{place_after as send_after}
 use Rattle.send_core.specs.Turn.{known_of}
 use Rattle.send_parts.specs.declared.rows.FinishRow.TheVariants as finish

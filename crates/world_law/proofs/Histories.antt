@@ -29,16 +29,16 @@ use Rattle.send_core.specs.Agrees.{has_ended, task_of}
 use Rattle.send_core.specs.Past.{Task, account, first_of}
 use Rattle.send_core.specs.Table.{Next, arrive, place_after as sender_after, due_at, port_of, row_now}
 use Rattle.send_core.specs.declared.desk.Desk.{Desk}
-use Rattle.send_core.specs.declared.row.Row.{Row}
-use Rattle.send_core.specs.declared.row.Row.TheVariants as at
+use Rattle.send_parts.specs.declared.row.Row.{Row}
+use Rattle.send_parts.specs.declared.row.Row.TheVariants as at
 use Rattle.send_core.proofs.Agreed.{lanes_agree}
 use Rattle.send_core.proofs.Runs.{gives_requests}
 use Rattle.send_jobs.specs.declared.attempts.Attempt.{Attempt}
 use Rattle.send_jobs.specs.Sending.{lane}
-use Rattle.send_parts.specs.Requests.{request_of, to_slot}
+use Rattle.send_links.specs.Requests.{request_of, to_slot}
 use Rattle.call_fs.specs.Past.{IsRunBy}
 use Rattle.world_law.proofs.Ran.{have_run}
-use Rattle.send_jobs.specs.declared.channels.Channel.{Channel}
+use Rattle.send_known.specs.declared.channel.Channel.{Channel}
 use Rattle.program_law.specs.Sender.Control.{AreControls}
 use Rattle.program_law.proofs.Sender.Arrive.{arrived}
 use Rattle.program_law.proofs.Sender.Asking.{requests_are_texts}

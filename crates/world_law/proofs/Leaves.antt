@@ -31,7 +31,7 @@ use Rattle.remote_spawn.specs.Table.{place_after as remote_after, program_of as 
 use Rattle.send_core.specs.Booked.{booked_at}
 use Rattle.send_core.specs.Table.{place_after as sender_after, due_at, row_now}
 use Rattle.send_core.specs.declared.desk.Desk.{Desk}
-use Rattle.send_core.specs.declared.row.Row.{Row}
+use Rattle.send_parts.specs.declared.row.Row.{Row}
 use Rattle.program_law.specs.Sender.Takings.{booked_queue}
 use Rattle.program_law.proofs.Sender.ControlsRead.{controls_are_read}
 use Rattle.program_law.proofs.Sender.Whole.{senders_keep as sender_keeps}

@@ -30,7 +30,7 @@ use Rattle.queue_law.specs.Numbers.{Queue}
 use Rattle.queue_law.specs.Passes.{HasOpen}
 use Rattle.queue_law.specs.Senders.{OnlyReads, called_queue}
 use Rattle.queue_law.proofs.Opens.{opened_held}
-use Rattle.send_jobs.specs.declared.channels.Channel.TheVariants.{Local}
+use Rattle.send_known.specs.declared.channel.Channel.TheVariants.{Local}
 use Rattle.spawner_parts.specs.declared.row.Row.TheVariants as work_at
 use Rattle.spawner_parts.specs.Table.{act as work_act, row_now}
 use Rattle.world_events.specs.declared.event.Program.{Program}

@@ -27,9 +27,9 @@ use Rattle.queue_clean.specs.declared.row.Row.TheVariants as clean
 use Rattle.queue_clean.specs.Table.{due_at as clean_due, is_old, pid_path, place_after as clean_after, search_after}
 use Rattle.queue_inject.proofs.Acts.{IsAlone, next_alone}
 use Rattle.remote_spawn.specs.Table.{place_after as remote_after, program_of as remote_program}
-use Rattle.send_jobs.specs.declared.channels.Channel.{Channel}
-use Rattle.send_jobs.specs.declared.channels.Channel.TheVariants as channel
-use Rattle.send_jobs.specs.Channels.{port_of}
+use Rattle.send_known.specs.declared.channel.Channel.{Channel}
+use Rattle.send_known.specs.declared.channel.Channel.TheVariants as channel
+use Rattle.send_parts.specs.Channels.{port_of}
 use Rattle.spawner_parts.specs.declared.place.Place.{Place}
 use Rattle.spawner_parts.specs.declared.row.Row.{Row}
 use Rattle.spawner_parts.specs.declared.row.Row.TheVariants as work_at

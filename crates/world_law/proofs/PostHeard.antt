@@ -15,11 +15,11 @@ use Rattle.program_law.proofs.Post.Asks.{greets_keep}
 use Rattle.program_law.proofs.Post.Aways.{IsAway, control_away, row_away, start_away}
 use Rattle.program_law.proofs.Post.Hears.{hears_keep}
 use Rattle.send_core.specs.declared.desk.Desk.{Desk}
-use Rattle.send_core.specs.declared.row.Row.{Row}
-use Rattle.send_core.specs.declared.row.Row.TheVariants as at
+use Rattle.send_parts.specs.declared.row.Row.{Row}
+use Rattle.send_parts.specs.declared.row.Row.TheVariants as at
 use Rattle.send_core.specs.Desk.{link, with_reader}
 use Rattle.send_core.specs.Table.{arrive, place_after as sender_after, due_at, row_now}
-use Rattle.send_jobs.specs.declared.channels.Channel.TheVariants.{Local, Remote}
+use Rattle.send_known.specs.declared.channel.Channel.TheVariants.{Local, Remote}
 use Rattle.send_jobs.specs.Sending.{lane}
 use Rattle.send_parts.specs.declared.rows.StartRow.{StartRow}
 use Rattle.send_parts.specs.declared.rows.StartRow.TheVariants as start

@@ -20,7 +20,7 @@ use Rattle.program_law.proofs.Post.Senders.{senders_keep}
 use Rattle.queue_inject.proofs.Acts.{IsAlone, next_alone}
 use Rattle.send_core.specs.declared.desk.Desk.{Desk}
 use Rattle.send_core.specs.Table.{begun}
-use Rattle.send_jobs.specs.declared.channels.Channel.TheVariants as channel
+use Rattle.send_known.specs.declared.channel.Channel.TheVariants as channel
 use Rattle.program_law.specs.Sender.Control.{AreControls}
 use Rattle.world_pipes.specs.Pipework.{no_pipework, with_child}
 use Rattle.world_pipes.specs.Pipework.Tenant.{Runs}

@@ -10,9 +10,9 @@ use Rattle.call_fs.specs.declared.program.Port.TheVariants as port
 use Rattle.queue_law.proofs.Tests.{other_text, same_text}
 use Rattle.program_law.specs.Post.Posts.{asked_by, told_by}
 use Rattle.program_law.specs.Post.Senders.{asked_on, told_on}
-use Rattle.send_jobs.specs.declared.channels.Channel.{Channel}
-use Rattle.send_jobs.specs.declared.channels.Channel.TheVariants as channel
-use Rattle.send_jobs.specs.Channels.{port_of}
+use Rattle.send_known.specs.declared.channel.Channel.{Channel}
+use Rattle.send_known.specs.declared.channel.Channel.TheVariants as channel
+use Rattle.send_parts.specs.Channels.{port_of}
 use Rattle.world_pipes.specs.Pipework.{Mouth, Pipe, Pipework, Tenant, child_output, closed, fresh, given, gives, input_of, is_port, mouth, output}
 use Rattle.world_pipes.specs.Pipework.{pipes_after, programs_after, put_pipe, put_program, taken, with_output}
 use Rattle.world_pipes.specs.Pipework.Tenant.{Runs, Remote}

@@ -23,7 +23,7 @@ use Rattle.local_parts.specs.Arguments.{local_args}
 use Rattle.program_law.specs.Post.Posts.{Done, IsOffered, Post, Posted, Task, asked_by, done_by, entered, task_of, tasks_by, told_by, works}
 use Rattle.program_law.specs.Post.Senders.{IsFirst}
 use Rattle.program_law.proofs.Post.Spawners.{spawners_keep}
-use Rattle.send_jobs.specs.declared.channels.Channel.TheVariants as channel
+use Rattle.send_known.specs.declared.channel.Channel.TheVariants as channel
 use Rattle.spawner_parts.specs.declared.row.Row.{Row as WorkRow}
 use Rattle.spawner_parts.specs.declared.row.Row.TheVariants as work_at
 use Rattle.spawner_parts.specs.Table.{row_now}

@@ -18,7 +18,7 @@ use Rattle.send_core.specs.Past.{Account, Task, account, settle, settle_by}
 use Rattle.send_core.specs.Table.{Next, place_after as sender_after}
 use Rattle.send_runs.proofs.Reports.{Flies, flies_told}
 use Rattle.send_jobs.specs.declared.attempts.Attempt.{Attempt}
-use Rattle.send_jobs.specs.declared.channels.Channel.TheVariants.{Local}
+use Rattle.send_known.specs.declared.channel.Channel.TheVariants.{Local}
 use Rattle.send_jobs.specs.Sending.{lane}
 use Rattle.send_jobs.specs.Slots.{attempt_in}
 use Rattle.spawn_protocol.specs.declared.report.Report.{Report}

@@ -3,7 +3,7 @@ use Rattle.std.proofs.Common.{◌≡◌, ℕ, List, Option, Some, refl, sym, sub
 use Rattle.address_rules.specs.declared.controls.Controls.{Controls}
 use Rattle.call_fs.specs.declared.past.Own.{Own}
 use Rattle.remote_spawn.specs.Table.{place_after, program_of as asked_for, remote}
-use Rattle.send_jobs.specs.declared.channels.Channel.TheVariants.{Remote}
+use Rattle.send_known.specs.declared.channel.Channel.TheVariants.{Remote}
 use Rattle.spawner_parts.specs.declared.place.Place.{Place}
 use Rattle.spawner_parts.specs.Table.{IsKind}
 use Rattle.spawner_parts.specs.Table.IsReadied.{IsGiven}

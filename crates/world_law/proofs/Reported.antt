@@ -14,7 +14,7 @@ use Rattle.send_core.specs.Past.{account}
 use Rattle.send_core.specs.Table.{Next}
 use Rattle.send_jobs.specs.Bookings.{Booking}
 use Rattle.send_jobs.specs.Bookings.Booking.{Reported}
-use Rattle.send_jobs.specs.declared.channels.Channel.{Channel}
+use Rattle.send_known.specs.declared.channel.Channel.{Channel}
 use Rattle.send_runs.specs.Reports.{WasReported, taken_by, taken_when}
 use Rattle.send_runs.proofs.Flights.{all_settled, flights_were_given}
 use Rattle.send_runs.proofs.Reports.{enters, was_entered}

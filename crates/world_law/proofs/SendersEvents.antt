@@ -27,12 +27,12 @@ use Rattle.queue_law.specs.Numbers.{Queue}
 use Rattle.queue_law.specs.Senders.{called_queue}
 use Rattle.send_core.specs.Booked.{booked_at, returned_at}
 use Rattle.send_core.specs.declared.desk.Desk.{Desk}
-use Rattle.send_core.specs.declared.row.MarkRow.TheVariants as mark
-use Rattle.send_core.specs.declared.row.Row.{Row}
-use Rattle.send_core.specs.declared.row.Row.TheVariants as at
+use Rattle.send_parts.specs.declared.row.MarkRow.TheVariants as mark
+use Rattle.send_parts.specs.declared.row.Row.{Row}
+use Rattle.send_parts.specs.declared.row.Row.TheVariants as at
 use Rattle.send_core.specs.Table.{place_after as sender_after, due_at, moved_by, row_now}
 use Rattle.send_jobs.specs.Bookings.Booking.{Returned}
-use Rattle.send_jobs.specs.declared.channels.Channel.TheVariants.{Local, Remote}
+use Rattle.send_known.specs.declared.channel.Channel.TheVariants.{Local, Remote}
 use Rattle.send_parts.specs.declared.rows.FinishRow.TheVariants as finish
 use Rattle.program_law.specs.Sender.ControlFiles.{IsOnLink, LeavesControls}
 use Rattle.program_law.specs.Sender.Stands.{StandsAt}

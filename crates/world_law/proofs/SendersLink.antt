@@ -20,8 +20,8 @@ use Rattle.queue_law.specs.Numbers.{Queue}
 use Rattle.queue_law.specs.Rests.{IsClosed}
 use Rattle.queue_law.proofs.Tests.{text_cases}
 use Rattle.send_core.specs.declared.desk.Desk.{Desk}
-use Rattle.send_core.specs.declared.row.Row.{Row}
-use Rattle.send_core.specs.declared.row.Row.TheVariants as at
+use Rattle.send_parts.specs.declared.row.Row.{Row}
+use Rattle.send_parts.specs.declared.row.Row.TheVariants as at
 use Rattle.send_core.specs.Table.{due_at}
 use Rattle.send_parts.specs.declared.rows.FinishRow.TheVariants as finish
 use Rattle.send_parts.specs.declared.rows.SweepRow.TheVariants as sweep

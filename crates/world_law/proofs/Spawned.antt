@@ -22,8 +22,8 @@ use Rattle.queue_states.specs.States.{state_of}
 use Rattle.remote_spawn.specs.Table.{place_after as remote_after}
 use Rattle.send_core.specs.Table.{begun, port_of}
 use Rattle.send_jobs.specs.declared.attempts.Attempt.{Attempt}
-use Rattle.send_jobs.specs.declared.channels.Channel.{Channel}
-use Rattle.send_jobs.specs.declared.channels.Channel.TheVariants as channel
+use Rattle.send_known.specs.declared.channel.Channel.{Channel}
+use Rattle.send_known.specs.declared.channel.Channel.TheVariants as channel
 use Rattle.send_jobs.specs.Sending.{lane}
 use Rattle.send_jobs.specs.Slots.{attempt_in}
 use Rattle.program_law.specs.Sender.Control.{AreControls}

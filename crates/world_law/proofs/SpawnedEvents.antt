@@ -12,8 +12,8 @@ use Rattle.program_law.specs.Post.Posts.{IsOffered, due_of}
 use Rattle.program_law.specs.Post.Senders.{AsksFor, IsSome}
 use Rattle.send_core.specs.declared.desk.Desk.{Desk}
 use Rattle.send_core.specs.Table.{place_after as sender_after, due_at, port_of, row_now}
-use Rattle.send_jobs.specs.declared.channels.Channel.{Channel}
-use Rattle.send_jobs.specs.declared.channels.Channel.TheVariants as channel
+use Rattle.send_known.specs.declared.channel.Channel.{Channel}
+use Rattle.send_known.specs.declared.channel.Channel.TheVariants as channel
 use Rattle.program_law.proofs.Sender.Asking.{requests_are_texts}
 use Rattle.world_pipes.specs.Pipework.{Pipework, is_writer, with_child, writer}
 use Rattle.world_events.specs.declared.event.Program.{Program}

@@ -31,8 +31,8 @@ use Rattle.program_law.proofs.Post.Rows.{respawned}
 use Rattle.program_law.proofs.Post.Sums.{own_one}
 use Rattle.program_law.proofs.Post.Works.{arrives}
 use Rattle.remote_spawn.specs.Table.{program_of as remote_program, remote}
-use Rattle.send_jobs.specs.declared.channels.Channel.{Channel}
-use Rattle.send_jobs.specs.declared.channels.Channel.TheVariants as channel
+use Rattle.send_known.specs.declared.channel.Channel.{Channel}
+use Rattle.send_known.specs.declared.channel.Channel.TheVariants as channel
 use Rattle.send_jobs.specs.Slots.{attempt_in}
 use Rattle.spawn_protocol.specs.declared.report.Report.{Report}
 use Rattle.spawn_protocol.specs.declared.request.Request.{Request}

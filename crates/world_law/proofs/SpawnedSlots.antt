@@ -17,14 +17,14 @@ use Rattle.program_law.proofs.Post.Aways.{IsAway, away_asked, control_away, row_
 use Rattle.program_law.proofs.Post.Desks.{desks_tell, was_in}
 use Rattle.program_law.proofs.Post.Leaves.{Halves, IsStill, Same, act_goes}
 use Rattle.send_core.specs.declared.desk.Desk.{Desk}
-use Rattle.send_core.specs.declared.row.Point.TheVariants as point
-use Rattle.send_core.specs.declared.row.Row.{Row}
-use Rattle.send_core.specs.declared.row.Row.TheVariants as at
+use Rattle.send_parts.specs.declared.row.Point.TheVariants as point
+use Rattle.send_parts.specs.declared.row.Row.{Row}
+use Rattle.send_parts.specs.declared.row.Row.TheVariants as at
 use Rattle.send_core.specs.Desk.{link, stands_at, with_requests}
 use Rattle.send_core.specs.Table.{act, arrive, due_at, from_point, moved, moved_by, port_of, row_now}
 use Rattle.send_jobs.specs.declared.attempts.Attempt.{Attempt}
-use Rattle.send_jobs.specs.declared.channels.Channel.{Channel}
-use Rattle.send_jobs.specs.declared.channels.Channel.TheVariants.{Local, Remote}
+use Rattle.send_known.specs.declared.channel.Channel.{Channel}
+use Rattle.send_known.specs.declared.channel.Channel.TheVariants.{Local, Remote}
 use Rattle.send_jobs.specs.declared.lane.Lane.{Lane}
 use Rattle.send_jobs.specs.declared.slots.Slots.{Slots}
 use Rattle.send_jobs.specs.Lanes.{next, sent_in}
@@ -33,7 +33,7 @@ use Rattle.send_jobs.specs.Slots.{attempt_in, lowest}
 use Rattle.send_parts.specs.declared.rows.StartRow.{StartRow}
 use Rattle.send_parts.specs.declared.rows.StartRow.TheVariants as start
 use Rattle.send_parts.specs.Replies.{said}
-use Rattle.send_parts.specs.Requests.{first_text}
+use Rattle.send_links.specs.Requests.{first_text}
 use Rattle.send_parts.specs.Start.{remote_limit}
 use Rattle.spawn_protocol.specs.declared.report.Report.{Report}
 use Rattle.spawn_protocol.specs.Report.{read_on}

@@ -25,13 +25,13 @@ use Rattle.program_law.proofs.Post.Spawners.{spawners_keep}
 use Rattle.program_law.proofs.Post.TakesIn.{drop_past}
 use Rattle.remote_spawn.specs.Table.{place_after as remote_after}
 use Rattle.send_core.specs.declared.desk.Desk.{Desk}
-use Rattle.send_core.specs.declared.row.Row.{Row}
-use Rattle.send_core.specs.declared.row.Row.TheVariants as at
+use Rattle.send_parts.specs.declared.row.Row.{Row}
+use Rattle.send_parts.specs.declared.row.Row.TheVariants as at
 use Rattle.send_core.specs.Desk.{link}
 use Rattle.send_core.specs.Table.{begun, due_at, moved, port_of, row_now}
 use Rattle.send_jobs.specs.declared.attempts.Attempt.{Attempt}
-use Rattle.send_jobs.specs.declared.channels.Channel.{Channel}
-use Rattle.send_jobs.specs.declared.channels.Channel.TheVariants as channel
+use Rattle.send_known.specs.declared.channel.Channel.{Channel}
+use Rattle.send_known.specs.declared.channel.Channel.TheVariants as channel
 use Rattle.send_jobs.specs.declared.lane.Lane.{Lane}
 use Rattle.send_jobs.specs.Sending.{lane}
 use Rattle.send_jobs.specs.Slots.{IsLeastFree, attempt_in, lowest}

@@ -23,8 +23,8 @@ use Rattle.call_fs.specs.declared.program.Port.{Port}
 use Rattle.call_fs.specs.declared.program.Port.TheVariants as port
 use Rattle.call_fs.specs.declared.program.Ready.{Ready}
 use Rattle.call_fs.specs.Apply.{Fits}
-use Rattle.send_jobs.specs.declared.channels.Channel.{Channel}
-use Rattle.send_jobs.specs.declared.channels.Channel.TheVariants as channel
+use Rattle.send_known.specs.declared.channel.Channel.{Channel}
+use Rattle.send_known.specs.declared.channel.Channel.TheVariants as channel
 use Rattle.spawn_protocol.specs.Inbox.{pull, with_more}
 use Rattle.spawn_protocol.specs.declared.inbox.Intake.{Intake}
 use Rattle.spawn_protocol.specs.declared.inbox.Intake.TheVariants as intake

@@ -6,8 +6,8 @@ use Rattle.mail_bytes.specs.Moments.{IsMoment}
 use Rattle.queue_law.specs.Numbers.{Queue}
 use Rattle.queue_law.specs.Numbers.Role.{AsOld}
 use Rattle.send_core.specs.declared.desk.Desk.{Desk}
-use Rattle.send_core.specs.declared.row.Row.{Row}
-use Rattle.send_core.specs.declared.row.Row.TheVariants.{Sweep}
+use Rattle.send_parts.specs.declared.row.Row.{Row}
+use Rattle.send_parts.specs.declared.row.Row.TheVariants.{Sweep}
 use Rattle.send_core.specs.Table.{place_after as sender_after, row_now}
 use Rattle.send_parts.specs.declared.rows.SweepRow.TheVariants.{Give}
 use Rattle.program_law.specs.Sender.Rows.{IsAged}

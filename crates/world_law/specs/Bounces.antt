@@ -23,7 +23,7 @@ use Rattle.queue_law.specs.Routes.{Recipient, lane_part, sender_of}
 use Rattle.queue_paths.specs.Names.{path}
 use Rattle.queue_paths.specs.Names.Name.{Of}
 use Rattle.queue_paths.specs.Names.Part.{Bounce as BounceFile}
-use Rattle.send_jobs.specs.declared.channels.Channel.{Channel}
+use Rattle.send_known.specs.declared.channel.Channel.{Channel}
 use Rattle.received_line.specs.declared.line.Invoked.TheVariants as invoking
 use Rattle.program_law.specs.Sender.Control.{AreControls}
 use Rattle.mail_world.specs.History.{Actor, Event, Legal, after}

@@ -26,7 +26,7 @@ use Rattle.queue_inject.specs.Texts.{entered}
 use Rattle.queue_law.specs.Books.{Books, Injection, IsInjected}
 use Rattle.queue_law.specs.Routes.{Recipient, routed, spot_of}
 use Rattle.send_core.specs.Past.{Account, Task, account, settle}
-use Rattle.send_jobs.specs.declared.channels.Channel.TheVariants.{Local}
+use Rattle.send_known.specs.declared.channel.Channel.TheVariants.{Local}
 use Rattle.spawn_protocol.specs.declared.report.Report.{Report}
 use Rattle.spawn_protocol.specs.Report.{counted}
 use Rattle.send_runs.specs.Reports.{reports_at}

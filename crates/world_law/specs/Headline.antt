@@ -17,12 +17,12 @@ use Rattle.queue_states.specs.declared.state.State.TheVariants.{Other}
 use Rattle.queue_states.specs.States.{state_of}
 use Rattle.program_law.specs.Channel.Files.{IsOpen}
 use Rattle.send_jobs.specs.declared.attempts.Attempt.{Attempt}
-use Rattle.send_jobs.specs.declared.channels.Channel.{Channel}
-use Rattle.send_jobs.specs.declared.channels.Channel.TheVariants.{Local}
+use Rattle.send_known.specs.declared.channel.Channel.{Channel}
+use Rattle.send_known.specs.declared.channel.Channel.TheVariants.{Local}
 use Rattle.send_core.specs.Agrees.{task_of}
 use Rattle.send_core.specs.Past.{Task, account}
 use Rattle.send_core.specs.Table.{port_of}
-use Rattle.send_parts.specs.Requests.{request_of, to_slot}
+use Rattle.send_links.specs.Requests.{request_of, to_slot}
 use Rattle.queue_law.specs.Books.{Books, HasQueued, Injection, IsInjected, IsValid}
 use Rattle.queue_law.specs.Numbers.Role.{AsOld}
 use Rattle.queue_law.specs.Routes.{Recipient, routed, sender_of, spot_of}

@@ -5,7 +5,7 @@ use Rattle.call_fs.specs.Disk.{Among, Disk}
 use Rattle.call_fs.specs.declared.past.Own.{Own}
 use Rattle.queue_law.specs.Books.{Injection, IsInjected}
 use Rattle.queue_law.specs.Ledgers.{HasGrown, Ledger, Spot}
-use Rattle.send_jobs.specs.declared.channels.Channel.{Channel}
+use Rattle.send_known.specs.declared.channel.Channel.{Channel}
 use Rattle.send_runs.specs.Reports.{HasNoReport, WasGiven, WasReported}
 use Rattle.world_events.specs.declared.event.Program.TheVariants.{Sender}
 use Rattle.mail_world.specs.History.{Actor, Event, Legal, after}

@@ -15,8 +15,8 @@ use Rattle.queue_paths.specs.Names.{split_text}
 use Rattle.queue_states.specs.declared.state.State.TheVariants.{S5}
 use Rattle.queue_states.specs.States.{state_of}
 use Rattle.remote_spawn.specs.Table.{place_after as remote_after}
-use Rattle.send_jobs.specs.declared.channels.Channel.{Channel}
-use Rattle.send_jobs.specs.declared.channels.Channel.TheVariants as channel
+use Rattle.send_known.specs.declared.channel.Channel.{Channel}
+use Rattle.send_known.specs.declared.channel.Channel.TheVariants as channel
 use Rattle.program_law.specs.Sender.Control.{AreControls}
 use Rattle.spawn_protocol.specs.declared.inbox.Intake.TheVariants as intake
 use Rattle.spawn_protocol.specs.declared.request.Request.{Request}

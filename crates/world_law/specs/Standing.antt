@@ -32,13 +32,13 @@ use Rattle.queue_states.specs.States.{state_of}
 use Rattle.send_core.specs.declared.desk.Desk.{Desk}
 use Rattle.send_core.specs.Desk.{due_on}
 use Rattle.send_core.specs.Table.{place_after as sender_after, row_now}
-use Rattle.send_core.specs.declared.row.Row.TheVariants.{Sweep}
+use Rattle.send_parts.specs.declared.row.Row.TheVariants.{Sweep}
 use Rattle.send_jobs.specs.declared.attempts.Attempt.{Attempt}
-use Rattle.send_jobs.specs.declared.channels.Channel.{Channel}
-use Rattle.send_jobs.specs.declared.channels.Channel.TheVariants as channel
+use Rattle.send_known.specs.declared.channel.Channel.{Channel}
+use Rattle.send_known.specs.declared.channel.Channel.TheVariants as channel
 use Rattle.send_jobs.specs.Sending.{lane}
 use Rattle.send_jobs.specs.Slots.{attempt_in}
-use Rattle.send_parts.specs.Files.{records_of}
+use Rattle.send_links.specs.Records.{records_of}
 use Rattle.send_parts.specs.declared.rows.SweepRow.TheVariants.{Give}
 use Rattle.program_law.specs.Sender.Control.{AreControls}
 use Rattle.program_law.specs.Sender.Rows.{IsAged}

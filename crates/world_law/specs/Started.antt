@@ -7,7 +7,7 @@ use Rattle.call_fs.specs.declared.past.Own.{Own}
 use Rattle.call_fs.specs.declared.program.Port.TheVariants as port
 use Rattle.send_core.specs.Past.{Task, account}
 use Rattle.send_core.specs.Past.Happening.{Gives}
-use Rattle.send_jobs.specs.declared.channels.Channel.TheVariants.{Local}
+use Rattle.send_known.specs.declared.channel.Channel.TheVariants.{Local}
 use Rattle.send_runs.specs.Reports.{given_by}
 use Rattle.world_events.specs.declared.event.Program.{Program}
 use Rattle.world_events.specs.declared.event.Program.TheVariants.{Sender}

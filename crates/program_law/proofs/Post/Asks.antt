@@ -6,8 +6,8 @@ use Rattle.std.proofs.lemmas.List.{get_or_past, get_or-set_other, get_or-set_sam
 use Rattle.call_fs.specs.Maps.{put}
 use Rattle.call_fs.proofs.Maps.{put_same}
 use Rattle.send_jobs.specs.declared.attempts.Attempt.{Attempt}
-use Rattle.send_jobs.specs.declared.channels.Channel.{Channel}
-use Rattle.send_jobs.specs.declared.channels.Channel.TheVariants as channel
+use Rattle.send_known.specs.declared.channel.Channel.{Channel}
+use Rattle.send_known.specs.declared.channel.Channel.TheVariants as channel
 use Rattle.send_jobs.specs.Slots.{IsLeastFree, attempt_in, lowest}
 use Rattle.send_jobs.proofs.SlotLemmas.{lowest_is_least}
 use Rattle.spawn_protocol.specs.declared.inbox.Intake.{Intake}

@@ -7,14 +7,14 @@ use Rattle.send_core.specs.declared.desk.Desk.{Desk}
 use Rattle.send_core.specs.Desk.{deferred, failure_in, heard, is_final, link, retried_if, told, told_all, told_by, waits, with_reader}
 use Rattle.send_jobs.specs.declared.attempts.Attempt.{Attempt}
 use Rattle.send_jobs.specs.declared.attempts.Failure.{Failure}
-use Rattle.send_jobs.specs.declared.channels.Channel.{Channel}
-use Rattle.send_jobs.specs.declared.channels.Channel.TheVariants.{Local, Remote}
+use Rattle.send_known.specs.declared.channel.Channel.{Channel}
+use Rattle.send_known.specs.declared.channel.Channel.TheVariants.{Local, Remote}
 use Rattle.send_jobs.specs.declared.jobs.Job.{Job}
 use Rattle.send_jobs.specs.declared.lane.Lane.{Lane}
 use Rattle.send_jobs.specs.Lanes.{job_over, left_unmarked, reported}
 use Rattle.send_jobs.specs.Sending.{at_lane, lane}
 use Rattle.send_jobs.specs.Slots.{attempt_in}
-use Rattle.send_parts.specs.declared.link.Link.{Link}
+use Rattle.send_links.specs.declared.link.Link.{Link}
 use Rattle.spawn_protocol.specs.declared.report.Report.{Report}
 use Rattle.spawn_protocol.specs.Report.{Reader, counted, read_on}
 use Rattle.program_law.specs.Post.Laws.{DesksTell}

@@ -9,20 +9,20 @@ use Rattle.call_fs.specs.declared.past.GotData.{GotData}
 use Rattle.envelope_records.specs.declared.channel.Record.{Record}
 use Rattle.mail_bytes.specs.Decimal.{digits}
 use Rattle.send_core.specs.declared.desk.Desk.{Desk}
-use Rattle.send_core.specs.declared.row.MarkRow.{MarkRow}
-use Rattle.send_core.specs.declared.row.MarkRow.TheVariants as mark
-use Rattle.send_core.specs.declared.row.Marked.{Marked}
-use Rattle.send_core.specs.declared.row.Point.{Point}
-use Rattle.send_core.specs.declared.row.Point.TheVariants as point
-use Rattle.send_core.specs.declared.row.Row.{Row}
-use Rattle.send_core.specs.declared.row.Row.TheVariants as at
+use Rattle.send_parts.specs.declared.row.MarkRow.{MarkRow}
+use Rattle.send_parts.specs.declared.row.MarkRow.TheVariants as mark
+use Rattle.send_parts.specs.declared.row.Marked.{Marked}
+use Rattle.send_parts.specs.declared.row.Point.{Point}
+use Rattle.send_parts.specs.declared.row.Point.TheVariants as point
+use Rattle.send_parts.specs.declared.row.Row.{Row}
+use Rattle.send_parts.specs.declared.row.Row.TheVariants as at
 use Rattle.send_core.specs.Desk.{closed, closed_by, done_with, due_again, goes, has_begun, is_free_for, later, next_idle, past_finish, past_todo, ready, retried, retry_of, stands_at, sweep_due, turn_counted, turn_over}
 use Rattle.send_core.specs.Finish.{act_finish, act_sweep, bounce_on, finish_at, forgot, looked_up, put_off_to, returned_to, sweep_at, sweep_begun}
 use Rattle.send_core.specs.Table.{act, busy}
 use Rattle.send_core.specs.Turn.{act_mark, begin_note, begun_at, file_read, is_done, known_of, mark_over, mark_opened, noted_at, pass_opened, put_later, todo_found, todo_named, todo_none, todo_on, todo_over, todo_went, unlinked}
 use Rattle.send_jobs.specs.declared.attempts.Attempt.{Attempt}
-use Rattle.send_jobs.specs.declared.channels.Channel.{Channel}
-use Rattle.send_jobs.specs.declared.channels.Channel.TheVariants.{Local, Remote}
+use Rattle.send_known.specs.declared.channel.Channel.{Channel}
+use Rattle.send_known.specs.declared.channel.Channel.TheVariants.{Local, Remote}
 use Rattle.send_jobs.specs.declared.jobs.Job.{Job}
 use Rattle.send_jobs.specs.Lanes.{job_over, left_unmarked, mark_settled}
 use Rattle.send_jobs.specs.Sending.{at_lane, lane}
@@ -38,7 +38,8 @@ use Rattle.send_parts.specs.declared.rows.Search.{Search}
 use Rattle.send_parts.specs.declared.rows.Search.TheVariants as search
 use Rattle.send_parts.specs.declared.rows.SweepRow.{SweepRow}
 use Rattle.send_parts.specs.declared.rows.SweepRow.TheVariants as sweep
-use Rattle.send_parts.specs.Files.{message_number, records_of}
+use Rattle.send_links.specs.Records.{records_of}
+use Rattle.send_parts.specs.Files.{message_number}
 use Rattle.send_parts.specs.Finish.{finish_to}
 use Rattle.send_parts.specs.Readings.{read_on}
 use Rattle.send_parts.specs.Replies.{Said, is_fine, said}

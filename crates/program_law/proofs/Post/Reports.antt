@@ -15,8 +15,8 @@ use Rattle.local_spawn.specs.declared.row.Row.TheVariants as start
 use Rattle.local_spawn.specs.Table.{due_from, served}
 use Rattle.queue_limits.specs.declared.statuses.TheConstants.{OUTPUT}
 use Rattle.remote_spawn.specs.Table.{due_from as remote_due, remote}
-use Rattle.send_jobs.specs.declared.channels.Channel.{Channel}
-use Rattle.send_jobs.specs.declared.channels.Channel.TheVariants as channel
+use Rattle.send_known.specs.declared.channel.Channel.{Channel}
+use Rattle.send_known.specs.declared.channel.Channel.TheVariants as channel
 use Rattle.send_jobs.specs.Slots.{attempt_in}
 use Rattle.spawn_protocol.specs.declared.report.Report.{Report}
 use Rattle.spawn_protocol.specs.declared.request.Request.{Request}

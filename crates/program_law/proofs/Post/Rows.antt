@@ -1,7 +1,7 @@
 -- What a step of a spawner leaves as it was, by its row before and after it.
 use Rattle.std.proofs.Common.{◌≡◌, ◌≢◌, ℕ, ◌+◌, ◌≤◌, List, [], Bool, true, false, Some, refl, sym, ap, ◌∙◌, subst, arith}
 use Rattle.send_jobs.specs.declared.attempts.Attempt.{Attempt}
-use Rattle.send_jobs.specs.declared.channels.Channel.{Channel}
+use Rattle.send_known.specs.declared.channel.Channel.{Channel}
 use Rattle.send_jobs.specs.Slots.{attempt_in}
 use Rattle.spawn_protocol.specs.declared.inbox.Inbox.{Inbox}
 use Rattle.spawn_protocol.specs.declared.request.Request.{Request}

@@ -1,7 +1,7 @@
 -- The next request of a spawner: it is the first that waits, if one is there.
 use Rattle.std.proofs.Common.{◌≡◌, ◌≢◌, ℕ, ◌+◌, ◌≤◌, List, [], ◌∷◌, ◌++◌, Bool, true, false, not, nat_le, if◌then◌else◌, Option, Some, None, refl, sym, ap, subst, arith}
 use Rattle.std.specs.Prelude.{is_none, is_some}
-use Rattle.send_jobs.specs.declared.channels.Channel.{Channel}
+use Rattle.send_known.specs.declared.channel.Channel.{Channel}
 use Rattle.spawn_protocol.specs.declared.inbox.Inbox.{Inbox}
 use Rattle.spawn_protocol.specs.declared.inbox.Intake.{Intake}
 use Rattle.spawn_protocol.specs.declared.inbox.Intake.TheVariants as intake

@@ -24,8 +24,8 @@ use Rattle.mail_bytes.specs.Netstring.{netstring}
 use Rattle.local_spawn.specs.Table.{due_from, local_kind, program_of, readied_by, served, users_closed, users_opened, users_opened_by, users_read, users_read_by}
 use Rattle.remote_spawn.specs.Reports.{crashed as remote_crashed}
 use Rattle.remote_spawn.specs.Table.{due_from as remote_due, program_of as remote_program, remote}
-use Rattle.send_jobs.specs.declared.channels.Channel.{Channel}
-use Rattle.send_jobs.specs.declared.channels.Channel.TheVariants as channel
+use Rattle.send_known.specs.declared.channel.Channel.{Channel}
+use Rattle.send_known.specs.declared.channel.Channel.TheVariants as channel
 use Rattle.spawn_protocol.specs.declared.inbox.Intake.{Intake}
 use Rattle.spawn_protocol.specs.declared.inbox.Intake.TheVariants as intake
 use Rattle.spawner_parts.specs.declared.place.Place.{Place}

@@ -9,18 +9,18 @@ use Rattle.call_fs.specs.declared.program.Ready.{Ready}
 use Rattle.mail_bytes.specs.Moments.{IsMoment}
 use Rattle.retry_schedule.specs.Due.{first_due}
 use Rattle.send_core.specs.declared.desk.Desk.{Desk}
-use Rattle.send_core.specs.declared.row.MarkRow.TheVariants as mark
-use Rattle.send_core.specs.declared.row.Point.{Point}
-use Rattle.send_core.specs.declared.row.Point.TheVariants as point
-use Rattle.send_core.specs.declared.row.Row.{Row}
-use Rattle.send_core.specs.declared.row.Row.TheVariants as at
+use Rattle.send_parts.specs.declared.row.MarkRow.TheVariants as mark
+use Rattle.send_parts.specs.declared.row.Point.{Point}
+use Rattle.send_parts.specs.declared.row.Point.TheVariants as point
+use Rattle.send_parts.specs.declared.row.Row.{Row}
+use Rattle.send_parts.specs.declared.row.Row.TheVariants as at
 use Rattle.send_core.specs.Agrees.{is_same}
 use Rattle.send_core.specs.Desk.{due_on, never, next_idle, sweep_due}
 use Rattle.send_core.specs.Table.{arrive, begin_by, beginning, finishing, finishing_by, from_begin, from_local, from_point, from_remote, from_reports, from_sweep, from_take, going_on, holds, link_of, marking, marking_by, or_else, passing, sweeping, taking}
 use Rattle.send_jobs.specs.declared.attempts.Failure.{Failure}
 use Rattle.send_jobs.specs.declared.attempts.Mark.{Mark}
-use Rattle.send_jobs.specs.declared.channels.Channel.{Channel}
-use Rattle.send_jobs.specs.declared.channels.Channel.TheVariants.{Local, Remote}
+use Rattle.send_known.specs.declared.channel.Channel.{Channel}
+use Rattle.send_known.specs.declared.channel.Channel.TheVariants.{Local, Remote}
 use Rattle.send_jobs.specs.declared.slots.Slots.{Slots}
 use Rattle.send_jobs.specs.declared.jobs.Job.{Job}
 use Rattle.send_jobs.specs.Jobs.{job_of}

@@ -23,9 +23,9 @@ use Rattle.program_law.proofs.Channel.Ties.{at_itself}
 use Rattle.mail_bytes.specs.Moments.{IsMoment}
 use Rattle.retry_schedule.specs.Due.{is_due}
 use Rattle.send_core.specs.declared.desk.Desk.{Desk}
-use Rattle.send_core.specs.declared.row.MarkRow.TheVariants as mark
-use Rattle.send_core.specs.declared.row.Row.{Row}
-use Rattle.send_core.specs.declared.row.Row.TheVariants as at
+use Rattle.send_parts.specs.declared.row.MarkRow.TheVariants as mark
+use Rattle.send_parts.specs.declared.row.Row.{Row}
+use Rattle.send_parts.specs.declared.row.Row.TheVariants as at
 use Rattle.send_core.specs.Desk.{due_on, link, ready}
 use Rattle.send_core.specs.Finish.{looked_up, sweep_begun}
 use Rattle.send_core.specs.Table.{act, arrive, begun, due_at, moved_by, port_of, row_now}
@@ -36,8 +36,8 @@ use Rattle.send_core.proofs.Asked.{Asked, Base, Facts, IsAsked, asked_addressed,
 use Rattle.send_core.proofs.Known.{Each}
 use Rattle.send_core.proofs.Says.{arrive_says, asked_first}
 use Rattle.send_jobs.specs.declared.attempts.Attempt.{Attempt}
-use Rattle.send_jobs.specs.declared.channels.Channel.{Channel}
-use Rattle.send_jobs.specs.declared.channels.Channel.TheVariants.{Local, Remote}
+use Rattle.send_known.specs.declared.channel.Channel.{Channel}
+use Rattle.send_known.specs.declared.channel.Channel.TheVariants.{Local, Remote}
 use Rattle.send_jobs.specs.declared.lane.Lane.{Lane}
 use Rattle.send_jobs.specs.Jobs.{job_of}
 use Rattle.send_jobs.specs.Lanes.{next}
@@ -54,7 +54,7 @@ use Rattle.send_parts.specs.declared.rows.SweepRow.{SweepRow}
 use Rattle.send_parts.specs.declared.rows.SweepRow.TheVariants as sweep
 use Rattle.send_parts.specs.Readings.{read_on}
 use Rattle.send_parts.specs.Replies.{said}
-use Rattle.send_parts.specs.Requests.{addressed, first_text, request_of, to_slot}
+use Rattle.send_links.specs.Requests.{addressed, first_text, request_of, to_slot}
 use Rattle.send_parts.specs.Sweep.{sweep_to}
 use Rattle.todo_pass.specs.declared.row.Row.{Row as PassRow}
 use Rattle.todo_pass.specs.declared.row.Row.TheVariants as todo

@@ -6,8 +6,8 @@ use Rattle.address_rules.specs.declared.controls.Controls.{Controls}
 use Rattle.send_core.specs.Desk.{due_on, never}
 use Rattle.send_core.specs.Table.{begun}
 use Rattle.send_jobs.specs.declared.attempts.Mark.{Mark}
-use Rattle.send_jobs.specs.declared.channels.Channel.{Channel}
-use Rattle.send_jobs.specs.declared.channels.Channel.TheVariants.{Local, Remote}
+use Rattle.send_known.specs.declared.channel.Channel.{Channel}
+use Rattle.send_known.specs.declared.channel.Channel.TheVariants.{Local, Remote}
 use Rattle.send_jobs.specs.declared.jobs.Job.{Job}
 use Rattle.send_jobs.specs.Jobs.{job_of}
 use Rattle.send_jobs.specs.Sending.{lane}

@@ -1,7 +1,7 @@
 -- The number that an event of a sender concerns is one that no injector touches any more.
 use Rattle.std.proofs.Common.{◌≡◌, inr, ℕ, Option, Some, None, subst}
 use Rattle.address_rules.specs.declared.controls.Controls.{Controls}
-use Rattle.send_jobs.specs.declared.channels.Channel.{Channel}
+use Rattle.send_known.specs.declared.channel.Channel.{Channel}
 use Rattle.queue_law.specs.Numbers.{IsTaken, Queue, Sound, about}
 use Rattle.queue_law.specs.Rests.{IsClosed}
 use Rattle.queue_law.specs.Senders.{HasLane}

@@ -18,7 +18,7 @@ use Rattle.call_fs.specs.declared.past.GotData.TheVariants.{Answered}
 use Rattle.call_fs.specs.declared.past.NeedData.TheVariants as needs
 use Rattle.call_fs.specs.Apply.{Fits}
 use Rattle.send_core.specs.declared.desk.Desk.{Desk}
-use Rattle.send_core.specs.declared.row.Row.TheVariants as at
+use Rattle.send_parts.specs.declared.row.Row.TheVariants as at
 use Rattle.send_core.specs.Start.{start_at}
 use Rattle.send_core.specs.Table.{act, due_at}
 use Rattle.send_jobs.specs.Sending.{lane}

@@ -24,8 +24,8 @@ use Rattle.call_fs.specs.declared.program.Ready.{Ready}
 use Rattle.call_fs.specs.Apply.{Fits, IsReadBy, from_place}
 use Rattle.call_fs.specs.Disk.{Open}
 use Rattle.send_core.specs.declared.desk.Desk.{Desk}
-use Rattle.send_core.specs.declared.row.Row.{Row}
-use Rattle.send_core.specs.declared.row.Row.TheVariants as at
+use Rattle.send_parts.specs.declared.row.Row.{Row}
+use Rattle.send_parts.specs.declared.row.Row.TheVariants as at
 use Rattle.send_core.specs.Start.{start_at}
 use Rattle.send_core.specs.Table.{arrive, due_at, moved_by}
 use Rattle.send_parts.specs.declared.book.Book.{Book}

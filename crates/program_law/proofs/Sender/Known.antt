@@ -3,8 +3,8 @@ use Rattle.std.proofs.Common.{◌≡◌, ◌≢◌, ◌⊎◌, ℕ, sym, subst, 
 use Rattle.queue_paths.specs.Names.{Name}
 use Rattle.queue_paths.specs.Names.Name.{Of}
 use Rattle.queue_paths.specs.Names.Part.{Intd, Todo}
-use Rattle.send_jobs.specs.declared.channels.Channel.{Channel}
-use Rattle.send_jobs.specs.declared.channels.Channel.TheVariants as channel
+use Rattle.send_known.specs.declared.channel.Channel.{Channel}
+use Rattle.send_known.specs.declared.channel.Channel.TheVariants as channel
 use Rattle.queue_law.specs.Numbers.{look}
 use Rattle.queue_law.specs.Routes.{lane_part}
 use Rattle.queue_law.proofs.Changes.{unlinks_one}

@@ -16,14 +16,14 @@ use Rattle.retry_schedule.specs.Due.{is_due, moved, put}
 use Rattle.retry_schedule.proofs.Entries.{in_added, in_removed}
 use Rattle.retry_schedule.specs.Due.{removed}
 use Rattle.send_core.specs.declared.desk.Desk.{Desk}
-use Rattle.send_core.specs.declared.row.Point.TheVariants as point
-use Rattle.send_core.specs.declared.row.Row.TheVariants as at
+use Rattle.send_parts.specs.declared.row.Point.TheVariants as point
+use Rattle.send_parts.specs.declared.row.Row.TheVariants as at
 use Rattle.send_core.specs.Desk.{closed, due_then, has_begun, is_dying, is_free_for, later, never}
 use Rattle.send_core.specs.Table.{act, busy, due_at, file_of}
 use Rattle.send_core.specs.Turn.{begun_at, file_read, pass_opened, put_later}
 use Rattle.send_jobs.specs.declared.attempts.Attempt.{Attempt}
-use Rattle.send_jobs.specs.declared.channels.Channel.{Channel}
-use Rattle.send_jobs.specs.declared.channels.Channel.TheVariants.{Local, Remote}
+use Rattle.send_known.specs.declared.channel.Channel.{Channel}
+use Rattle.send_known.specs.declared.channel.Channel.TheVariants.{Local, Remote}
 use Rattle.send_jobs.specs.declared.jobs.Job.{Job}
 use Rattle.send_jobs.specs.declared.lane.Lane.{Lane}
 use Rattle.send_jobs.specs.declared.slots.Slots.{Slots}
@@ -35,7 +35,7 @@ use Rattle.send_known.specs.declared.messages.Messages.{Messages}
 use Rattle.send_parts.specs.declared.reading.Progress.{Progress}
 use Rattle.send_parts.specs.declared.reading.Progress.TheVariants.{Goes, Whole, Missing, Failed}
 use Rattle.send_parts.specs.declared.reading.Reading.{Reading}
-use Rattle.send_parts.specs.Files.{records_of}
+use Rattle.send_links.specs.Records.{records_of}
 use Rattle.send_parts.specs.Readings.{read_on}
 use Rattle.send_parts.specs.Replies.{Said, said}
 use Rattle.send_parts.specs.Start.{kept}

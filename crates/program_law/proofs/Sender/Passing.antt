@@ -18,8 +18,8 @@ use Rattle.mail_bytes.proofs.Digits.{number_of_some}
 use Rattle.queue_paths.specs.Names.{Part as FilePart, path}
 use Rattle.queue_paths.specs.Names.Name.{Of}
 use Rattle.queue_paths.specs.Names.Part.{Todo, Info, Local, Remote}
-use Rattle.send_jobs.specs.declared.channels.Channel.{Channel}
-use Rattle.send_jobs.specs.declared.channels.Channel.TheVariants as channel
+use Rattle.send_known.specs.declared.channel.Channel.{Channel}
+use Rattle.send_known.specs.declared.channel.Channel.TheVariants as channel
 use Rattle.send_parts.specs.declared.dir.Dir.TheVariants as dir
 use Rattle.send_parts.specs.Files.{from_one}
 use Rattle.send_parts.specs.Steps.{dir_text}

@@ -30,8 +30,8 @@ use Rattle.send_parts.specs.Replies.{answered}
 use Rattle.send_parts.specs.Rows.{finish_step, sweep_step}
 use Rattle.send_parts.specs.Steps.{due_by}
 use Rattle.send_parts.specs.Sweep.{sweep_row, sweep_to, swept}
-use Rattle.send_core.specs.declared.row.Row.{Row}
-use Rattle.send_core.specs.declared.row.Row.TheVariants as at
+use Rattle.send_parts.specs.declared.row.Row.{Row}
+use Rattle.send_parts.specs.declared.row.Row.TheVariants as at
 use Rattle.queue_law.specs.Numbers.{Queue, entry, look, About, about, Phase, Sound}
 use Rattle.queue_law.specs.Numbers.Phase.{Free, Queued, Sorted, Finished}
 use Rattle.queue_law.specs.Rests.{IsAccepted, IsClosed}

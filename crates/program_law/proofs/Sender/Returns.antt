@@ -31,11 +31,11 @@ use Rattle.queue_inject.specs.Texts.{entered, message_text}
 use Rattle.queue_paths.specs.Names.{Name, Part, path}
 use Rattle.queue_paths.specs.Names.Name.{Of}
 use Rattle.queue_paths.specs.Names.Part.{Bounce, Mess}
-use Rattle.send_core.specs.declared.row.Row.TheVariants as at
+use Rattle.send_parts.specs.declared.row.Row.TheVariants as at
 use Rattle.send_core.specs.Booked.{returned_at as booked_return}
 use Rattle.send_core.specs.Finish.{returned_to}
 use Rattle.send_jobs.specs.Bookings.Booking.{Returned}
-use Rattle.send_jobs.specs.declared.channels.Channel.{Channel}
+use Rattle.send_known.specs.declared.channel.Channel.{Channel}
 use Rattle.send_known.specs.declared.known.Known.{Known}
 use Rattle.send_known.specs.Known.{is_known, is_of, sender_of}
 use Rattle.send_core.proofs.Known.{Each, sender_said}

@@ -9,7 +9,7 @@ use Rattle.call_fs.specs.declared.past.NeedData.TheVariants as needs
 use Rattle.call_fs.specs.declared.program.Port.{Port}
 use Rattle.call_fs.specs.Apply.{Fits}
 use Rattle.send_core.specs.declared.desk.Desk.{Desk}
-use Rattle.send_core.specs.declared.row.Row.TheVariants as at
+use Rattle.send_parts.specs.declared.row.Row.TheVariants as at
 use Rattle.send_core.specs.Finish.{looked_up, sweep_at, sweep_begun}
 use Rattle.send_core.specs.Table.{act, due_at, sweep_words}
 use Rattle.send_parts.specs.declared.reply.Way.{Way}

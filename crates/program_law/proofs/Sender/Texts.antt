@@ -7,8 +7,8 @@ use Rattle.std.proofs.lemmas.Bool.Decides.{eqb_tells}
 use Rattle.envelope_records.specs.declared.channel.Record.{Record}
 use Rattle.envelope_records.specs.Records.{letter_of, text_of, AreRecords}
 use Rattle.mail_bytes.specs.Texts.{HasNoNul}
-use Rattle.send_parts.specs.Files.{Within, begin_at, and_then, records_from, records_of}
-use Rattle.send_parts.specs.Files.Within.{Before, In}
+use Rattle.send_links.specs.Records.{Within, begin_at, and_then, records_from, records_of}
+use Rattle.send_links.specs.Records.Within.{Before, In}
 use Rattle.program_law.proofs.Channel.Texts.{At, stands_at}
 
 abbrev not_nul : ℕ → Type 0

@@ -20,10 +20,10 @@ use Rattle.call_fs.specs.Apply.{Fits, IsReadBy}
 use Rattle.mail_bytes.specs.Decimal.{digits}
 use Rattle.queue_paths.specs.Names.Part.{Todo}
 use Rattle.send_core.specs.declared.desk.Desk.{Desk}
-use Rattle.send_core.specs.declared.row.Row.TheVariants as at
+use Rattle.send_parts.specs.declared.row.Row.TheVariants as at
 use Rattle.send_core.specs.Table.{act, due_at, search_words}
 use Rattle.send_core.specs.Turn.{known_of, todo_found, todo_named, todo_none, todo_on, todo_over, todo_went}
-use Rattle.send_jobs.specs.declared.channels.Channel.{Channel}
+use Rattle.send_known.specs.declared.channel.Channel.{Channel}
 use Rattle.send_jobs.specs.declared.jobs.Job.{Job}
 use Rattle.send_jobs.specs.Jobs.{job_of}
 use Rattle.send_jobs.specs.Sending.{lane}

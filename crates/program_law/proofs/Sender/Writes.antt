@@ -27,10 +27,10 @@ use Rattle.queue_paths.specs.Names.{Name, Part, name_of, path}
 use Rattle.queue_paths.specs.Names.Name.{Of}
 use Rattle.queue_paths.specs.Names.Part.{Bounce, Todo, Info}
 use Rattle.send_core.specs.declared.desk.Desk.{Desk}
-use Rattle.send_core.specs.declared.row.MarkRow.{MarkRow}
-use Rattle.send_core.specs.declared.row.MarkRow.TheVariants as mark
-use Rattle.send_core.specs.declared.row.Marked.{Marked}
-use Rattle.send_core.specs.declared.row.Row.TheVariants as at
+use Rattle.send_parts.specs.declared.row.MarkRow.{MarkRow}
+use Rattle.send_parts.specs.declared.row.MarkRow.TheVariants as mark
+use Rattle.send_parts.specs.declared.row.Marked.{Marked}
+use Rattle.send_parts.specs.declared.row.Row.TheVariants as at
 use Rattle.send_core.specs.Desk.{due_on, goes}
 use Rattle.send_core.specs.Table.{act, due_at, file_of}
 use Rattle.send_core.specs.Booked.{booked_at}
@@ -38,14 +38,14 @@ use Rattle.send_core.specs.Turn.{act_mark, note_of}
 use Rattle.send_core.specs.Turn.{noted as turned}
 use Rattle.send_jobs.specs.declared.attempts.Attempt.{Attempt}
 use Rattle.send_jobs.specs.declared.attempts.Mark.{Mark}
-use Rattle.send_jobs.specs.declared.channels.Channel.{Channel}
-use Rattle.send_jobs.specs.declared.channels.Channel.TheVariants.{Local, Remote}
+use Rattle.send_known.specs.declared.channel.Channel.{Channel}
+use Rattle.send_known.specs.declared.channel.Channel.TheVariants.{Local, Remote}
 use Rattle.send_jobs.specs.declared.lane.Lane.{Lane}
 use Rattle.send_jobs.specs.Jobs.{job_of}
 use Rattle.send_jobs.specs.Sending.{lane}
 use Rattle.send_known.specs.declared.known.Known.{Known}
-use Rattle.send_parts.specs.Files.{records_of}
-use Rattle.send_parts.proofs.Records.{are_read}
+use Rattle.send_links.specs.Records.{records_of}
+use Rattle.send_links.proofs.WholeRecords.{are_read}
 use Rattle.program_law.specs.Channel.Files.{IsOpen, marked, with_mark}
 use Rattle.program_law.specs.Channel.Tied.{First, IsTied, in_hand, is_mark_at}
 use Rattle.program_law.specs.Channel.Tied.First.{Unwritten, Unsure, Written}

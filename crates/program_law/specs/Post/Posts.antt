@@ -14,8 +14,8 @@ use Rattle.call_fs.specs.Disk.{Among}
 use Rattle.call_fs.specs.Maps.{put}
 use Rattle.queue_paths.specs.Names.{split_text}
 use Rattle.send_jobs.specs.declared.attempts.Attempt.{Attempt}
-use Rattle.send_jobs.specs.declared.channels.Channel.{Channel}
-use Rattle.send_jobs.specs.declared.channels.Channel.TheVariants as channel
+use Rattle.send_known.specs.declared.channel.Channel.{Channel}
+use Rattle.send_known.specs.declared.channel.Channel.TheVariants as channel
 use Rattle.send_jobs.specs.Slots.{attempt_in}
 use Rattle.spawn_protocol.specs.declared.inbox.Intake.{Intake}
 use Rattle.spawn_protocol.specs.declared.inbox.Intake.TheVariants as intake

@@ -9,19 +9,19 @@ use Rattle.call_fs.specs.declared.program.Port.{Port}
 use Rattle.call_fs.specs.declared.program.Port.TheVariants as port
 use Rattle.call_fs.specs.Program.{MayCome}
 use Rattle.send_core.specs.declared.desk.Desk.{Desk}
-use Rattle.send_core.specs.declared.row.Row.{Row}
-use Rattle.send_core.specs.declared.row.Row.TheVariants as at
+use Rattle.send_parts.specs.declared.row.Row.{Row}
+use Rattle.send_parts.specs.declared.row.Row.TheVariants as at
 use Rattle.send_core.specs.Desk.{link}
 use Rattle.send_core.specs.Table.{begun, due_at, moved, port_of, row_now}
 use Rattle.send_jobs.specs.declared.attempts.Attempt.{Attempt}
-use Rattle.send_jobs.specs.declared.channels.Channel.{Channel}
-use Rattle.send_jobs.specs.declared.channels.Channel.TheVariants as channel
+use Rattle.send_known.specs.declared.channel.Channel.{Channel}
+use Rattle.send_known.specs.declared.channel.Channel.TheVariants as channel
 use Rattle.send_jobs.specs.Lanes.{next}
 use Rattle.send_jobs.specs.Sending.{lane}
 use Rattle.send_jobs.specs.Slots.{attempt_in, lowest}
 use Rattle.send_parts.specs.declared.rows.StartRow.{StartRow}
 use Rattle.send_parts.specs.declared.rows.StartRow.TheVariants as start
-use Rattle.send_parts.specs.Requests.{request_of, to_slot}
+use Rattle.send_links.specs.Requests.{request_of, to_slot}
 use Rattle.spawn_protocol.specs.declared.request.Request.{Request}
 use Rattle.spawn_protocol.specs.Report.{Reader}
 use Rattle.spawn_protocol.specs.Report.Reader.{AtBegin}

@@ -9,18 +9,18 @@ use Rattle.program_law.specs.Channel.Laws.{IsAlone}
 use Rattle.mail_bytes.specs.Moments.{IsMoment}
 use Rattle.retry_schedule.specs.Due.{is_due}
 use Rattle.send_core.specs.declared.desk.Desk.{Desk}
-use Rattle.send_core.specs.declared.row.Row.{Row}
-use Rattle.send_core.specs.declared.row.Row.TheVariants as at
+use Rattle.send_parts.specs.declared.row.Row.{Row}
+use Rattle.send_parts.specs.declared.row.Row.TheVariants as at
 use Rattle.send_core.specs.Desk.{due_on, link}
 use Rattle.send_core.specs.Table.{begun, due_at, moved_by, port_of, row_now}
 use Rattle.send_jobs.specs.declared.attempts.Attempt.{Attempt}
-use Rattle.send_jobs.specs.declared.channels.Channel.{Channel}
+use Rattle.send_known.specs.declared.channel.Channel.{Channel}
 use Rattle.send_jobs.specs.Lanes.{next}
 use Rattle.send_jobs.specs.Sending.{lane}
 use Rattle.send_jobs.specs.Slots.{lowest}
 use Rattle.send_known.specs.declared.known.Known.{Known}
 use Rattle.send_known.specs.Known.{is_known}
-use Rattle.send_parts.specs.Requests.{addressed, request_of, to_slot}
+use Rattle.send_links.specs.Requests.{addressed, request_of, to_slot}
 use Rattle.queue_law.specs.Books.{Injection}
 use Rattle.queue_law.specs.Ledgers.{Line}
 use Rattle.queue_law.specs.Numbers.{Queue}

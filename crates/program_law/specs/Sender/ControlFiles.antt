@@ -16,8 +16,8 @@ use Rattle.call_fs.specs.Apply.{Fits, IsReadBy}
 use Rattle.call_fs.specs.Disk.{Open, IsSynced}
 use Rattle.call_fs.specs.Survival.{AllSurvive}
 use Rattle.send_core.specs.declared.desk.Desk.{Desk}
-use Rattle.send_core.specs.declared.row.Row.{Row}
-use Rattle.send_core.specs.declared.row.Row.TheVariants as at
+use Rattle.send_parts.specs.declared.row.Row.{Row}
+use Rattle.send_parts.specs.declared.row.Row.TheVariants as at
 use Rattle.send_core.specs.Table.{begun, due_at, moved_by, row_now}
 use Rattle.send_parts.specs.declared.book.Book.{Book}
 use Rattle.send_parts.specs.declared.reading.Reading.{Reading}

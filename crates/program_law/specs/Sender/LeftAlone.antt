@@ -2,8 +2,8 @@
 use Rattle.std.specs.Prelude.{◌≡◌, ◌≢◌, ℕ, ◌≤◌, List, Option, Some}
 use Rattle.address_rules.specs.declared.controls.Controls.{Controls}
 use Rattle.send_core.specs.declared.desk.Desk.{Desk}
-use Rattle.send_core.specs.declared.row.Row.{Row}
-use Rattle.send_core.specs.declared.row.Row.TheVariants as at
+use Rattle.send_parts.specs.declared.row.Row.{Row}
+use Rattle.send_parts.specs.declared.row.Row.TheVariants as at
 use Rattle.send_core.specs.Turn.{known_of}
 use Rattle.send_parts.specs.declared.rows.FinishRow.TheVariants as finish
 use Rattle.todo_pass.specs.declared.row.Row.{Row as PassRow}

@@ -8,9 +8,9 @@ use Rattle.call_fs.specs.declared.past.GotData.TheVariants.{Answered}
 use Rattle.call_fs.specs.declared.past.NeedData.TheVariants as needs
 use Rattle.call_fs.specs.Apply.{Fits, IsReadBy}
 use Rattle.send_core.specs.declared.desk.Desk.{Desk}
-use Rattle.send_core.specs.declared.row.MarkRow.{MarkRow}
-use Rattle.send_core.specs.declared.row.Marked.{Marked}
-use Rattle.send_core.specs.declared.row.Row.TheVariants as at
+use Rattle.send_parts.specs.declared.row.MarkRow.{MarkRow}
+use Rattle.send_parts.specs.declared.row.Marked.{Marked}
+use Rattle.send_parts.specs.declared.row.Row.TheVariants as at
 use Rattle.send_core.specs.Booked.{booked_at}
 use Rattle.send_core.specs.Table.{act, due_at}
 use Rattle.queue_law.specs.Books.{Child}

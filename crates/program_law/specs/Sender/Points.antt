@@ -27,8 +27,8 @@ use Rattle.send_parts.specs.Replies.{said}
 use Rattle.send_parts.specs.Rows.{finish_step, sweep_step}
 use Rattle.send_parts.specs.Steps.{due_by}
 use Rattle.send_parts.specs.Sweep.{sweep_to}
-use Rattle.send_core.specs.declared.row.Row.{Row}
-use Rattle.send_core.specs.declared.row.Row.TheVariants as at
+use Rattle.send_parts.specs.declared.row.Row.{Row}
+use Rattle.send_parts.specs.declared.row.Row.TheVariants as at
 use Rattle.queue_law.specs.Books.{Child}
 use Rattle.queue_law.specs.Numbers.{Queue, about, Sound}
 use Rattle.queue_law.specs.Rests.{IsClosed, Spares}

@@ -13,7 +13,7 @@ use Rattle.queue_clean.specs.declared.command.Command.TheVariants as command
 use Rattle.queue_paths.specs.Names.{Name, path}
 use Rattle.queue_paths.specs.Names.Name.{Of}
 use Rattle.queue_paths.specs.Names.Part.{Intd, Todo}
-use Rattle.send_jobs.specs.declared.channels.Channel.{Channel}
+use Rattle.send_known.specs.declared.channel.Channel.{Channel}
 use Rattle.send_known.specs.declared.known.Known.{Known}
 use Rattle.send_parts.specs.declared.dir.Dir.TheVariants as dir
 use Rattle.send_parts.specs.Files.{message_number}

@@ -4,12 +4,12 @@ use Rattle.address_rules.specs.declared.controls.Controls.{Controls}
 use Rattle.address_rules.specs.Nuls.{HaveNoNul}
 use Rattle.call_fs.specs.declared.past.GotData.{GotData}
 use Rattle.send_core.specs.declared.desk.Desk.{Desk}
-use Rattle.send_core.specs.declared.row.Row.TheVariants as at
+use Rattle.send_parts.specs.declared.row.Row.TheVariants as at
 use Rattle.send_core.specs.Booked.{booked_at}
 use Rattle.send_core.specs.Table.{act}
 use Rattle.send_jobs.specs.Bookings.{Booking}
 use Rattle.send_jobs.specs.Bookings.Booking.{Dropped, Noted, ReadNotes, Reported, Returned}
-use Rattle.send_jobs.specs.declared.channels.Channel.{Channel}
+use Rattle.send_known.specs.declared.channel.Channel.{Channel}
 use Rattle.queue_law.specs.Books.{Child, booked_all, booked_on}
 use Rattle.queue_law.specs.Numbers.{Queue, Sound}
 use Rattle.queue_law.specs.Rests.{IsClosed}

@@ -4,13 +4,13 @@ use Rattle.envelope_records.specs.declared.channel.Record.{Record}
 use Rattle.program_law.specs.Channel.Files.{Files}
 use Rattle.program_law.specs.Channel.Tied.{First}
 use Rattle.program_law.specs.Channel.Tied.First.{Unwritten, Unsure, Written}
-use Rattle.send_core.specs.declared.row.MarkRow.{MarkRow}
-use Rattle.send_core.specs.declared.row.MarkRow.TheVariants as mark
-use Rattle.send_core.specs.declared.row.Row.{Row}
-use Rattle.send_core.specs.declared.row.Row.TheVariants as at
+use Rattle.send_parts.specs.declared.row.MarkRow.{MarkRow}
+use Rattle.send_parts.specs.declared.row.MarkRow.TheVariants as mark
+use Rattle.send_parts.specs.declared.row.Row.{Row}
+use Rattle.send_parts.specs.declared.row.Row.TheVariants as at
 use Rattle.send_core.specs.Agrees.{is_same}
-use Rattle.send_jobs.specs.declared.channels.Channel.{Channel}
-use Rattle.send_parts.specs.Files.{records_of}
+use Rattle.send_known.specs.declared.channel.Channel.{Channel}
+use Rattle.send_links.specs.Records.{records_of}
 use Rattle.queue_paths.specs.Names.Name.{Of}
 use Rattle.queue_law.specs.Numbers.{Queue, Entry, look}
 use Rattle.queue_law.specs.Routes.{lane_part}

@@ -17,8 +17,8 @@ use Rattle.queue_clean.specs.Commands.{text_of, ended}
 use Rattle.send_parts.specs.declared.rows.FinishRow.TheVariants as finish
 use Rattle.send_parts.specs.declared.rows.SweepRow.TheVariants as sweep
 use Rattle.send_core.specs.declared.desk.Desk.{Desk}
-use Rattle.send_core.specs.declared.row.Row.{Row}
-use Rattle.send_core.specs.declared.row.Row.TheVariants as at
+use Rattle.send_parts.specs.declared.row.Row.{Row}
+use Rattle.send_parts.specs.declared.row.Row.TheVariants as at
 use Rattle.send_core.specs.Table.{due_at, moved_by, row_now}
 use Rattle.program_law.specs.Errand.Errands.{Awaits}
 use Rattle.program_law.specs.Errand.Errands.Awaits.{Nothing, Answer, Over}

@@ -13,8 +13,8 @@ use Rattle.call_fs.specs.declared.program.Ready.{Ready}
 use Rattle.call_fs.specs.Apply.{Fits, IsReadBy}
 use Rattle.mail_bytes.specs.Moments.{IsMoment}
 use Rattle.send_core.specs.declared.desk.Desk.{Desk}
-use Rattle.send_core.specs.declared.row.Row.{Row}
-use Rattle.send_core.specs.declared.row.Row.TheVariants as at
+use Rattle.send_parts.specs.declared.row.Row.{Row}
+use Rattle.send_parts.specs.declared.row.Row.TheVariants as at
 use Rattle.send_core.specs.Booked.{booked_at}
 use Rattle.send_core.specs.Table.{due_at, moved_by, row_now}
 use Rattle.send_parts.specs.declared.rows.StartRow.TheVariants as start

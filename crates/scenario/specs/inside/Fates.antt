@@ -1,5 +1,5 @@
 -- How lives are read off the events of a world, event by event.
-use Rattle.std.specs.Prelude.{◌≡◌, ℕ, List, [], ◌∷◌, ◌++◌, Bool, true, false, ◌&&◌, bytes_eq, if◌then◌else◌, Option, Some, None, Contains, codes, is_none}
+use Rattle.std.specs.Prelude.{◌≡◌, ℕ, List, [], ◌∷◌, ◌++◌, Bool, true, false, ◌&&◌, bytes_eq, if◌then◌else◌, Option, Some, None, Contains, codes}
 use Rattle.queue_inject.specs.declared.injection.Arguments.{Arguments}
 use Rattle.world_events.specs.declared.event.Event.{Event as Kept}
 use Rattle.world_events.specs.declared.event.Event.TheVariants as kept
@@ -12,15 +12,12 @@ use Rattle.send_core.specs.Table.{Next}
 use Rattle.call_fs.specs.declared.past.Own.{Own}
 use Rattle.call_fs.specs.Past.{IsRunBy}
 use Rattle.call_fs.specs.Program.{MayCome}
-use Rattle.mail_bytes.specs.Moments.{IsMoment}
-use Rattle.send_jobs.specs.declared.attempts.Mark.{Mark}
-use Rattle.send_jobs.specs.declared.channels.Channel.{Channel}
-use Rattle.mail_world.specs.History.{Event, Actor, State, IsSender, MayRead, MayRun, books_after, next_of}
+use Rattle.mail_world.specs.History.{Event, Actor, State, IsSender, MayRead, MayRun, next_of}
 use Rattle.mail_world.specs.World.{Tells}
-use Rattle.queue_law.specs.Books.{Books, Child as Bouncer, entered_in, line_said}
 use Rattle.scenario.specs.declared.fates.Following.{Following}
 use Rattle.scenario.specs.declared.showing.Given.{Given}
-use Rattle.scenario.specs.Fates.{AreFates, IsNamedSo}
+use Rattle.script_fates.specs.Fates.{AreFates}
+use Rattle.scenario.specs.Fates.{IsNamedSo}
 
 -- the newest sender stands for its past, which is a run
 abbrev pub IsHeard : Option Sender → Option Actor → Type 0
@@ -38,25 +35,6 @@ pub record AreNamed (s : State) : Type 0 where
   pub member : (a : List ℕ) (x : Actor) → s.actors a ≡ Some x → Contains members a → MayRun x.program → ⊥
   pub alone : (a : List ℕ) (x : Actor) → s.actors a ≡ Some x → ¬ (Contains members a) → IsNamedSo a x.program
   pub sender : (a : List ℕ) (x : Actor) → s.actors a ≡ Some x → IsSender x.program → a ≡ codes "sender"
-
--- The books when the recipient of a mark of a channel is reported: it was delivered to if nothing is to be noted of it, and failed for good
--- else. And when those of these marks are, one after the other.
-abbrev pub entered_by : Channel → Mark → Books → Books
-entered_by c m b = entered_in b m.attempt.n (line_said (is_none m.note) (record { channel = c; place = m.attempt.place }))
-
-abbrev pub entered_of : Channel → List Mark → Books → Books
-entered_of c [] b = b
-entered_of c (m ∷ marks) b = entered_of c marks (entered_by c m b)
-
--- an event of a sender is due by its past, which is a run
-pub record HasDue (past : List Own) (own : Own) : Type 0 where
-  pub run : IsRunBy (Next None) past
-  pub moment : IsMoment own.read
-  pub due : Next None past own.read own.ready ≡ own.due
-
--- the books after an event of a sender which has this child
-abbrev pub heard_by : Option Bouncer → List Own → Own → Books → Books
-heard_by child past own b = books_after child b (codes "sender") (kinds.Sender 0) past own.read own.ready own.due own.came
 
 -- An actor did what was due to it, and what may come of that came: an event of its own, or the start of a child.
 pub record HasDone (s : State) (a : List ℕ) (own : Own) : Type 0 where

@@ -8,7 +8,7 @@ use Rattle.world_events.specs.declared.books.Entry.{Entry}
 use Rattle.scenario.specs.declared.overview.Overview.{Overview}
 use Rattle.script_traces.specs.declared.fates.RecipientFate.{RecipientFate}
 use Rattle.scenario.specs.declared.showing.Given.{Given}
-use Rattle.scenario.specs.Fates.{AreFates}
+use Rattle.script_fates.specs.Fates.{AreFates}
 use Rattle.scenario.specs.Shown.{View, entry_lines, fates_of}
 
 -- the lines of a mail by its entry in the books, and by what its injector was given

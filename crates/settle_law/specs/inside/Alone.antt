@@ -4,10 +4,10 @@ use Rattle.address_rules.specs.declared.controls.Controls.{Controls}
 use Rattle.call_fs.specs.Disk.{Disk}
 use Rattle.call_fs.specs.declared.calls.Fd.{Fd}
 use Rattle.program_law.specs.Sender.Control.{AreControls}
-use Rattle.send_core.specs.declared.row.Row.TheVariants as at
+use Rattle.send_parts.specs.declared.row.Row.TheVariants as at
 use Rattle.send_jobs.specs.Lanes.{is_free_for}
 use Rattle.send_jobs.specs.Sending.{lane}
-use Rattle.send_jobs.specs.declared.channels.Channel.{Channel}
+use Rattle.send_known.specs.declared.channel.Channel.{Channel}
 use Rattle.send_parts.specs.declared.reading.Reading.TheVariants.{Closing}
 use Rattle.world_events.specs.declared.event.Program.TheVariants.{Sender}
 use Rattle.mail_world.specs.History.Life.{Alive}

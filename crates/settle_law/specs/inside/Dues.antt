@@ -6,7 +6,7 @@ use Rattle.call_fs.specs.Past.{IsRunBy}
 use Rattle.call_fs.specs.declared.past.Own.{Own}
 use Rattle.send_core.specs.Stands.{ends_idle}
 use Rattle.send_core.specs.Table.{Next}
-use Rattle.send_jobs.specs.declared.channels.Channel.{Channel}
+use Rattle.send_known.specs.declared.channel.Channel.{Channel}
 use Rattle.send_jobs.specs.Sending.{lane}
 use Rattle.send_jobs.specs.Slots.{attempt_in}
 use Rattle.send_known.specs.declared.known.Known.{Known}

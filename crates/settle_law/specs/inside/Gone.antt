@@ -6,7 +6,7 @@ use Rattle.queue_law.specs.Routes.{lane_part}
 use Rattle.queue_paths.specs.Names.{path}
 use Rattle.queue_paths.specs.Names.Name.{Of}
 use Rattle.program_law.specs.Sender.Control.{AreControls}
-use Rattle.send_jobs.specs.declared.channels.Channel.{Channel}
+use Rattle.send_known.specs.declared.channel.Channel.{Channel}
 use Rattle.send_known.specs.declared.known.Known.{Known}
 use Rattle.retry_law.specs.Retries.{has_file}
 use Rattle.world_events.specs.declared.event.Program.TheVariants.{Sender}

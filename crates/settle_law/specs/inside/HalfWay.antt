@@ -12,7 +12,7 @@ use Rattle.queue_paths.specs.Names.Name.{Of}
 use Rattle.queue_paths.specs.Names.Part.{Info, Mess, Todo}
 use Rattle.queue_states.specs.States.{state_of}
 use Rattle.queue_states.specs.declared.state.State.TheVariants.{S2, S3}
-use Rattle.send_core.specs.declared.row.Row.TheVariants as at
+use Rattle.send_parts.specs.declared.row.Row.TheVariants as at
 use Rattle.send_parts.specs.declared.rows.FinishRow.TheVariants as finish
 use Rattle.world_events.specs.declared.event.Program.TheVariants.{Injector, Sender}
 use Rattle.mail_world.specs.History.{Actor, Event, State}

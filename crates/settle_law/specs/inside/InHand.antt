@@ -8,8 +8,8 @@ use Rattle.program_law.specs.Post.Posts.{HasPlainFields, owed_at, told_of}
 use Rattle.send_core.specs.Agrees.{has_ended}
 use Rattle.send_core.specs.Past.{account, news}
 use Rattle.send_jobs.specs.declared.attempts.Attempt.{Attempt}
-use Rattle.send_jobs.specs.declared.channels.Channel.{Channel}
-use Rattle.send_jobs.specs.Channels.{port_of}
+use Rattle.send_known.specs.declared.channel.Channel.{Channel}
+use Rattle.send_parts.specs.Channels.{port_of}
 use Rattle.send_jobs.specs.Sending.{lane}
 use Rattle.send_jobs.specs.Slots.{attempt_in}
 use Rattle.spawn_protocol.specs.declared.inbox.Intake.TheVariants.{Open}

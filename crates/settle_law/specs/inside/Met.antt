@@ -16,8 +16,8 @@ use Rattle.queue_states.specs.States.{state_of}
 use Rattle.queue_states.specs.declared.state.State.TheVariants.{S5}
 use Rattle.retry_law.specs.Left.{leaves_at}
 use Rattle.send_core.specs.declared.desk.Desk.{Desk}
-use Rattle.send_core.specs.declared.row.Row.{Row}
-use Rattle.send_core.specs.declared.row.Row.TheVariants as at
+use Rattle.send_parts.specs.declared.row.Row.{Row}
+use Rattle.send_parts.specs.declared.row.Row.TheVariants as at
 use Rattle.send_core.specs.Table.{Next, row_now}
 use Rattle.send_known.specs.declared.known.Known.{Known}
 use Rattle.send_parts.specs.declared.book.Book.{Book}

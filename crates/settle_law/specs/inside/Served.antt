@@ -2,7 +2,7 @@
 use Rattle.std.specs.Prelude.{◌≡◌, ℕ, List, Some, None}
 use Rattle.address_rules.specs.declared.controls.Controls.{Controls}
 use Rattle.call_fs.specs.Disk.{Disk}
-use Rattle.send_jobs.specs.declared.channels.Channel.{Channel}
+use Rattle.send_known.specs.declared.channel.Channel.{Channel}
 use Rattle.retry_law.specs.Retries.{ArePlain}
 use Rattle.retry_law.specs.Served.{AreServed}
 use Rattle.world_events.specs.declared.event.Program.TheVariants.{Sender}

@@ -5,7 +5,7 @@ use Rattle.call_fs.specs.Disk.{Disk}
 use Rattle.call_fs.specs.Past.{IsRunBy}
 use Rattle.call_fs.specs.declared.past.Own.{Own}
 use Rattle.send_core.specs.Table.{Next}
-use Rattle.send_jobs.specs.declared.channels.Channel.{Channel}
+use Rattle.send_known.specs.declared.channel.Channel.{Channel}
 use Rattle.send_jobs.specs.Sending.{lane}
 use Rattle.send_runs.specs.Status.{limit_in}
 use Rattle.world_events.specs.declared.event.Program.TheVariants.{Sender}

@@ -6,10 +6,10 @@ use Rattle.call_fs.specs.declared.past.GotData.TheVariants as came
 use Rattle.call_fs.specs.declared.past.NeedData.TheVariants as needs
 use Rattle.call_fs.specs.declared.past.Own.{Own}
 use Rattle.send_core.specs.Past.{account, news}
-use Rattle.send_jobs.specs.Channels.{port_of}
+use Rattle.send_parts.specs.Channels.{port_of}
 use Rattle.send_jobs.specs.Jobs.{job_of}
 use Rattle.send_jobs.specs.Sending.{lane}
-use Rattle.send_jobs.specs.declared.channels.Channel.{Channel}
+use Rattle.send_known.specs.declared.channel.Channel.{Channel}
 use Rattle.spawn_protocol.specs.Report.{counted}
 use Rattle.spawn_protocol.specs.declared.report.Report.{Report}
 use Rattle.world_events.specs.declared.event.Program.TheVariants.{Sender}

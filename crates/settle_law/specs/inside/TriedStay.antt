@@ -6,7 +6,7 @@ use Rattle.retry_law.specs.Passes.{lane_after}
 use Rattle.retry_law.specs.Tried.{tried_in}
 use Rattle.send_core.specs.Table.{Next}
 use Rattle.send_jobs.specs.Jobs.{job_of}
-use Rattle.send_jobs.specs.declared.channels.Channel.{Channel}
+use Rattle.send_known.specs.declared.channel.Channel.{Channel}
 use Rattle.send_runs.specs.Files.{has_in}
 
 abbrev pub tried_at : List Own → Channel → ℕ → Bool

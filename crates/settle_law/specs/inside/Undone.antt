@@ -8,7 +8,7 @@ use Rattle.retry_law.specs.Tried.{tried_in}
 use Rattle.send_core.specs.Stands.{ends_idle}
 use Rattle.send_jobs.specs.Sending.{lane}
 use Rattle.send_jobs.specs.Slots.{attempt_in}
-use Rattle.send_jobs.specs.declared.channels.Channel.{Channel}
+use Rattle.send_known.specs.declared.channel.Channel.{Channel}
 use Rattle.send_known.specs.declared.known.Known.{Known}
 use Rattle.world_events.specs.declared.event.Program.TheVariants.{Sender}
 use Rattle.mail_world.specs.History.Life.{Alive}

@@ -9,7 +9,7 @@ use Rattle.local_parts.specs.declared.arguments.LocalArgs.{LocalArgs}
 use Rattle.send_core.specs.declared.desk.Desk.{Desk}
 use Rattle.send_core.specs.Desk.{link}
 use Rattle.send_core.specs.Table.{begun, place_after as sender_after}
-use Rattle.send_jobs.specs.declared.channels.Channel.TheVariants.{Local}
+use Rattle.send_known.specs.declared.channel.Channel.TheVariants.{Local}
 use Rattle.send_jobs.specs.Sending.{lane}
 use Rattle.spawn_protocol.specs.declared.request.Request.{Request}
 use Rattle.program_law.specs.Post.Posts.{Done, Post, Posted, Task}

@@ -1,7 +1,7 @@
 use Rattle.std.proofs.Common.{◌≡◌, sym, ap, ◌∙◌, subst}
 use Rattle.call_fs.specs.Program.{IsKind}
 use Rattle.call_fs.specs.declared.past.NeedData.{NeedData}
-use Rattle.mail_world.specs.declared.world.Did.{Did}
+use Rattle.world_events.specs.declared.answers.Did.{Did}
 use Rattle.mail_world.specs.ByKind.{found_of, need_of}
 use Rattle.mail_world.specs.History.{next_of}
 use Rattle.mail_world.specs.Children.{HasTakenIn}

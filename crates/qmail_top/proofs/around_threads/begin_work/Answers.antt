@@ -16,7 +16,7 @@ use Rattle.script_lines.specs.declared.keyword.Alone.TheVariants as alone
 use Rattle.script_lines.specs.Contents.{HaveEntryPaths}
 use Rattle.scenario.specs.Deeds.{TellsDeed}
 use Rattle.scenario.specs.Fates.{IsFedSo}
-use Rattle.scenario.specs.FirstDisk.{IsFirstDisk}
+use Rattle.script_disks.specs.FirstDisk.{IsFirstDisk}
 use Rattle.scenario.specs.Playing.{IsPlaying}
 use Rattle.scenario.specs.Working.{is_mail_line, mail_lines, HasBegun}
 use Rattle.scenario.proofs.Openings.{first_opens}

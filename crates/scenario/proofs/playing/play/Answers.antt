@@ -14,7 +14,7 @@ use Rattle.script_lines.specs.declared.line.Line.{Line}
 use Rattle.script_lines.specs.Contents.{HaveEntryPaths}
 use Rattle.scenario.specs.Deeds.{TellsDeed}
 use Rattle.scenario.specs.Fates.{IsFedSo}
-use Rattle.scenario.specs.FirstDisk.{IsFirstDisk}
+use Rattle.script_disks.specs.FirstDisk.{IsFirstDisk}
 use Rattle.scenario.specs.Text.{HaveFewDeeds, IsPlayed}
 use Rattle.scenario.specs.Traced.{traced_after}
 use Rattle.scenario.specs.Playing.{IsPlaying}

@@ -1,7 +1,7 @@
 use Rattle.std.proofs.Common.{◌++◌, refl, sym, ap, ◌∙◌, subst}
 use Rattle.std.specs.Prelude.{codes}
 use Rattle.std.proofs.lemmas.Result.{on_ok_weaker}
-use Rattle.mail_world.specs.declared.error.WorldError.{WorldError}
+use Rattle.world_events.specs.declared.answers.WorldError.{WorldError}
 use Rattle.scenario.specs.Shown.{line_of}
 use Rattle.scenario.specs.Steps.{IsRefusalOf}
 use Rattle.scenario.specs.Steps.Refusal.{Unknown, Gone, NotWaiting, Taken, Past, Alive}

@@ -1,6 +1,6 @@
 use Rattle.std.proofs.Common.{◌≡◌, ◌++◌, All, length}
 use Rattle.queue_law.specs.Books.{Books}
-use Rattle.scenario.specs.Fates.{AreFates, IsUsed}
+use Rattle.script_fates.specs.Fates.{AreFates, IsUsed}
 use Rattle.scenario.specs.Viewed.{view_at}
 use Rattle.scenario.specs.inside.Viewed.{given_lines}
 use Rattle.scenario.proofs.EachMail.{so_far}

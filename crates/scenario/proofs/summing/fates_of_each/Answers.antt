@@ -5,7 +5,7 @@ use Rattle.std.proofs.lemmas.Slice.Zip.{zip_end, zip_turn}
 use Rattle.world_events.specs.declared.books.Entry.{Entry}
 use Rattle.script_traces.specs.declared.fates.RecipientFate.{RecipientFate}
 use Rattle.scenario.specs.declared.showing.Given.{Given}
-use Rattle.scenario.specs.Fates.{IsUsed}
+use Rattle.script_fates.specs.Fates.{IsUsed}
 use Rattle.scenario.specs.Shown.{View}
 use Rattle.scenario.specs.Viewed.{view_at}
 use Rattle.scenario.specs.inside.Viewed.{given_fates}

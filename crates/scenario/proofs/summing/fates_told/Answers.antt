@@ -10,7 +10,7 @@ use Rattle.world_events.specs.declared.books.Entry.{Entry}
 use Rattle.world_events.specs.declared.event.Event.{Event as Kept}
 use Rattle.scenario.specs.declared.showing.Given.{Given}
 use Rattle.scenario.specs.Deeds.{after, history_of}
-use Rattle.scenario.specs.Fates.{IsUsed}
+use Rattle.script_fates.specs.Fates.{IsUsed}
 use Rattle.scenario.specs.inside.Fates.{receiver, receivers_in}
 use Rattle.scenario.specs.Shown.{View}
 use Rattle.scenario.specs.Viewed.{view_at}

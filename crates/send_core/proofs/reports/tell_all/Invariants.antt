@@ -1,5 +1,5 @@
 use Rattle.std.proofs.Common.{◌≡◌, ◌≤◌, ◌++◌, drop, length}
-use Rattle.send_parts.specs.Lines.{reports_room}
+use Rattle.send_links.specs.Rooms.{reports_room}
 use Rattle.send_core.specs.Desk.{told_all}
 use Rattle.send_core.specs.Log.{told_lines}
 use Rattle.send_core.proofs.reports.tell_all.Given as goal

@@ -2,7 +2,7 @@ use Rattle.std.proofs.Common.{◌≡◌, inl, List, [], ◌∷◌, ◌++◌, len
 use Rattle.call_fs.specs.declared.calls.Fd.{Fd}
 use Rattle.call_fs.specs.declared.past.NeedData.{NeedData}
 use Rattle.call_fs.specs.Program.{IsKind}
-use Rattle.mail_world.specs.declared.actor.Came.{Came}
+use Rattle.world_events.specs.declared.asking.Came.{Came}
 use Rattle.world_events.specs.declared.event.Event.{Event as Kept}
 use Rattle.world_events.specs.declared.event.Event.TheVariants as kept
 use Rattle.mail_world.specs.ByKind.{present_of, found_of, looked_of, need_of, takes_of, with_own}
@@ -10,12 +10,13 @@ use Rattle.mail_world.specs.Inside.{StandsFor}
 use Rattle.mail_world.specs.declared.actor.Actor.{Actor as Held}
 use Rattle.std.specs.Prelude.{IfOk, OnErr, IsNone}
 use Rattle.mail_bytes.specs.Told.{Meets}
-use Rattle.mail_world.specs.declared.world.Did.{Did}
+use Rattle.world_events.specs.declared.answers.Did.{Did}
 use Rattle.call_fs.specs.Disk.{Disk}
 use Rattle.mail_world.specs.History.{next_of}
 use Rattle.mail_world.specs.Acting.{IsAct, IsMade, IsUntouched, IsNoAct, IsStated, IsReadAt, SuitsPlace, HasStepped, is_due_of_child, has_actor, due_by, opened_by, shut}
 use Rattle.world_pipes.proofs.Shuts.{shuts_after}
-use Rattle.mail_world.proofs.Machines.{own_is, call_kind, call_within}
+use Rattle.world_events.proofs.Calls.{call_kind, call_within}
+use Rattle.mail_world.proofs.Machines.{own_is}
 use Rattle.mail_world.proofs.Passes.{only_waits, gives_no_actor}
 use Rattle.mail_world.proofs.Acts.{shut_of}
 use Rattle.mail_world.proofs.Passed.{HasAsked, passed_result, told_idle}
@@ -31,8 +32,19 @@ if_err : {T E D : Type 0} {d e : D} (r : Result T E) → e ≡ d → OnErr r (e 
 if_err (Ok x) still = tt
 if_err (Err e) still = still
 
+pub ask-requires-clause-looked : goal.ask-requires-clause-looked
+ask-requires-clause-looked g c = c.requires.read.looked
+
+pub ask-requires-clause-present : goal.ask-requires-clause-present
+ask-requires-clause-present g c = c.requires.read.present
+
+pub ask-requires-clause-found : goal.ask-requires-clause-found
+ask-requires-clause-found g c = c.requires.read.found
+
 pub ask-requires-clause-may : goal.ask-requires-clause-may
-ask-requires-clause-may g c = c.requires.may.asks
+ask-requires-clause-may g c =
+    let asks = c.requires.may.asks in
+    record { args = asks.program; past = asks.past; is = asks.follows; run = asks.run; may = asks.may }
 
 pub take_in-idle-requires-clause-looked : goal.take_in-idle-requires-clause-looked
 take_in-idle-requires-clause-looked g c = c.requires.read.looked

@@ -1,5 +1,5 @@
 use Rattle.std.proofs.Common.{rules, ◌≡◌, Err}
-use Rattle.mail_world.specs.declared.error.WorldError.TheVariants.{Memory}
+use Rattle.world_events.specs.declared.answers.WorldError.TheVariants.{Memory}
 use Rattle.mail_world.proofs.Moves.{moved}
 use Rattle.mail_world.proofs.by_turns.WorldStepped.apply.Goals as goal
 

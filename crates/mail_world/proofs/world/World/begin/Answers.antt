@@ -32,7 +32,8 @@ use Rattle.mail_world.proofs.Noted.{put_among}
 use Rattle.mail_world.proofs.Piped.{start_piped}
 use Rattle.mail_world.proofs.Placing.{so_many}
 use Rattle.mail_world.proofs.Seats.{seat_none}
-use Rattle.mail_world.proofs.Starting.{starts_push, same_starts, mail_starts}
+use Rattle.world_events.proofs.Starting.{same_starts, mail_starts}
+use Rattle.mail_world.proofs.Starting.{starts_push}
 use Rattle.mail_world.proofs.Worlds.{start_keeps, start_leads_on}
 use Rattle.mail_world.proofs.world.World.begin.Goals as goal
 use Rattle.mail_world.proofs.world.World.begin.Goals.{After-saturating_add-self-inside}

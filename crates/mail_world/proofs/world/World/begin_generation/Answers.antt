@@ -17,7 +17,8 @@ use Rattle.mail_world.proofs.Booked.{begun_booked}
 use Rattle.mail_world.proofs.Firsts.{lives_none}
 use Rattle.mail_world.proofs.Histories.{goes_on}
 use Rattle.mail_world.proofs.Living.{living_within, room_less}
-use Rattle.mail_world.proofs.Starting.{starts_push, same_starts}
+use Rattle.world_events.proofs.Starting.{same_starts}
+use Rattle.mail_world.proofs.Starting.{starts_push}
 use Rattle.mail_world.proofs.Crewing.{members_start}
 use Rattle.mail_world.proofs.world.World.begin_generation.Goals as goal
 

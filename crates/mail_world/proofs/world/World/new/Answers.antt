@@ -6,7 +6,7 @@ use Rattle.mail_world.specs.Wired.{seat}
 use Rattle.mail_world.specs.Inside.{place_by, among_all}
 use Rattle.mail_world.proofs.Booked.{none_booked}
 use Rattle.mail_world.proofs.Piped.{none_piped}
-use Rattle.mail_world.proofs.Starting.{none_start}
+use Rattle.world_events.proofs.Starting.{none_start}
 use Rattle.mail_world.proofs.Worlds.{new_keeps}
 use Rattle.mail_world.proofs.world.World.new.Goals as goal
 

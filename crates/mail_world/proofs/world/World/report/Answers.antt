@@ -5,7 +5,7 @@ use Rattle.std.proofs.lemmas.Result.{err_from_is_err_and}
 use Rattle.world_pipes.specs.declared.mouths.Mouths.{Mouths}
 use Rattle.world_pipes.specs.Mouths.{is_remote}
 use Rattle.mail_world.specs.declared.actor.Actor.{Actor as Held}
-use Rattle.mail_world.specs.declared.error.WorldError.{WorldError}
+use Rattle.world_events.specs.declared.answers.WorldError.{WorldError}
 use Rattle.mail_world.specs.Wired.{tenant_in}
 use Rattle.mail_world.specs.Crew.{lasts}
 use Rattle.mail_world.specs.Generations.{lives_in, is_unreported}

@@ -8,9 +8,9 @@ use Rattle.world_events.specs.declared.event.History.{History}
 use Rattle.world_events.specs.declared.event.Program.{Program}
 use Rattle.world_pipes.specs.declared.mouths.Mouths.{Mouths}
 use Rattle.mail_world.specs.declared.actor.Actor.{Actor as Held}
-use Rattle.mail_world.specs.declared.world.Did.{Did}
-use Rattle.mail_world.specs.declared.error.WorldError.{WorldError}
-use Rattle.mail_world.specs.declared.error.WorldError.TheVariants as why
+use Rattle.world_events.specs.declared.answers.Did.{Did}
+use Rattle.world_events.specs.declared.answers.WorldError.{WorldError}
+use Rattle.world_events.specs.declared.answers.WorldError.TheVariants as why
 use Rattle.mail_world.specs.Acting.{IsNoLiving, HasActed, HasStepped, HasIdled, HasWaited}
 use Rattle.mail_world.specs.Books.{entries_of}
 use Rattle.mail_world.specs.ByKind.{Follows}
@@ -25,7 +25,7 @@ use Rattle.mail_world.proofs.Histories.{goes_on}
 use Rattle.mail_world.proofs.Lists.{written_back}
 use Rattle.mail_world.proofs.Living.{left_many_if}
 use Rattle.mail_world.proofs.Parents.{still_whole, room_after}
-use Rattle.mail_world.proofs.Placing.{stands_in}
+use Rattle.world_events.proofs.Placing.{stands_in}
 use Rattle.mail_world.proofs.Refusals.{not_gone, gone_exactly, memory_other, ok_other}
 use Rattle.mail_world.proofs.Served.{other_error, if_ok, if_err, either_way, waits_or, step_waits, step_planned}
 use Rattle.mail_world.proofs.Starting.{acted_starts}

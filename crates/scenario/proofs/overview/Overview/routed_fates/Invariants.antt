@@ -1,6 +1,6 @@
 use Rattle.std.proofs.Common.{◌≡◌, map, take}
 use Rattle.queue_law.specs.Books.{Books}
-use Rattle.scenario.specs.Fates.{AreFates, IsUsed}
+use Rattle.script_fates.specs.Fates.{AreFates, IsUsed}
 use Rattle.mem_fs.specs.MemDisk.{disk_of}
 use Rattle.script_disks.specs.Records.{AreNoted}
 use Rattle.scenario.specs.Shown.{fate_of, lasting}

@@ -1,7 +1,7 @@
 use Rattle.std.proofs.Common.{[], ◌∷◌, ◌++◌, length, refl, sym, ap, ◌∙◌}
 use Rattle.std.proofs.lemmas.Result.{on_ok_weaker}
 use Rattle.envelope_records.specs.Envelope.{record_of}
-use Rattle.send_jobs.specs.declared.channels.Channel.TheVariants as channel
+use Rattle.send_known.specs.declared.channel.Channel.TheVariants as channel
 use Rattle.script_disks.specs.declared.routes.Routed.{Routed}
 use Rattle.script_disks.specs.Routes.{put_there}
 use Rattle.script_disks.proofs.Recorded.{added_local, added_remote, on_ok_both}

@@ -1,6 +1,6 @@
 use Rattle.std.proofs.Common.{ap, ◌∙◌, ℕ}
 use Rattle.send_core.specs.declared.desk.Desk.{Desk}
-use Rattle.send_core.specs.declared.row.Row.{Row}
+use Rattle.send_parts.specs.declared.row.Row.{Row}
 use Rattle.send_core.specs.Table.{row_now, step_of}
 use Rattle.send_core.proofs.sender.Sender.look.Goals as goal
 

@@ -1,0 +1,390 @@
+-- The lives of messages, after a link of an injector, and after a report.
+use Rattle.std.proofs.Common.{◌≡◌, ◌≢◌, ⊎_elim, ℕ, List, [], ◌∷◌, ◌++◌, map, reverse, Bool, true, false, Option, Some, None, refl, sym, ap, ◌∙◌, subst, arith}
+use Rattle.std.specs.Prelude.{◌&&◌, ◌||◌, ◌==◌, bytes_eq, if◌then◌else◌}
+use Rattle.std.specs.List.{AllZip, filter, list_any}
+use Rattle.std.specs.Option.{option_map, option_to_list}
+use Rattle.std.specs.Ordering.{nat_cmp}
+use Rattle.std.specs.BTreeMap.{UpdatesBy, get, is_at}
+use Rattle.std.specs.Map.{lookup}
+use Rattle.std.proofs.lemmas.Bool.{eqb-true}
+use Rattle.std.proofs.lemmas.Bool.Decides.{nat_tests}
+use Rattle.std.proofs.lemmas.List.{reverse-append}
+use Rattle.call_fs.specs.declared.calls.Answer.{Answer}
+use Rattle.call_fs.specs.declared.calls.Answer.TheVariants as answer
+use Rattle.call_fs.specs.declared.calls.CallData.{CallData}
+use Rattle.call_fs.specs.declared.calls.CallData.TheVariants as call
+use Rattle.call_fs.specs.declared.past.GotData.{GotData}
+use Rattle.call_fs.specs.declared.past.GotData.TheVariants as got
+use Rattle.call_fs.specs.declared.past.NeedData.{NeedData}
+use Rattle.call_fs.specs.declared.past.NeedData.TheVariants as needs
+use Rattle.call_fs.specs.declared.past.Own.{Own}
+use Rattle.call_fs.specs.Maps.{put}
+use Rattle.call_fs.proofs.Maps.{put_cases}
+use Rattle.queue_inject.specs.declared.injection.Arguments.{Arguments}
+use Rattle.queue_law.specs.Books.{Books, Injection, accept, begun, booked, entered_in, linked, with_line}
+use Rattle.queue_law.specs.Ledgers.{Ledger, Line, Spot, line_in}
+use Rattle.queue_law.specs.Ledgers.Line.{Delivers}
+use Rattle.queue_paths.specs.Names.{Name, is_number, parse, path, used, used_name}
+use Rattle.queue_paths.specs.Names.Name.{Of, Pid}
+use Rattle.queue_paths.specs.Names.Part.{Mess, Intd, Todo, Info, Local, Remote, Bounce}
+use Rattle.world_events.specs.Books.{mess_number, number_by}
+use Rattle.script_fates.specs.declared.fates.Fates.{Fates}
+use Rattle.script_fates.specs.declared.fates.Spot.{Spot as KeptSpot}
+use Rattle.script_fates.specs.declared.fates.Tenure.{Tenure}
+use Rattle.script_fates.specs.Entering.{booked_after}
+use Rattle.script_fates.specs.Fates.{AreFates, IsTenure, IsTenureIf, no_books, spot_of}
+use Rattle.script_fates.specs.Lasting.{is_delivered, is_delivered_by, is_entered, is_entered_so, is_spot}
+
+-- what is kept of each number, and the books' injection of it
+abbrev pub AreLives : (ℕ → Option Tenure) → (ℕ → Option Injection) → Type 0
+AreLives kept living = (n : ℕ) → is_number n ≡ true → IsTenureIf (kept n) (living n)
+
+abbrev pub ArePlaced : (ℕ → Option Injection) → Type 0
+ArePlaced living = (n : ℕ) (q : Injection) → living n ≡ Some q → q.number ≡ n
+
+abbrev pub numbered : List Injection → List Injection
+numbered qs = filter (λ q. is_number q.number) qs
+
+some_is : {A : Type 0} (x y : A) → ◌≡◌ {A = Option A} (Some x) (Some y) → x ≡ y
+some_is x y e = cc
+
+placed_put : (living : ℕ → Option Injection) (n : ℕ) (o : Option Injection) → ((q : Injection) → o ≡ Some q → q.number ≡ n) → ArePlaced living → ArePlaced (put living n o)
+placed_put living n o here placed k q is = ⊎_elim
+    (λ h. here q (sym h.1 ∙ is) ∙ sym h.0)
+    (λ h. placed k q (sym h.1 ∙ is))
+    (put_cases living n o k)
+
+-- another injection of a number that is none
+lives_apart : (kept : ℕ → Option Tenure) (living : ℕ → Option Injection) (n : ℕ) (o : Option Injection) → is_number n ≡ false → AreLives kept living → AreLives kept (put living n o)
+lives_apart kept living n o none lives k is = ⊎_elim
+    (λ h. absurd (let e : true ≡ false = sym is ∙ ap is_number h.0 ∙ none in cc))
+    (λ h. subst (IsTenureIf (kept k)) (sym h.1) (lives k is))
+    (put_cases living n o k)
+
+-- or of one that is kept
+lives_put : (kept : ℕ → Option Tenure) (living : ℕ → Option Injection) (n : ℕ) (o : Option Injection) → (is_number n ≡ true → IsTenureIf (kept n) o) → AreLives kept living → AreLives kept (put living n o)
+lives_put kept living n o here lives k is = ⊎_elim
+    (λ h. subst (IsTenureIf (kept k)) (sym h.1) (subst (λ (k : ℕ). IsTenureIf (kept k) o) (sym h.0) (here (ap is_number (sym h.0) ∙ is))))
+    (λ h. subst (IsTenureIf (kept k)) (sym h.1) (lives k is))
+    (put_cases living n o k)
+
+-- Before any event
+
+pub no_lives : (f : Fates) → f.living.entries ≡ [] → f.over.items ≡ [] → AreFates f no_books
+no_lives f none over = record {
+  living = λ n is.
+      let missing : get nat_cmp f.living n ≡ None = ap (λ (es : List (ℕ × Tenure)). lookup (is_at (nat_cmp n)) es) none in
+      subst (λ (t : Option Tenure). IsTenureIf t None) (sym missing) tt;
+  over = subst (λ (l : List Tenure). AllZip IsTenure (reverse l) []) (sym over) tt;
+  placed = λ n q is. let missing : ◌≡◌ {A = Option Injection} None (Some q) = is in absurd (cc);
+}
+
+-- An acceptance
+
+accepted_if : (t : Option Tenure) (b : Bool) (q : Injection) → IsTenureIf t (Some q) → IsTenureIf t (if b then Some (record q { accepted = true }) else Some q)
+accepted_if None true q h = h
+accepted_if None false q h = h
+accepted_if (Some t) true q h = record { number = h.number; mail = h.mail; delivered = h.delivered }
+accepted_if (Some t) false q h = h
+
+accepted_lives : (a : List ℕ) (t : Option Tenure) (o : Option Injection) → IsTenureIf t o → IsTenureIf t (accept a o)
+accepted_lives a None None h = h
+accepted_lives a (Some t) None h = h
+accepted_lives a t (Some q) h = accepted_if t (bytes_eq q.actor a) q h
+
+accepted_number : (b : Bool) (p q : Injection) → (if b then Some (record p { accepted = true }) else Some p) ≡ Some q → q.number ≡ p.number
+accepted_number true p q is = ap (λ (q : Injection). q.number) (sym (some_is (record p { accepted = true }) q is))
+accepted_number false p q is = ap (λ (q : Injection). q.number) (sym (some_is p q is))
+
+accepted_placed : (a : List ℕ) (n : ℕ) (o : Option Injection) → ((q : Injection) → o ≡ Some q → q.number ≡ n) → (q : Injection) → accept a o ≡ Some q → q.number ≡ n
+accepted_placed a n None here q is = absurd (cc)
+accepted_placed a n (Some p) here q is = accepted_number (bytes_eq p.actor a) p q is ∙ here p refl
+
+to_todo : (f : Fates) (b : Books) (a : List ℕ) (n : ℕ) (t : Bool) → AreFates f b → AreFates f (if t then record { living = put b.living n (accept a (b.living n)); over = b.over } else b)
+to_todo f b a n false h = h
+to_todo f b a n true h = record {
+  living = lives_put (get nat_cmp f.living) b.living n (accept a (b.living n)) (λ is. accepted_lives a (get nat_cmp f.living n) (b.living n) (h.living n is)) h.living;
+  over = h.over;
+  placed = placed_put b.living n (accept a (b.living n)) (accepted_placed a n (b.living n) (h.placed n)) h.placed;
+}
+
+-- A link that tells no number
+
+not_kept : (n : ℕ) (o : Option Injection) (over : List Injection) → is_number n ≡ false → ((q : Injection) → o ≡ Some q → q.number ≡ n) → numbered (option_to_list o ++ over) ≡ numbered over
+not_kept n None over none here = refl
+not_kept n (Some q) over none here = ap (λ (t : Bool). if t then q ∷ numbered over else numbered over) (ap is_number (here q refl) ∙ none)
+
+used_none : (n : ℕ) (b : Bool) → is_number n ≡ b → mess_number (if b then Some (Of Mess n) else None) ≡ None → is_number n ≡ false
+used_none n false is none = is
+used_none n true is none = absurd (cc)
+
+unnumbered : (f : Fates) (b : Books) (a : List ℕ) (args : Arguments) (old : List ℕ) (name : Option Name) → mess_number (used name) ≡ None → AreFates f b → AreFates f (linked b a args old name)
+unnumbered f b a args old None none h = h
+unnumbered f b a args old (Some (Pid pid start seq)) none h = h
+unnumbered f b a args old (Some (Of Mess n)) none h =
+    let far = used_none n (is_number n) refl none in record {
+      living = lives_apart (get nat_cmp f.living) b.living n (Some (begun a args n)) far h.living;
+      over = subst (AllZip IsTenure (reverse f.over.items)) (sym (not_kept n (b.living n) b.over far (h.placed n))) h.over;
+      placed = placed_put b.living n (Some (begun a args n)) (λ q is. ap (λ (q : Injection). q.number) (sym (some_is (begun a args n) q is))) h.placed;
+    }
+unnumbered f b a args old (Some (Of Todo n)) none h = to_todo f b a n (bytes_eq old (path (Of Intd n))) h
+unnumbered f b a args old (Some (Of Intd n)) none h = h
+unnumbered f b a args old (Some (Of Info n)) none h = h
+unnumbered f b a args old (Some (Of Local n)) none h = h
+unnumbered f b a args old (Some (Of Remote n)) none h = h
+unnumbered f b a args old (Some (Of Bounce n)) none h = h
+
+-- A link of a message's name
+
+-- the lives are those of before, with a new one of this number
+pub record Begins (old new : Fates) (a : List ℕ) (n : ℕ) : Type 0 where
+  pub tenure : Tenure
+  pub is : get nat_cmp new.living n ≡ Some tenure
+  pub number : tenure.number ≡ n
+  pub mail : tenure.mail ≡ a
+  pub none : tenure.delivered.items ≡ []
+  pub others : (k : ℕ) → k ≢ n → get nat_cmp new.living k ≡ get nat_cmp old.living k
+  pub over : new.over.items ≡ old.over.items ++ option_to_list (get nat_cmp old.living n)
+
+over_more : (items : List Tenure) (over : List Injection) (n : ℕ) (t : Option Tenure) (o : Option Injection) → is_number n ≡ true → IsTenureIf t o → ((q : Injection) → o ≡ Some q → q.number ≡ n)
+    → AllZip IsTenure (reverse items) (numbered over) → AllZip IsTenure (reverse (items ++ option_to_list t)) (numbered (option_to_list o ++ over))
+over_more items over n None None is h here all = subst (λ (l : List Tenure). AllZip IsTenure l (numbered over)) (sym (reverse-append items [])) all
+over_more items over n None (Some q) is h here all = absurd h
+over_more items over n (Some t) None is h here all = absurd h
+over_more items over n (Some t) (Some q) is h here all =
+    let kept : numbered (q ∷ over) ≡ q ∷ numbered over = ap (λ (t : Bool). if t then q ∷ numbered over else numbered over) (ap is_number (here q refl) ∙ is) in
+    subst (AllZip IsTenure (reverse (items ++ t ∷ []))) (sym kept)
+    (subst (λ (l : List Tenure). AllZip IsTenure l (q ∷ numbered over)) (sym (reverse-append items (t ∷ []))) (h, all))
+
+new_life : (old new : Fates) (b : Books) (a : List ℕ) (args : Arguments) (n : ℕ) → is_number n ≡ true → Begins old new a n → AreFates old b
+    → AreFates new (record { living = put b.living n (Some (begun a args n)); over = option_to_list (b.living n) ++ b.over })
+new_life old new b a args n is begins h = record {
+  living = λ k k_is. ⊎_elim
+      (λ e.
+      let here : IsTenureIf (Some begins.tenure) (Some (begun a args n)) = record { number = begins.number; mail = begins.mail; delivered = ap (λ (l : List KeptSpot). map spot_of (reverse l)) begins.none } in
+      let kept : get nat_cmp new.living k ≡ Some begins.tenure = ap (get nat_cmp new.living) e.0 ∙ begins.is in
+      subst (IsTenureIf (get nat_cmp new.living k)) (sym e.1) (subst (λ (t : Option Tenure). IsTenureIf t (Some (begun a args n))) (sym kept) here))
+      (λ e. subst (IsTenureIf (get nat_cmp new.living k)) (sym e.1) (subst (λ (t : Option Tenure). IsTenureIf t (b.living k)) (sym (begins.others k e.0)) (h.living k k_is)))
+      (put_cases b.living n (Some (begun a args n)) k);
+  over = subst (λ (l : List Tenure). AllZip IsTenure (reverse l) (numbered (option_to_list (b.living n) ++ b.over))) (sym begins.over)
+      (over_more old.over.items b.over n (get nat_cmp old.living n) (b.living n) is (h.living n is) (h.placed n) h.over);
+  placed = placed_put b.living n (Some (begun a args n)) (λ q is. ap (λ (q : Injection). q.number) (sym (some_is (begun a args n) q is))) h.placed;
+}
+
+used_mess : (n m : ℕ) (b : Bool) → is_number m ≡ b → mess_number (if b then Some (Of Mess m) else None) ≡ Some n → (m ≡ n) × (is_number m ≡ true)
+used_mess n m true is told = (some_is m n told, is)
+used_mess n m false is told = absurd (cc)
+
+not_mess : (n : ℕ) (b : Bool) (name : Name) → mess_number (Some name) ≡ None → mess_number (if b then Some name else None) ≡ Some n → ⊥
+not_mess n true name other told = let e : ◌≡◌ {A = Option ℕ} None (Some n) = sym other ∙ told in cc
+not_mess n false name other told = cc
+
+name_is : (name : Option Name) (n : ℕ) → mess_number (used name) ≡ Some n → (name ≡ Some (Of Mess n)) × (is_number n ≡ true)
+name_is None n told = absurd (cc)
+name_is (Some (Pid pid start seq)) n told = absurd (not_mess n _ (Pid pid start seq) refl told)
+name_is (Some (Of Mess m)) n told =
+    let it = used_mess n m (is_number m) refl told in
+    (ap (λ (k : ℕ). Some (Of Mess k)) it.0, ap is_number (sym it.0) ∙ it.1)
+name_is (Some (Of Todo m)) n told = absurd (not_mess n (is_number m) (Of Todo m) refl told)
+name_is (Some (Of Intd m)) n told = absurd (not_mess n (is_number m) (Of Intd m) refl told)
+name_is (Some (Of Info m)) n told = absurd (not_mess n (is_number m) (Of Info m) refl told)
+name_is (Some (Of Local m)) n told = absurd (not_mess n (is_number m) (Of Local m) refl told)
+name_is (Some (Of Remote m)) n told = absurd (not_mess n (is_number m) (Of Remote m) refl told)
+name_is (Some (Of Bounce m)) n told = absurd (not_mess n (is_number m) (Of Bounce m) refl told)
+
+numbers : (old new : Fates) (b : Books) (a : List ℕ) (args : Arguments) (first : List ℕ) (name : Option Name) (n : ℕ) → mess_number (used name) ≡ Some n → Begins old new a n → AreFates old b
+    → AreFates new (linked b a args first name)
+numbers old new b a args first name n told begins h =
+    let it = name_is name n told in
+    subst (λ (name : Option Name). AreFates new (linked b a args first name)) (sym it.0) (new_life old new b a args n it.1 begins h)
+
+-- An event of an injector
+
+module _ (P : Books → Type 0) (b : Books) (a : List ℕ) (args : Arguments) where
+  by_call : (c : CallData) (reply : Answer) → (number_by (needs.File c) (got.Answered (record { answer = reply; bytes = [] })) ≡ None → P b)
+      → ((old new : List ℕ) → number_by (needs.File c) (got.Answered (record { answer = reply; bytes = [] })) ≡ mess_number (used_name new) → P (linked b a args old (parse new))) → P (booked b a args c reply)
+  by_call (call.Link old new) answer.Done none some = some old new refl
+  by_call c reply none some = none refl
+
+  by_came : (c : CallData) (came : GotData) → (number_by (needs.File c) came ≡ None → P b)
+      → ((old new : List ℕ) → number_by (needs.File c) came ≡ mess_number (used_name new) → P (linked b a args old (parse new))) → P (booked_after b a args (needs.File c) came)
+  by_came c (got.Answered told) none some = by_call c told.answer none some
+  by_came c came none some = none refl
+
+  by_due : (due : NeedData) (came : GotData) → (number_by due came ≡ None → P b)
+      → ((old new : List ℕ) → number_by due came ≡ mess_number (used_name new) → P (linked b a args old (parse new))) → P (booked_after b a args due came)
+  by_due (needs.File c) came none some = by_came c came none some
+  by_due due came none some = none refl
+
+pub unlinked : (f : Fates) (b : Books) (a : List ℕ) (args : Arguments) (own : Own) → number_by own.due own.came ≡ None → AreFates f b
+    → AreFates f (booked_after b a args own.due own.came)
+unlinked f b a args own none h =
+    by_due (AreFates f) b a args own.due own.came (λ e. h) (λ old new e. unnumbered f b a args old (parse new) (sym e ∙ none) h)
+
+pub linked_one : (old new : Fates) (b : Books) (a : List ℕ) (args : Arguments) (own : Own) (n : ℕ) → number_by own.due own.came ≡ Some n → Begins old new a n → AreFates old b
+    → AreFates new (booked_after b a args own.due own.came)
+linked_one old new b a args own n some begins h =
+    by_due (AreFates new) b a args own.due own.came
+    (λ e. absurd (let both : ◌≡◌ {A = Option ℕ} None (Some n) = sym e ∙ some in cc))
+    (λ first name e. numbers old new b a args first (parse name) n (sym e ∙ some) begins h)
+
+-- A recipient is reported delivered
+
+-- this one is entered in the life of this number, if there is one
+abbrev pub AddsSpot : Tenure → KeptSpot → Tenure → Type 0
+AddsSpot old s new = (new.number ≡ old.number) × (new.mail ≡ old.mail) × (new.delivered.items ≡ old.delivered.items ++ s ∷ [])
+
+abbrev pub EntersIf : Option Tenure → KeptSpot → Option Tenure → Type 0
+EntersIf None s new = new ≡ None
+EntersIf (Some old) s None = ⊥
+EntersIf (Some old) s (Some new) = AddsSpot old s new
+
+pub record Enters (old new : Fates) (n : ℕ) (s : KeptSpot) : Type 0 where
+  pub here : EntersIf (get nat_cmp old.living n) s (get nat_cmp new.living n)
+  pub others : (k : ℕ) → k ≢ n → get nat_cmp new.living k ≡ get nat_cmp old.living k
+  pub over : new.over.items ≡ old.over.items
+
+entered_lives : (s : KeptSpot) (t u : Option Tenure) (o : Option Injection) → EntersIf t s u → IsTenureIf t o → IsTenureIf u (option_map (with_line (Delivers (spot_of s))) o)
+entered_lives s None u None e h = subst (λ (u : Option Tenure). IsTenureIf u None) (sym e) h
+entered_lives s None u (Some q) e h = absurd h
+entered_lives s (Some t) None o e h = absurd e
+entered_lives s (Some t) (Some u) None e h = absurd h
+entered_lives s (Some t) (Some u) (Some q) e h = record {
+  number = e.0 ∙ h.number;
+  mail = e.1 ∙ h.mail;
+  delivered = ap (λ (l : List KeptSpot). map spot_of (reverse l)) e.2 ∙ ap (map spot_of) (reverse-append t.delivered.items (s ∷ [])) ∙ ap (λ (l : List Spot). spot_of s ∷ l) h.delivered;
+}
+
+lined_number : (line : Line) (n : ℕ) (o : Option Injection) → ((q : Injection) → o ≡ Some q → q.number ≡ n) → (q : Injection) → option_map (with_line line) o ≡ Some q → q.number ≡ n
+lined_number line n None here q is = absurd (cc)
+lined_number line n (Some p) here q is = ap (λ (q : Injection). q.number) (sym (some_is (with_line line p) q is)) ∙ here p refl
+
+pub enters_one : (old new : Fates) (b : Books) (n : ℕ) (s : KeptSpot) → Enters old new n s → AreFates old b → AreFates new (entered_in b n (Delivers (spot_of s)))
+enters_one old new b n s enters h = record {
+  living = λ k is. ⊎_elim
+      (λ e. subst (IsTenureIf (get nat_cmp new.living k)) (sym e.1)
+      (subst (λ (k : ℕ). IsTenureIf (get nat_cmp new.living k) (option_map (with_line (Delivers (spot_of s))) (b.living n))) (sym e.0)
+      (entered_lives s (get nat_cmp old.living n) (get nat_cmp new.living n) (b.living n) enters.here (h.living n (ap is_number (sym e.0) ∙ is)))))
+      (λ e. subst (IsTenureIf (get nat_cmp new.living k)) (sym e.1) (subst (λ (t : Option Tenure). IsTenureIf t (b.living k)) (sym (enters.others k e.0)) (h.living k is)))
+      (put_cases b.living n (option_map (with_line (Delivers (spot_of s))) (b.living n)) k);
+  over = subst (λ (l : List Tenure). AllZip IsTenure (reverse l) (numbered b.over)) (sym enters.over) h.over;
+  placed = placed_put b.living n (option_map (with_line (Delivers (spot_of s))) (b.living n)) (lined_number (Delivers (spot_of s)) n (b.living n) (h.placed n)) h.placed;
+}
+
+-- a line that tells of no delivery
+lined : (line : Line) → ((l : Ledger) → (line_in line l).delivered ≡ l.delivered) → (t : Option Tenure) (o : Option Injection) → IsTenureIf t o → IsTenureIf t (option_map (with_line line) o)
+lined line same None None h = h
+lined line same None (Some q) h = absurd h
+lined line same (Some t) None h = absurd h
+lined line same (Some t) (Some q) h = record { number = h.number; mail = h.mail; delivered = h.delivered ∙ sym (same q.ledger) }
+
+pub line_apart : (f : Fates) (b : Books) (n : ℕ) (line : Line) → ((l : Ledger) → (line_in line l).delivered ≡ l.delivered) → AreFates f b → AreFates f (entered_in b n line)
+line_apart f b n line same h = record {
+  living = lives_put (get nat_cmp f.living) b.living n (option_map (with_line line) (b.living n)) (λ is. lined line same (get nat_cmp f.living n) (b.living n) (h.living n is)) h.living;
+  over = h.over;
+  placed = placed_put b.living n (option_map (with_line line) (b.living n)) (lined_number line n (b.living n) (h.placed n)) h.placed;
+}
+
+-- Maps
+
+apart_at : (n k : ℕ) → k ≢ n → is_at (nat_cmp n) k ≡ false
+apart_at n k ne = grind (arith, nat_tests)
+
+pub enters_at : (old new : Fates) (n : ℕ) (s : KeptSpot) (t u : Tenure) → get nat_cmp old.living n ≡ Some t → UpdatesBy nat_cmp (nat_cmp n) old.living new.living (Some u) → AddsSpot t s u → new.over.items ≡ old.over.items → Enters old new n s
+enters_at old new n s t u was now entered over = record { here = rw (was, now.1) entered; others = λ k ne. now.2 k (apart_at n k ne); over = over }
+
+pub enters_nowhere : (old new : Fates) (n : ℕ) (s : KeptSpot) → get nat_cmp old.living n ≡ None → ((k : ℕ) → get nat_cmp new.living k ≡ get nat_cmp old.living k) → new.over.items ≡ old.over.items → Enters old new n s
+enters_nowhere old new n s was same over = record { here = rw was (same n ∙ was); others = λ k ne. same k; over = over }
+
+pub begins_at : (old new : Fates) (a : List ℕ) (n : ℕ) (t : Tenure) → t.number ≡ n → t.mail ≡ a → t.delivered.items ≡ [] → UpdatesBy nat_cmp (nat_cmp n) old.living new.living (Some t)
+    → new.over.items ≡ old.over.items ++ option_to_list (get nat_cmp old.living n) → Begins old new a n
+begins_at old new a n t number mail none now over = record {
+  tenure = t;
+  is = now.1;
+  number = number;
+  mail = mail;
+  none = none;
+  others = λ k ne. now.2 k (apart_at n k ne);
+  over = over;
+}
+
+-- Tests
+
+pub any_map : {A B : Type 0} (f : B → Bool) (g : A → B) (xs : List A) → list_any f (map g xs) ≡ list_any (λ x. f (g x)) xs
+any_map f g [] = refl
+any_map f g (x ∷ xs) = ap (λ t. f (g x) || t) (any_map f g xs)
+
+any_both : {A : Type 0} (f : A → Bool) (xs ys : List A) → list_any f (xs ++ ys) ≡ (list_any f xs || list_any f ys)
+any_both f [] ys = refl
+any_both f (x ∷ xs) ys = ap (λ t. f x || t) (any_both f xs ys) ∙ or_shift (f x) (list_any f xs) (list_any f ys)
+  where
+    or_shift : (a b c : Bool) → (a || (b || c)) ≡ ((a || b) || c)
+    or_shift true b c = refl
+    or_shift false b c = refl
+
+pub any_reverse : {A : Type 0} (f : A → Bool) (xs : List A) → list_any f (reverse xs) ≡ list_any f xs
+any_reverse f [] = refl
+any_reverse f (x ∷ xs) = ap (list_any f) (reverse-append (x ∷ []) xs) ∙ any_both f (reverse xs) (x ∷ []) ∙ swap (list_any f (reverse xs)) (list_any f xs) (f x) (any_reverse f xs)
+  where
+    swap : (a b c : Bool) → a ≡ b → (a || (c || false)) ≡ (c || b)
+    swap true true true e = refl
+    swap true true false e = refl
+    swap false false true e = refl
+    swap false false false e = refl
+    swap true false c e = absurd (cc)
+    swap false true c e = absurd (cc)
+
+entered_is : (t : Tenure) (q : Injection) (s : Spot) → IsTenure t q → list_any (is_spot s) (map spot_of t.delivered.items) ≡ is_entered s q
+entered_is t q s h =
+    any_map (is_spot s) spot_of t.delivered.items
+    ∙ sym (any_reverse (λ (k : KeptSpot). is_spot s (spot_of k)) t.delivered.items)
+    ∙ sym (any_map (is_spot s) spot_of (reverse t.delivered.items))
+    ∙ ap (list_any (is_spot s)) h.delivered
+
+-- that mail's life with this number, by which the recipient was delivered to
+abbrev pub was_so : Spot → List ℕ → ℕ → Tenure → Bool
+was_so s mail n t = (t.number == n) && (bytes_eq t.mail mail && list_any (is_spot s) (map spot_of t.delivered.items))
+
+same_so : (s : Spot) (mail : List ℕ) (n : ℕ) (t : Tenure) (q : Injection) → IsTenure t q → was_so s mail n t ≡ is_entered_so s mail n q
+same_so s mail n t q h =
+    ap (λ (k : ℕ). (k == n) && (bytes_eq t.mail mail && list_any (is_spot s) (map spot_of t.delivered.items))) h.number
+    ∙ ap (λ (a : List ℕ). (q.number == n) && (bytes_eq a mail && list_any (is_spot s) (map spot_of t.delivered.items))) h.mail
+    ∙ ap (λ (b : Bool). (q.number == n) && (bytes_eq q.actor mail && b)) (entered_is t q s h)
+
+zip_any : (s : Spot) (mail : List ℕ) (n : ℕ) (ts : List Tenure) (qs : List Injection) → AllZip IsTenure ts qs → list_any (was_so s mail n) ts ≡ list_any (is_entered_so s mail n) qs
+zip_any s mail n [] [] all = refl
+zip_any s mail n [] (q ∷ qs) all = absurd all
+zip_any s mail n (t ∷ ts) [] all = absurd all
+zip_any s mail n (t ∷ ts) (q ∷ qs) all = ap (λ (b : Bool). b || list_any (was_so s mail n) ts) (same_so s mail n t q all.0) ∙ ap (λ (b : Bool). is_entered_so s mail n q || b) (zip_any s mail n ts qs all.1)
+
+-- those of other numbers don't count
+numbered_any : (s : Spot) (mail : List ℕ) (n : ℕ) (qs : List Injection) → is_number n ≡ true → list_any (is_entered_so s mail n) (numbered qs) ≡ list_any (is_entered_so s mail n) qs
+numbered_any s mail n [] is = refl
+numbered_any s mail n (q ∷ qs) is = by (is_number q.number) refl (numbered_any s mail n qs is)
+  where
+    apart : (b : Bool) → (q.number == n) ≡ b → is_number q.number ≡ false → is_entered_so s mail n q ≡ false
+    apart true same none = absurd (let e : true ≡ false = sym is ∙ ap is_number (sym (eqb-true q.number n same)) ∙ none in cc)
+    apart false other none = ap (λ (b : Bool). b && (bytes_eq q.actor mail && is_entered s q)) other
+
+    by : (b : Bool) → is_number q.number ≡ b → list_any (is_entered_so s mail n) (numbered qs) ≡ list_any (is_entered_so s mail n) qs
+        → list_any (is_entered_so s mail n) (if b then q ∷ numbered qs else numbered qs) ≡ list_any (is_entered_so s mail n) (q ∷ qs)
+    by true k rest = ap (λ (b : Bool). is_entered_so s mail n q || b) rest
+    by false k rest = rest ∙ sym (ap (λ (b : Bool). b || list_any (is_entered_so s mail n) qs) (apart (q.number == n) refl k))
+
+pub was_delivered_is : (f : Fates) (b : Books) (s : Spot) (mail : List ℕ) (n : ℕ) → AreFates f b → is_number n ≡ true → list_any (was_so s mail n) f.over.items ≡ list_any (is_entered_so s mail n) b.over
+was_delivered_is f b s mail n h is =
+    sym (any_reverse (was_so s mail n) f.over.items)
+    ∙ zip_any s mail n (reverse f.over.items) (numbered b.over) h.over
+    ∙ numbered_any s mail n b.over is
+
+-- The life that lasts
+
+pub delivered_here : (f : Fates) (b : Books) (s : Spot) (mail : List ℕ) (n : ℕ) (t : Tenure) → AreFates f b → is_number n ≡ true → get nat_cmp f.living n ≡ Some t → bytes_eq t.mail mail ≡ true
+    → list_any (is_spot s) (map spot_of t.delivered.items) ≡ is_delivered b mail (Some n) s
+delivered_here f b s mail n t h is there own = by (b.living n) (subst (λ (o : Option Tenure). IsTenureIf o (b.living n)) there (h.living n is))
+  where
+    by : (o : Option Injection) → IsTenureIf (Some t) o → list_any (is_spot s) (map spot_of t.delivered.items) ≡ is_delivered_by s mail n o b.over
+    by None k = absurd k
+    by (Some q) k =
+        let same : bytes_eq q.actor mail ≡ true = ap (λ (a : List ℕ). bytes_eq a mail) (sym k.mail) ∙ own in
+        entered_is t q s k ∙ sym (ap (λ (c : Bool). if c then is_entered s q else list_any (is_entered_so s mail n) b.over) same)

@@ -1,0 +1,6 @@
+-- whose message a number is, and who was delivered to, by the books
+pub mod Lasting
+-- what events of injectors and senders enter in the books
+pub mod Entering
+-- the lives of messages stand for the books
+pub mod Fates

@@ -1,6 +1,0 @@
-use Rattle.std.proofs.Common.{◌≡◌, ◌+◌, drop}
-use Rattle.send_parts.specs.Lines.{reports_room}
-use Rattle.send_parts.proofs.lines.room_for.Given as goal
-
-abbrev pub invariant-loop-report : goal.invariant-loop-report
-invariant-loop-report l = l.room + reports_room (drop l.report-index l.reports) ≡ reports_room l.reports
