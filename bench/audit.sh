@@ -2,9 +2,9 @@
 # bench/audit.sh [N]: fills a fresh queue by N injections (100 without it), of which every second one is killed (kill -9)
 # at a random moment, unless it is done by then. Then, in a second queue, puts by hand a number for each combination of a
 # number's seven files, and names that the queue doesn't write. Checks that `qmail audit` prints of each what ls and awk
-# see, that all files are as before, that no file is opened (with strace(1)), and the exit statuses
-# of a directory that is missing and of an output that can't be written. Prints how long the audits took. Exit status 1 if
-# something differs. In Debian: the package strace.
+# see, that all files are as before, that no file is opened and no directory made (with strace(1)), what it says of a directory that
+# is missing, mistyped or no queue, and the exit status of an output that can't be written. Prints how long the audits took. Exit
+# status 1 if something differs. In Debian: the package strace.
 set -eu
 count=${1:-100}
 top=$(cd "$(dirname "$0")/.." && pwd)
@@ -71,6 +71,16 @@ ends() { # WHAT STATUS: whether the last command ended with this, and printed no
   fi
 }
 
+refused() { # WHAT DIR LINE: an audit of what can't be listed ends with 54, tells this line, and makes nothing
+  find "$2" 2> "$work/noise" | sort > "$work/before" || true
+  status=0
+  "$program" audit "$2" > "$work/told" 2> "$work/said" || status=$?
+  ends "$1" 54
+  find "$2" 2> "$work/noise" | sort > "$work/after" || true
+  if [ "$(cat "$work/said")" != "$3" ]; then echo "  it said: $(head -n 1 "$work/said")"; bad=1; fi
+  if ! cmp -s "$work/before" "$work/after"; then echo "  it made something"; bad=1; fi
+}
+
 # injections, of which some are killed
 queue=$work/queue
 printf 'Fs@example.org\0Tr@example.org\0\0' > "$work/envelope"
@@ -92,7 +102,7 @@ compare "a queue of injections" "$queue"
 
 # each combination of files, and names that the queue doesn't write
 other=$work/other
-"$program" audit "$other" > "$work/told" # makes the directories
+"$program" clean "$other" < /dev/null > "$work/told" # makes the directories
 for ((n = 1001; n < 1128; n++)); do
   s=$((n % 23))
   place=1
@@ -109,7 +119,7 @@ compare "each combination of files" "$other"
 
 if command -v strace > "$work/which"; then
   strace -f -y -e trace=%file -o "$work/calls" "$program" audit "$other" > "$work/told"
-  grep -F "$other" "$work/calls" | grep -v -e 'execve(' -e mkdir -e O_DIRECTORY -e '\(stat\|statx\|newfstatat\)(' > "$work/opened" || true
+  grep -F "$other" "$work/calls" | grep -v -e 'execve(' -e O_DIRECTORY -e '\(stat\|statx\|newfstatat\)(' > "$work/opened" || true
   if [ -s "$work/opened" ]; then
     echo "it made other calls than to list directories and to ask what a name is:"
     head -5 "$work/opened"
@@ -119,14 +129,15 @@ if command -v strace > "$work/which"; then
   fi
 fi
 
-status=0
-"$program" audit "$work/no/queue" > "$work/told" 2> "$work/noise" || status=$?
-ends "no directory, and no parent of it" 54
+refused "a mistyped directory" "$work/othre" "audit: $work/othre is missing"
+refused "no directory, and no parent of it" "$work/no/queue" "audit: $work/no/queue is missing"
+mkdir "$work/plain"
+refused "a directory that is no queue" "$work/plain" "audit: $work/plain/pid is missing"
+refused "a file" "$work/envelope" "audit: $work/envelope is no directory"
 mv "$other/info/7" "$other/away"
+refused "a queue that lacks a directory" "$other" "audit: $other/info/7 is missing"
 : > "$other/info/7"
-status=0
-"$program" audit "$other" > "$work/told" 2> "$work/noise" || status=$?
-ends "a file in a directory's place" 54
+refused "a file in a directory's place" "$other" "audit: $other/info/7 is no directory"
 rm "$other/info/7"
 mv "$other/away" "$other/info/7"
 if [ -c /dev/full ]; then

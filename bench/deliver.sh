@@ -25,7 +25,7 @@ request() { printf "\\$(printf %03o "$1")%s\\0%s\\0%s\\0" "$2" "$3" "$4"; } # SL
 message='Received: (qmail 77 invoked by uid 1000); 1 Jan 1970 00:00:00 -0000
 hi
 '
-queue audit q > empty
+queue clean q < /dev/null > empty
 mkdir -p q/mess/1 q/users q/home/j/Maildir/tmp q/home/j/Maildir/new q/home/j/Maildir/cur
 printf %s "$message" > q/mess/1/1
 

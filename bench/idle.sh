@@ -34,7 +34,7 @@ until_lines() { # N: of reports, at most half an hour
 printf '#!/bin/sh\nprintf "slater\\0Zlater\\0"\n' > program
 chmod +x program
 printf 'Fs@x\0Tr@y\0\0' > envelope
-"$program" audit queue > noise
+"$program" clean queue < /dev/null > noise
 echo 120 > queue/control/concurrencyremote
 for k in 1 2 3 4; do inject "$k" & done
 wait

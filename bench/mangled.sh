@@ -96,7 +96,7 @@ def netstring(text):
 
 def fresh_queue():
     shutil.rmtree("q", ignore_errors=True)
-    run(["audit", "q"])
+    run(["clean", "q"])
 
 
 def states():

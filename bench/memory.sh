@@ -157,7 +157,7 @@ mail() { # RECIPIENT: queues a mail to it
 
 fresh_queue() { # a queue with the user j, who has a maildir
   rm -rf q took
-  queue audit q > noise
+  queue clean q < /dev/null > noise
   mkdir -p q/home/j/Maildir/tmp q/home/j/Maildir/new q/home/j/Maildir/cur
   printf '=j:j:1000:1000:home/j:::\n.\n' > q/users/assign
 }

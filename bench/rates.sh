@@ -9,8 +9,8 @@
 # smtp(8) to smtp-sink(1), a session for each recipient. Bare: as many processes of that program, 20 at a time.
 #
 # Prints how many a second, and ours beside the others. Exit status 1 if a mail is missing. The program is ./qmail, which `make build`
-# leaves, or $QMAIL: one with proofs, since others are slower. Postfix is there only by root; in Debian the package is postfix. It
-# gets a configuration of its own (bench/postfix.sh).
+# leaves, or $QMAIL: one with proofs, since others are slower. If $BEFORE names another one, as that of an earlier commit, it is one of
+# the others. Postfix is there only by root; in Debian the package is postfix. It gets a configuration of its own (bench/postfix.sh).
 set -u
 count=${1:-2000}
 rounds=4
@@ -18,14 +18,15 @@ each=$(((count / rounds + 99) / 100 * 100))
 top=$(cd "$(dirname "$0")/.." && pwd)
 program=$(realpath "${QMAIL:-$top/qmail}")
 [ -x "$program" ] || { echo "there is no $program"; exit 1; }
+earlier=${BEFORE:+$(realpath "$BEFORE")}
 PATH=$PATH:/usr/sbin
 work=$(mktemp -d ${2:+-p "$2"})
-sender=
+senders=
 sink=
 with_postfix=
 end() {
   [ -z "$with_postfix" ] || own_users postfix -c "$work/postfix/etc" stop 2> noise
-  kill $sender $sink 2> noise
+  kill $senders $sink 2> noise
   wait
   rm -rf "$work"
 }
@@ -76,8 +77,10 @@ four() { # COMMAND..: four shells at once, each with a fourth of the numbers bel
 
 files() { find "$1" -path '*/new/*' -type f | wc -l; }
 ours() { "$program" queue "envelope$(($1 % 20 + 1))" queue < message; }
+before() { "$earlier" queue "envelope$(($1 % 20 + 1))" before < message; }
 by_sendmail() { sendmail -C "$work/postfix/etc" -f s@x "u$(($1 % 20 + 1))@localhost" < message; }
 local_ours() { four ours; await "$((round * each))" files queue/home; }
+local_before() { four before; await "$((round * each))" files before/home; }
 local_postfix() { four by_sendmail; await "$((round * each))" files postfix/home; }
 local_bare() {
   local shell shells=
@@ -88,12 +91,14 @@ local_bare() {
   wait $shells
 }
 
-reports() { grep -c '^delivery .* success' log; }
+reports() { grep -c '^delivery .* success' "$1.log"; }
 sent() { grep -c 'relay=127.0.0.1.*status=sent' postfix/log/log; }
-remote_ours() {
-  for ((k = 0; k < each; k += 100)); do "$program" queue envelope queue < message; done
-  await "$((each * rounds + round * each))" reports
+remote_by() { # PROGRAM QUEUE
+  for ((k = 0; k < each; k += 100)); do "$1" queue envelope "$2" < message; done
+  await "$((each * rounds + round * each))" reports "$2"
 }
+remote_ours() { remote_by "$program" queue; }
+remote_before() { remote_by "$earlier" before; }
 remote_postfix() {
   for ((k = 0; k < each; k += 100)); do sendmail -C "$work/postfix/etc" -f s@x $(seq -f r%g@example.net 100) < message; done
   await "$((round * each))" sent
@@ -141,23 +146,29 @@ END2
 printf '#!/bin/sh\nprintf "r\\0Kok\\0"\n' > program
 chmod +x program
 mkdir -p bare/pid bare/intd bare/todo bare/mess bare/info bare/local bare/tmp bare/new
-"$program" audit queue > noise
-for user in $(seq 20); do
-  mkdir -p "queue/home/u$user/Maildir/tmp" "queue/home/u$user/Maildir/new" "queue/home/u$user/Maildir/cur"
-  printf './Maildir/\n' > "queue/home/u$user/.qmail"
-  echo "=u$user:u$user:1000:1000:home/u$user:::" >> queue/users/assign
-  printf 'Fs@x\0Tu%s@localhost\0\0' "$user" > "envelope$user"
-done
-echo . >> queue/users/assign
+begin() { # PROGRAM QUEUE: a queue of 20 users, and its sender
+  local user
+  "$1" clean "$2" < /dev/null > noise
+  for user in $(seq 20); do
+    mkdir -p "$2/home/u$user/Maildir/tmp" "$2/home/u$user/Maildir/new" "$2/home/u$user/Maildir/cur"
+    printf './Maildir/\n' > "$2/home/u$user/.qmail"
+    echo "=u$user:u$user:1000:1000:home/u$user:::" >> "$2/users/assign"
+  done
+  echo . >> "$2/users/assign"
+  "$1" send "$2" "$work/program" --turns 1000000 2> "$2.log" &
+  senders="$senders $!"
+}
+for user in $(seq 20); do printf 'Fs@x\0Tu%s@localhost\0\0' "$user" > "envelope$user"; done
 { printf 'Subject: a mail\n\n'; head -c 2000 /dev/zero | tr '\0' x | fold -w 70; echo; } > message
 { printf 'Fs@x\0'; printf 'Tr%s@y\0' $(seq 100); printf '\0'; } > envelope
-"$program" send queue "$work/program" --turns 1000000 2> log & sender=$!
-others=bare
+begin "$program" queue
+[ -z "$earlier" ] || begin "$earlier" before
+others=${earlier:+before }bare
 if [ "$(id -u)" = 0 ] && command -v postfix smtp-sink > noise; then
   make_postfix "$port"
   smtp-sink -u nobody "127.0.0.1:$port" 1000 > sink.log 2>&1 &
   sink=$!
-  own_users postfix -c "$work/postfix/etc" start > noise 2>&1 && with_postfix=so others="postfix bare"
+  own_users postfix -c "$work/postfix/etc" start > noise 2>&1 && with_postfix=so others="postfix $others"
 fi
 [ -n "$with_postfix" ] || echo "without Postfix: it needs root and the package"
 for where in local remote; do
@@ -170,5 +181,5 @@ for where in local remote; do
   for who in $others; do beside "$where-ours" "$where-$who"; done
 done
 check "each mail is in a maildir" "$(files queue/home)" "$((each * rounds))"
-check "each recipient was delivered" "$(reports)" "$((2 * each * rounds))"
+check "each recipient was delivered" "$(reports queue)" "$((2 * each * rounds))"
 exit "$bad"

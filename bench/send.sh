@@ -26,7 +26,7 @@ mail() { # DIR SENDER RECIPIENT..: queues a message
 }
 
 make_queue() { # DIR: a queue with the user u, whose mail goes to a maildir
-  queue audit "$1" > empty
+  queue clean "$1" < /dev/null > empty
   mkdir -p "$1/home/u/Maildir/tmp" "$1/home/u/Maildir/new" "$1/home/u/Maildir/cur"
   printf '+u:u:1000:1000:home/u:-::\n.\n' > "$1/users/assign"
   printf './Maildir/\n' > "$1/home/u/.qmail-default"

@@ -62,7 +62,7 @@ user() { # NAME PLAIN DASH INSTRUCTIONS: whoever's name begins with NAME
 
 fresh_queue() {
   rm -rf "$queue" accepted took commands log calm sender senders
-  "$program" audit "$queue" > noise || exit 1
+  "$program" clean "$queue" < /dev/null > noise || exit 1
   echo h.example > "$queue/control/me"
   echo v.example:maildir-v > "$queue/control/virtualdomains"
   user maildir ./Maildir/

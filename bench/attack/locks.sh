@@ -48,7 +48,7 @@ case_lock_without_inodes() {
   mount -t tmpfs -o nr_inodes=160 none "$1/disk" || return
   chmod 755 "$1/disk"
   new_queue "$1/disk/queue"
-  as mailqueue "$QMAIL" audit "$1/disk/queue" > "$1/audit"
+  as mailqueue "$QMAIL" clean "$1/disk/queue" < /dev/null > "$1/made"
   while : > "$1/disk/$count"; do count=$((count + 1)); done 2> /dev/null
   as mailqueue timeout -s KILL 10 "$QMAIL" send "$1/disk/queue" cat --turns 20 2> "$1/log"
   [ "$?" = 84 ] && grep -q "^send: can't lock lock/send: .*(os error 28)$" "$1/log" || broken "it said: $(head -n 1 "$1/log")"
@@ -59,7 +59,7 @@ case_lock_on_a_disk_to_be_read() {
   mount -t tmpfs none "$1/disk" || return
   chmod 755 "$1/disk"
   new_queue "$1/disk/queue"
-  as mailqueue "$QMAIL" audit "$1/disk/queue" > "$1/audit"
+  as mailqueue "$QMAIL" clean "$1/disk/queue" < /dev/null > "$1/made"
   mount -o remount,ro "$1/disk" || return
   as mailqueue timeout -s KILL 10 "$QMAIL" send "$1/disk/queue" cat --turns 20 2> "$1/log"
   [ "$?" = 84 ] && grep -q "^send: can't lock lock/send: .*(os error 30)$" "$1/log" || broken "it said: $(head -n 1 "$1/log")"

@@ -32,11 +32,7 @@ kept_start (Some born) a own e h = (ap is_step h, ap actor_of h)
 kept_to : (child : Option Program) (c a : List ℕ) (own : Own) (bytes : List ℕ) (e : Kept) → IsKeptTo child c a own bytes e → IsOf a e
 kept_to None c a own bytes e h = (ap is_step h, ap actor_of h)
 kept_to (Some (program.Injector args)) c a own bytes e h = (ap is_step h.3, ap actor_of h.3)
-kept_to (Some (program.Cleaner start)) c a own bytes e h = (ap is_step h, ap actor_of h)
-kept_to (Some (program.Sender start)) c a own bytes e h = (ap is_step h, ap actor_of h)
-kept_to (Some (program.LocalSpawner start)) c a own bytes e h = (ap is_step h, ap actor_of h)
-kept_to (Some (program.RemoteSpawner start)) c a own bytes e h = (ap is_step h, ap actor_of h)
-kept_to (Some (program.Delivery start args)) c a own bytes e h = (ap is_step h, ap actor_of h)
+kept_to (Some other) c a own bytes e h = (ap is_step h, ap actor_of h)
 
 kept_giving : (s : State) (in_slot : Option Tenant) (a : List ℕ) (own : Own) (bytes : List ℕ) (e : Kept) → IsKeptGiving s in_slot a own bytes e → IsOf a e
 kept_giving s None a own bytes e h = (ap is_step h, ap actor_of h)

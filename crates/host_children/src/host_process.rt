@@ -111,6 +111,17 @@ impl<R: Processes + Wait + Clock + Copy + Drop> HostProcess<R> {
         Ok((number, input))
     }
 
+    /// Starts it with this file as its input; if that can't be read it is never started.
+    fn begin_on(&self, file: &File, command: &mut Command) {
+        match self.reopen(OpenOptions::new().read(true), file.as_raw_fd()) {
+            Ok(input) => {
+                command.stdin(Stdio::from(input));
+                let _ = self.begin_by(command);
+            }
+            Err(_) => self.give_up(),
+        }
+    }
+
     /// It is never started.
     fn give_up(&self) {
         self.held.lock(&self.rt).is_never = true;
@@ -143,11 +154,15 @@ impl<R: Processes + Wait + Clock + Copy + Drop> HostProcess<R> {
 
     /// The same, with the command of a shell.
     fn end_group_by(&self, command: &mut Command, number: u32) -> io::Result<()> {
-        command.arg("-c")?;
-        command.arg(END_GROUP)?;
-        command.arg("sh")?;
         let group = format!(in self.alloc; "{number}")?;
-        command.arg(group.as_str())?;
+        let ended = self.end_group_of(command, group.as_str());
+        drop(group);
+        ended
+    }
+
+    /// The same, with the text of the number.
+    fn end_group_of(&self, command: &mut Command, group: &str) -> io::Result<()> {
+        add(command, &["-c", END_GROUP, "sh", group])?;
         command.env_clear();
         command.stdin(Stdio::null());
         command.stdout(Stdio::null());
@@ -170,6 +185,14 @@ impl<R: Processes + Wait + Clock + Copy + Drop> HostProcess<R> {
         let count = file.read(&mut told)?.min(STAT);
         Ok(tells_zombie(&told[..count]))
     }
+}
+
+/// Gives a command these words, after those that it has.
+pub(crate) fn add(command: &mut Command, words: &[&str]) -> io::Result<()> {
+    for word in words {
+        command.arg(word)?;
+    }
+    Ok(())
 }
 
 /// Whether what the system tells of a process, `NUMBER (NAME) STATE ..`, says that it has exited.
@@ -299,21 +322,22 @@ impl<R: Processes + Wait + Clock + Drop> Write for HostInput<R> {
 
 impl<R: Processes + Wait + Clock + Copy + Drop> Closing for HostInput<R> {
     fn close(self, is_whole: bool) {
-        let HostInput::File {
-            file,
-            mut command,
-            process,
-        } = self
-        else {
-            return;
-        };
-        let input = process.reopen(OpenOptions::new().read(true), file.as_raw_fd());
-        match input {
-            Ok(input) if is_whole => {
-                command.stdin(Stdio::from(input));
-                let _ = process.begin(command);
+        match self {
+            HostInput::Pipe(input) => drop(input),
+            HostInput::File {
+                file,
+                mut command,
+                process,
+            } => {
+                if is_whole {
+                    process.begin_on(&file, &mut command);
+                } else {
+                    process.give_up();
+                }
+                drop(command);
+                drop(file);
+                drop(process);
             }
-            _ => process.give_up(),
         }
     }
 }

@@ -2,9 +2,9 @@
 ghost use Rattle.std.specs.Prelude.{◌≡◌};
 
 use crate::environment::pass_on;
-use crate::host_process::{Form, HostInput, HostOutput, HostProcess};
+use crate::host_process::{Form, HostInput, HostOutput, HostProcess, add};
 use proc_runner::{Born, Kind, Process, Start, System};
-use std::alloc::Global;
+use std::alloc::{AllocError, Global};
 use std::fs::{self, File, OpenOptions};
 use std::io::{self, ErrorKind, PipeWriter};
 use std::os::unix::fs::{MetadataExt, OpenOptionsExt};
@@ -65,22 +65,23 @@ impl<R: Processes + Wait + Clock + Copy + Drop> HostSystem<R> {
 
     /// Gives a command what stands before the words of a start.
     fn lead(&self, alloc: Global, kind: Kind, command: &mut Command) -> io::Result<()> {
-        if let Kind::Member = kind {
-            command.arg0(NAME)?;
-            return Ok(());
-        }
-        command.arg("--")?;
         match kind {
-            Kind::Delivery => {
-                let own = format!(in alloc; "/proc/{}/exe", self.number)?;
-                command.arg(own.as_str())?;
+            Kind::Member => {
+                command.arg0(NAME)?;
+                Ok(())
             }
-            Kind::Command => {
-                command.arg(SHELL)?;
-            }
-            Kind::Remote | Kind::Member => {}
+            Kind::Delivery => self.lead_own(alloc, command),
+            Kind::Command => add(command, &["--", SHELL]),
+            Kind::Remote => add(command, &["--"]),
         }
-        Ok(())
+    }
+
+    /// The same, of a delivery, which is this same program.
+    fn lead_own(&self, alloc: Global, command: &mut Command) -> io::Result<()> {
+        let own = format!(in alloc; "/proc/{}/exe", self.number)?;
+        let led = add(command, &["--", own.as_str()]);
+        drop(own);
+        led
     }
 
     /// The command of a start. Its output goes there.
@@ -142,18 +143,37 @@ impl<R: Processes + Wait + Clock + Copy + Drop> HostSystem<R> {
     fn unnamed(&self, alloc: Global) -> io::Result<File> {
         let made = self.made.fetch_add(1, Ordering::SeqCst);
         let path = format!(in alloc; "{}/input.{}.{}", self.dir.as_str(), self.number, made)?;
+        let file = self.unnamed_at(path.as_str());
+        drop(path);
+        file
+    }
+
+    /// The same, whose name was this.
+    fn unnamed_at(&self, path: &str) -> io::Result<File> {
+        match self.new_file(path) {
+            Ok(file) => match fs::remove_file(&self.files, path) {
+                Ok(()) => Ok(file),
+                Err(why) => {
+                    drop(file);
+                    Err(why)
+                }
+            },
+            Err(why) => Err(why),
+        }
+    }
+
+    /// A new file of this name, open for writing.
+    fn new_file(&self, path: &str) -> io::Result<File> {
         let mut how = OpenOptions::new();
         how.write(true).create_new(true).mode(OWN_FILE);
-        let file = match how.open(&self.files, path.as_str()) {
+        match how.open(&self.files, path) {
             Err(why) if why.kind() == ErrorKind::AlreadyExists => {
                 // one of this number was killed before it took the name away
-                fs::remove_file(&self.files, path.as_str())?;
-                how.open(&self.files, path.as_str())?
+                fs::remove_file(&self.files, path)?;
+                how.open(&self.files, path)
             }
-            opened => opened?,
-        };
-        fs::remove_file(&self.files, path.as_str())?;
-        Ok(file)
+            opened => opened,
+        }
     }
 
     /// This same program, which is started now, with its input piped.
@@ -179,17 +199,78 @@ impl<R: Processes + Wait + Clock + Copy + Drop> HostSystem<R> {
         command: Command,
         process: Arc<HostProcess<R>, Global>,
     ) -> io::Result<HostInput<R>> {
+        match self.file_for(alloc, kind) {
+            Ok(file) => Ok(HostInput::File {
+                file,
+                command,
+                process,
+            }),
+            Err(why) => {
+                drop(command);
+                drop(process);
+                Err(why)
+            }
+        }
+    }
+
+    /// Our end of the input of a child, which is this process, and its number, 0 if it isn't started yet.
+    fn input(
+        &self,
+        alloc: Global,
+        kind: Kind,
+        command: Command,
+        process: Arc<HostProcess<R>, Global>,
+    ) -> io::Result<(u32, HostInput<R>)> {
+        if is_of_others(kind) {
+            let input = self.spawn_later(alloc, kind, command, process)?;
+            return Ok((0, input));
+        }
+        let started = self.spawn_own(command, process.as_ref());
+        drop(process);
+        started
+    }
+
+    /// Starts a child as this process, whose output goes there: its number, and our ends of its input and its output.
+    fn begun(
+        &self,
+        alloc: Global,
+        start: &Start<'_>,
+        process: &Arc<HostProcess<R>, Global>,
+        theirs: PipeWriter,
+    ) -> io::Result<(u32, HostInput<R>, HostOutput<R>)> {
+        let command = self.command(alloc, start, theirs)?;
+        match twice(process) {
+            Ok((process, also)) => match self.input(alloc, start.kind, command, also) {
+                Ok((number, input)) => Ok((number, input, HostOutput { process })),
+                Err(why) => {
+                    drop(process);
+                    Err(why)
+                }
+            },
+            Err(why) => {
+                drop(command);
+                Err(why.into())
+            }
+        }
+    }
+
+    /// The file that such a program gets, if there is what starts it.
+    fn file_for(&self, alloc: Global, kind: Kind) -> io::Result<File> {
         self.needs(NEW_GROUP)?;
         if let Kind::Command = kind {
             self.needs(SHELL)?;
         }
-        let file = self.unnamed(alloc)?;
-        Ok(HostInput::File {
-            file,
-            command,
-            process,
-        })
+        self.unnamed(alloc)
     }
+}
+
+/// A process twice more. The error: out of memory.
+fn twice<P: Drop>(
+    process: &Arc<P, Global>,
+) -> Result<(Arc<P, Global>, Arc<P, Global>), AllocError> {
+    let one = Arc::try_clone(process)?;
+    let two = Arc::try_clone(process)?;
+    Ok((one, two))
 }
 
 /// The program that is started for a child of this kind.
@@ -233,22 +314,23 @@ where
         let (output, theirs) = io::pipe(&self.files)?;
         let form = form_of(start.kind);
         let process = HostProcess::new(self.rt, self.files, alloc, form, output);
-        let process = Arc::new(alloc, process)?;
-        let output = HostOutput {
-            process: Arc::try_clone(&process)?,
-        };
-        let also = Arc::try_clone(&process)?;
-        let command = self.command(alloc, start, theirs)?;
-        let (number, input) = if is_of_others(start.kind) {
-            (0, self.spawn_later(alloc, start.kind, command, also)?)
-        } else {
-            self.spawn_own(command, process.as_ref())?
-        };
-        Ok(Born {
-            process,
-            number,
-            input,
-            output,
-        })
+        match Arc::new(alloc, process) {
+            Ok(process) => match self.begun(alloc, start, &process, theirs) {
+                Ok((number, input, output)) => Ok(Born {
+                    process,
+                    number,
+                    input,
+                    output,
+                }),
+                Err(why) => {
+                    drop(process);
+                    Err(why)
+                }
+            },
+            Err(why) => {
+                drop(theirs);
+                Err(why.into())
+            }
+        }
     }
 }

@@ -58,12 +58,20 @@ impl<S: System + Copy> HostFs<S> {
         ensures opens { IfOk result (λ disk. (fd : _) → opens_of disk fd ≡ None) }
         ensures faults { IfOk result (λ disk. faults_of disk ≡ 0) }
     {
-        let root = ByteText::from_slice(alloc, root)?;
-        make_directories(system, alloc, root.as_slice())?;
+        make_directories(system, alloc, root)?;
+        HostFs::open_as_is(system, alloc, root)
+    }
+
+    /// The same, but no directory is made, for a command that only reads.
+    pub fn open_as_is(system: &S, alloc: Global, root: &[u8]) -> Result<HostFs<S>, Memory>
+        ensures root { IfOk result (λ disk. root_of disk ≡ root.now) }
+        ensures opens { IfOk result (λ disk. (fd : _) → opens_of disk fd ≡ None) }
+        ensures faults { IfOk result (λ disk. faults_of disk ≡ 0) }
+    {
         Ok(HostFs {
             system: *system,
             alloc,
-            root,
+            root: ByteText::from_slice(alloc, root)?,
             table: Table::new(alloc),
             faults: 0,
             kept: None,

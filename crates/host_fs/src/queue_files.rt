@@ -6,7 +6,7 @@ use crate::system::{Facts, System};
 use call_fs::How;
 use std::alloc::Global;
 use std::fs::{self, File};
-use std::io::{self, ErrorKind};
+use std::io;
 use std::os::unix::fs::MetadataExt;
 use std::rt::Files;
 use std::sync::{Arc, Wait};
@@ -19,7 +19,6 @@ pub struct QueueFiles<R: Wait + Drop> {
     rt: HostRuntime,
     handle: R,
     leaving: Arc<Leaving, Global>,
-    makes: bool,
 }
 
 impl<R: Wait + Drop> QueueFiles<R> {
@@ -29,13 +28,7 @@ impl<R: Wait + Drop> QueueFiles<R> {
             rt: *rt,
             handle,
             leaving,
-            makes: true,
         }
-    }
-
-    /// Makes no directory from now on: the system is said to refuse it.
-    pub fn make_none(&mut self) {
-        self.makes = false;
     }
 }
 
@@ -110,9 +103,6 @@ impl<'a, R: Wait + Drop> System for &'a QueueFiles<R> {
     }
 
     fn make_dir(&self, path: &str) -> io::Result<()> {
-        if !self.makes {
-            return Err(io::Error::from(ErrorKind::PermissionDenied));
-        }
         System::make_dir(&self.rt, path)
     }
 

@@ -21,7 +21,7 @@ use Rattle.queue_law.specs.Books.{Child as Bouncer, Books}
 use Rattle.world_pipes.specs.Pipework.{Pipework, Tenant, is_member, programs_after, with_child, with_generation}
 use Rattle.world_pipes.specs.Pipework.Tenant.{Runs, Remote}
 use Rattle.world_events.specs.declared.event.Program.{Program}
-use Rattle.world_events.specs.declared.event.Program.TheVariants.{Injector, Cleaner, Sender, LocalSpawner, RemoteSpawner, Delivery}
+use Rattle.world_events.specs.declared.event.Program.TheVariants.{Injector, Delivery}
 use Rattle.mail_world.specs.History.{Event, Actor, Life, State, Allowed, MayRead, MayFind, MayRun, MayDo, MayBear, MayEnd, MayReport, MayBegin, MayStart, IsLiving, TenantEnds, IsStatusOf, IsFed, IsProgramOf, ComesOf, EachAllowed, after, happens, acted, finished, begins, bouncer_in, bouncer_at, books_after, newborn, stopped, cut_off, start_of, slot_by}
 use Rattle.mail_world.specs.History.Event.{Start, Act, Child, Generation, Report, End, Stop, Moment, Halt}
 use Rattle.mail_world.specs.History.Life.{Alive, Over, Stopped}
@@ -173,11 +173,7 @@ RunsOnlyWith parent c s = (a : List ℕ) (d : ℕ) → s.pipework.programs a d �
 
 runs_alone : (p q : Program) → IsSameButInput p q → MayRun p
 runs_alone (Injector args) q same = tt
-runs_alone (Cleaner start) q same = absurd same
-runs_alone (Sender start) q same = absurd same
-runs_alone (LocalSpawner start) q same = absurd same
-runs_alone (RemoteSpawner start) q same = absurd same
-runs_alone (Delivery start args) q same = absurd same
+runs_alone other q same = absurd same
 
 module _ (parent c : List ℕ) (p q : Program) (same : IsSameButInput p q) where
   abbrev Alike : State → State → Type 0
@@ -198,11 +194,7 @@ module _ (parent c : List ℕ) (p q : Program) (same : IsSameButInput p q) where
 
     finds : (a : List ℕ) (program : Program) (past : List Own) (ready : Ready) → MayFind s a program past ready → MayFind t a program past ready
     finds a (Injector args) past ready h = h
-    finds a (Cleaner start) past ready h = h
-    finds a (Sender start) past ready h = h
-    finds a (LocalSpawner start) past ready h = h
-    finds a (RemoteSpawner start) past ready h = h
-    finds a (Delivery start args) past ready h = h
+    finds a other past ready h = h
 
     runner_ends : (b : List ℕ) (came : GotData) → TenantEnds s (Some (Runs b)) came → TenantEnds t (Some (Runs b)) came
     runner_ends b came h = ⊎_elim

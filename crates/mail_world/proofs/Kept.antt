@@ -15,8 +15,8 @@ use Rattle.call_fs.specs.declared.calls.Told.{Told}
 use Rattle.call_fs.specs.declared.program.Port.{Port}
 use Rattle.call_fs.specs.declared.program.Ready.{Ready as Found}
 use Rattle.call_fs.specs.Apply.{Fits}
-use Rattle.queue_paths.specs.Names.Part.{Intd, Todo}
 use Rattle.queue_paths.specs.Names.Name.{Pid, Of}
+use Rattle.queue_law.proofs.Waits.{intd_bare, todo_bare}
 use Rattle.world_events.specs.declared.event.Program.{Program}
 use Rattle.world_events.specs.declared.event.Program.TheVariants.{Injector}
 use Rattle.mail_world.specs.History.{Event, Life, Injection, Books, Actor, State, newborn, begins, next_of, own_call, acted, called, unless_by, shut_by, finished, stopped, happens, MayRun, MayRead, MayEnd, IsLiving, Opening, opening, after}
@@ -292,8 +292,8 @@ kept_opening controls d o = record {
     fine = λ n. Free (record {
       not_accepted = λ i h t. absurd (cc);
       unsorted = λ part later. find_none d.names d.files (Of part n) (o.empty part n);
-      no_todo = find_none d.names d.files (Of Todo n) (o.empty Todo n);
-      intd_below = λ _. find_none d.names d.files (Of Intd n) (o.empty Intd n);
+      no_todo = todo_bare d.names d.files n (λ part. o.empty part n);
+      intd_below = λ _. intd_bare d.names d.files n (λ part. o.empty part n);
     });
     over = λ i h t. absurd h;
   };

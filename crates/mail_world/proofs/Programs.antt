@@ -100,9 +100,7 @@ found_finds s t a (Injector args) past same = (
 )
 found_finds s t a (Cleaner start) past same = (refl, refl)
 found_finds s t a (Sender start) past same = (_, _, _, refl, none_or_first (has_ended s (s.pipework.programs a 0)))
-found_finds s t a (LocalSpawner start) past same = refl
-found_finds s t a (RemoteSpawner start) past same = refl
-found_finds s t a (Delivery start args) past same = refl
+found_finds s t a other past same = refl
 
 -- how many bytes a machine may be handed is how many its program takes at once, if it takes any
 mail_takes : (m : FedInjector) (program : Program) (past : List Own) → Mails m program past → IsMail program
@@ -232,12 +230,7 @@ queue_by q a program read call answer wrote role = record {
 
 -- what isn't the queue's is left if it makes no file call
 pub leaves_same : (program : Program) (d : Disk) (opens : ℕ → Option Open) → Leaves program d (record { dirs = d.dirs; names = d.names; files = d.files; opens = opens })
-leaves_same (Injector args) d opens = outside_same d opens
-leaves_same (Cleaner start) d opens = outside_same d opens
-leaves_same (Sender start) d opens = outside_same d opens
-leaves_same (LocalSpawner start) d opens = outside_same d opens
-leaves_same (RemoteSpawner start) d opens = outside_same d opens
-leaves_same (Delivery start args) d opens = outside_same d opens
+leaves_same program d opens = outside_same d opens
 
 -- what a call of it leads to
 pub record Calls (controls : Controls) (now : ℕ) (q : Queue) (a : List ℕ) (program : Program) (past : List Own) (life : Life) (read : ℕ) (ready : Ready) (call : CallData) (told : Told) (wrote : ℕ) : Type 0 where

@@ -643,8 +643,8 @@ module _ (d : Desk) where
   sweep_asks sweep.First = λ w. w
   sweep_asks (sweep.Next split) = λ w. w
   sweep_asks (sweep.StatMess split n) = λ w. w
-  sweep_asks (sweep.StatInfo split n) = λ w. w
-  sweep_asks (sweep.StatTodo split n info) = λ w. w
+  sweep_asks (sweep.StatTodo split n) = λ w. w
+  sweep_asks (sweep.StatInfo split n todo) = λ w. w
   sweep_asks (sweep.Give split n) = λ w. w
   sweep_asks (sweep.Take split n) = λ w. w
   sweep_asks sweep.Over = λ w. w

@@ -1,18 +1,16 @@
 -- The invariant says that each accepted message waits in todo.
 use Rattle.std.proofs.Common.{◌≡◌, List, [], ◌∷◌, ◌++◌, true, Some, refl, sym, subst, subst₂, ⊎_elim}
+use Rattle.queue_law.proofs.Waits.{todo_named, todo_entry}
 use Rattle.address_rules.specs.Files.{controls_of}
 use Rattle.address_rules.specs.declared.controls.Controls.{Controls}
 use Rattle.call_fs.specs.Disk.{Disk, Among, IsSynced}
 use Rattle.queue_inject.specs.declared.injection.Arguments.{Arguments}
-use Rattle.queue_paths.specs.Names.Name.{Of}
-use Rattle.queue_paths.specs.Names.Part.{Todo}
 use Rattle.queue_inject.specs.Texts.{intd_text, todo_of}
 use Rattle.mail_world.specs.History.{Event, Injection, State, after, Legal}
 use Rattle.queue_law.specs.Accounts.{IsInTodo}
 use Rattle.queue_law.specs.Books.{IsInjected}
 use Rattle.mail_world.specs.Waiting.{AllWait, HasNoGeneration, MailsWait}
 use Rattle.queue_law.specs.Numbers.{Entry, about, IsQueued, Phase}
-use Rattle.queue_law.proofs.Looks.{found}
 use Rattle.mail_world.specs.Untouched.{queue}
 use Rattle.queue_law.specs.Numbers.Phase.{Free, Queued, Sorted, Finished}
 use Rattle.mail_world.proofs.Covered.{covered, covered_before}
@@ -31,12 +29,12 @@ module _ (controls : Controls) (s : State) (I : Inv controls s) where
   in_todo i h lives =
       let d = s.disk in
       let same : h.taken.injection ≡ i = (let w = h.taken.lives in cc) in
-      let todo = found d.names d.files (Of Todo i.number) h.todo h.todo_there in
+      let todo = todo_entry d.names d.files i.number h.todo h.todo_there in
       record {
         file = h.todo.number;
-        there = todo.0;
+        there = todo_named d.names d.files i.number h.todo h.todo_there;
         text =
-            let text = subst₂ (λ (y : Entry) (z : Injection). IsSynced y.file (intd_text z.args).bytes) todo.1 same h.text in
+            let text = subst₂ (λ (y : Entry) (z : Injection). IsSynced y.file (intd_text z.args).bytes) todo same h.text in
             subst (IsSynced (d.files h.todo.number)) (todo_is i.args) text;
       }
 

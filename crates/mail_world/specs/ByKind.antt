@@ -29,6 +29,7 @@ use Rattle.fed_injector.specs.Inputs.{FedStands, awaits}
 use Rattle.world_events.specs.Inputs.{with_texts}
 use Rattle.mail_world.specs.declared.any_machine.AnyMachine.{AnyMachine}
 use Rattle.mail_world.specs.declared.any_machine.AnyMachine.TheVariants.{Mail, Clean, Send, Local, Remote, Deliver, Over}
+use Rattle.world_events.specs.Programs.{IsNoMember, class_of}
 -- what an injector is started with
 pub use Rattle.world_events.specs.Programs.{injection_of}
 
@@ -39,9 +40,7 @@ IsMail other = ⊥
 
 -- What an actor runs that is no member of a generation: an injector, or a local delivery.
 abbrev pub IsAlone : Program → Type 0
-IsAlone (Injector args) = Unit {0}
-IsAlone (Delivery start args) = Unit {0}
-IsAlone other = ⊥
+IsAlone program = IsNoMember (class_of program)
 
 -- What runs in a slot of a program, if that is an actor: an injector in the first one of the sender or of a delivery, and a delivery in one
 -- of the local spawner.
@@ -227,9 +226,4 @@ HasGone other came new = Unit {0}
 -- What an event of a program leaves of what isn't the queue's: all. It is said of histories without generations, in which there are no
 -- deliveries; what these write isn't the queue's.
 abbrev pub Leaves : Program → Disk → Disk → Type 0
-Leaves (Injector args) d e = Outside d e
-Leaves (Cleaner start) d e = Outside d e
-Leaves (Sender start) d e = Outside d e
-Leaves (LocalSpawner start) d e = Outside d e
-Leaves (RemoteSpawner start) d e = Outside d e
-Leaves (Delivery start args) d e = Outside d e
+Leaves program d e = Outside d e

@@ -39,6 +39,7 @@ use Rattle.local_parts.specs.Arguments.{local_args}
 use Rattle.remote_spawn.specs.Table.{Next as SpawnsNext}
 use Rattle.world_events.specs.declared.event.Program.{Program}
 use Rattle.world_events.specs.declared.event.Program.TheVariants.{Injector, Cleaner, Sender, LocalSpawner, RemoteSpawner, Delivery}
+use Rattle.world_events.specs.Programs.{StartsAlone, class_of}
 use Rattle.actor_names.specs.MailNames.{members}
 use Rattle.mail_world.specs.Pipework.{Pipework, Tenant, Slot, is_ready, Yields, no_pipework, slot_of, pipework_after, with_child, without_writer, with_generation, with_report}
 use Rattle.mail_world.specs.Pipework.Tenant.{Runs, Remote}
@@ -150,22 +151,14 @@ bouncer_of s a = bouncer_in s.actors (s.pipework.programs a 0)
 -- What they say after a call, by the program that made it, of injections.
 abbrev pub booked_by : Books → List ℕ → Program → CallData → Answer → Books
 booked_by b a (Injector args) call answer = booked b a args call answer
-booked_by b a (Cleaner start) call answer = b
-booked_by b a (Sender start) call answer = b
-booked_by b a (LocalSpawner start) call answer = b
-booked_by b a (RemoteSpawner start) call answer = b
-booked_by b a (Delivery start args) call answer = b
+booked_by b a other call answer = b
 
 -- What a sender did is entered by what came: what the reports of a taking say, a note that is synced, what it reads of a bounce file, a
 -- bounce whose injector ended with 0, and a bounce file that it drops.
 abbrev pub told_by : Option Bouncer → Books → Program → List Own → ℕ → Ready → GotData → Books
-told_by child b (Injector args) past read ready came = b
-told_by child b (Cleaner start) past read ready came = b
 told_by child b (Sender start) past read ready came =
     let d = sender_after None past in booked_all child (booked_at (row_now d read ready) came d) b
-told_by child b (LocalSpawner start) past read ready came = b
-told_by child b (RemoteSpawner start) past read ready came = b
-told_by child b (Delivery start args) past read ready came = b
+told_by child b other past read ready came = b
 
 -- What an event of an actor does to the disk, to the descriptors and to the books: a file call its effect, that and a taking what a
 -- sender enters, any other nothing.
@@ -291,12 +284,7 @@ pub record MayRead (s : State) (a : List ℕ) (x : Actor) (read : ℕ) : Type 0 
 
 -- a program that starts alone: no member of a generation, whose four start together, and no local delivery, which a local spawner starts
 abbrev pub MayRun : Program → Type 0
-MayRun (Injector args) = Unit {0}
-MayRun (Cleaner start) = ⊥
-MayRun (Sender start) = ⊥
-MayRun (LocalSpawner start) = ⊥
-MayRun (RemoteSpawner start) = ⊥
-MayRun (Delivery start args) = ⊥
+MayRun program = StartsAlone (class_of program)
 
 -- a start takes a name that no actor had
 pub record MayStart (s : State) (a : List ℕ) (program : Program) : Type 0 where

@@ -6,7 +6,7 @@ use Rattle.call_fs.specs.declared.program.Port.TheVariants as port
 use Rattle.call_fs.specs.declared.program.Ready.{Ready}
 use Rattle.call_fs.specs.declared.program.TheConstants.{INPUT_READY}
 use Rattle.world_events.specs.declared.event.Program.{Program}
-use Rattle.world_events.specs.declared.event.Program.TheVariants.{Injector, Cleaner, Sender, LocalSpawner, RemoteSpawner, Delivery}
+use Rattle.world_events.specs.declared.event.Program.TheVariants.{Injector, Cleaner, Sender}
 pub use Rattle.world_pipes.specs.Seating.{input_alone, only_child}
 use Rattle.mail_world.specs.Pipework.{Tenant, is_ready}
 use Rattle.mail_world.specs.Pipework.Tenant.{Runs, Remote}
@@ -54,9 +54,7 @@ found_by s a (Sender start) = record {
   links = lies_ready s a port.Clean ∷ lies_ready s a port.Lspawn ∷ lies_ready s a port.Rspawn ∷ false ∷ [];
   child = only_child (has_ended s (s.pipework.programs a 0));
 }
-found_by s a (LocalSpawner start) = input_or_child s a
-found_by s a (RemoteSpawner start) = input_or_child s a
-found_by s a (Delivery start args) = input_or_child s a
+found_by s a other = input_or_child s a
 
 abbrev pub found_at : State → List ℕ → Option Actor → Ready
 found_at s a None = input_alone false

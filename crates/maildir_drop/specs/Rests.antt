@@ -5,7 +5,7 @@
 -- | `Create` | none yet: all bytes are left |
 -- | `Append`, `Sync` | has its name in `tmp` and is open; what it holds and what is left are all bytes |
 -- | `Close`, `Link` | has its name in `tmp`, and is whole |
--- | `Unlink` and `Ended`, once it is dropped | has its name in `new`, and is whole |
+-- | `Unlink` and `Ended`, once it is dropped | nothing is asked: its name in `new` is its reader's, who may move it at once |
 -- | after a failure | nothing is asked |
 use Rattle.std.specs.Prelude.{◌≡◌, ℕ, List, [], ◌++◌, Some}
 use Rattle.call_fs.specs.declared.calls.Fd.{Fd}
@@ -14,7 +14,6 @@ use Rattle.call_fs.specs.declared.past.NeedData.{NeedData}
 use Rattle.call_fs.specs.Disk.{Disk, Open as OpenFile, IsWhole}
 use Rattle.maildir_drop.specs.declared.arguments.Arguments.{Arguments}
 use Rattle.maildir_drop.specs.declared.names.DropNames.{DropNames}
-use Rattle.maildir_drop.specs.declared.row.Outcome.TheVariants.{Dropped, Failed}
 use Rattle.maildir_drop.specs.declared.row.Row.{Row}
 use Rattle.maildir_drop.specs.declared.row.Row.TheVariants as at
 use Rattle.maildir_drop.specs.Names.{names_of, pair_at}
@@ -32,10 +31,8 @@ Rests names bytes (at.Sync attempt fd) left d = Writing (pair_at names attempt).
 Rests names bytes (at.Close attempt fd) left d = IsWhole d (pair_at names attempt).tmp bytes
 Rests names bytes (at.Link attempt) left d = IsWhole d (pair_at names attempt).tmp bytes
 Rests names bytes (at.Shut attempt fd reason) left d = Unit {0}
-Rests names bytes (at.Unlink attempt Dropped) left d = IsWhole d (pair_at names attempt).new bytes
-Rests names bytes (at.Unlink attempt (Failed reason)) left d = Unit {0}
-Rests names bytes (at.Ended attempt Dropped) left d = IsWhole d (pair_at names attempt).new bytes
-Rests names bytes (at.Ended attempt (Failed reason)) left d = Unit {0}
+Rests names bytes (at.Unlink attempt outcome) left d = Unit {0}
+Rests names bytes (at.Ended attempt outcome) left d = Unit {0}
 
 -- a drop with these arguments, that stands here, rests on this disk
 abbrev pub RestsOn : Arguments → Place → Disk → Type 0
@@ -62,7 +59,5 @@ LeavesAlone names (at.Sync attempt fd) d e = IsKeptOpen (pair_at names attempt).
 LeavesAlone names (at.Close attempt fd) d e = IsKept (pair_at names attempt).tmp d e
 LeavesAlone names (at.Link attempt) d e = IsKept (pair_at names attempt).tmp d e
 LeavesAlone names (at.Shut attempt fd reason) d e = Unit {0}
-LeavesAlone names (at.Unlink attempt Dropped) d e = IsKept (pair_at names attempt).new d e
-LeavesAlone names (at.Unlink attempt (Failed reason)) d e = Unit {0}
-LeavesAlone names (at.Ended attempt Dropped) d e = IsKept (pair_at names attempt).new d e
-LeavesAlone names (at.Ended attempt (Failed reason)) d e = Unit {0}
+LeavesAlone names (at.Unlink attempt outcome) d e = Unit {0}
+LeavesAlone names (at.Ended attempt outcome) d e = Unit {0}

@@ -17,8 +17,9 @@
 //! - A drop rests on any disk when it begins, and its next call, made on any disk on which it rests, leads to one
 //!   on which it rests. Other programs may change the disk between its calls: if they leave alone what it rests on,
 //!   it rests on what they leave. While it writes, that is its file in `tmp`, which it holds open, and which holds
-//!   all bytes but those that are left; then the whole file, in `tmp` until its link is made, and in `new` after
-//!   that. The law: `drops_rest_on`, by `RestsOn` and `LeavesAlone` (`specs/Rests.antt`).
+//!   all bytes but those that are left; then the whole file, in `tmp`, until its link is made. The link puts that file
+//!   into `new`, and from then on nothing is asked: a reader may move or unlink the name in `new` before the drop has
+//!   ended. The law: `drops_rest_on`, by `RestsOn` and `LeavesAlone` (`specs/Rests.antt`).
 //! - A text passes its test of a name's form exactly if it has the form that `CallFs` wants of a name: the law
 //!   `names_are_of_the_form`.
 #![tactic(auto)]

@@ -8,16 +8,17 @@
 //! - A name of a drop, in `tmp` or `new`, is no name of the queue, no control file's, and none of those in `pid`
 //!   that a cleaner takes away: it has `/tmp/` or `/new/` in it. That is so whatever the home, the path of the
 //!   maildir line and the name of the host are. The law: `names_are_apart`, by `IsDropName`.
-//! - A delivery rests on what the drop at work has written so far, on that being a file of its own, and on the
-//!   descriptors that its past holds open. It has that when it begins and after each of its events that is due: a
+//! - A delivery rests on what the drop at work has written so far, on its name in `tmp` being that of a file of its own,
+//!   and on the descriptors that its past holds open. It has that when it begins and after each of its events that is due: a
 //!   file call with any answer, and a take, a give, a start or a command. A file call of it is a step of a program
 //!   that is none of the queue's. It changes no name but those of drops, no file but those of its own drops, and
 //!   leaves the drops of other deliveries: the law `deliveries_keep`, by `DeliveryRests` (`specs/Delivery/Rests.antt`) and
 //!   `DeliveryLeads`.
 //! - Drops stay by each step of a program of the queue's. It leaves what isn't the queue's and what none of its
 //!   programs made, or takes a name of one part in `pid` away, or changes no name and no file. A step of another
-//!   actor that leaves drops, and what others hold open, leaves a delivery what it rests on: the laws `drops_stay`
-//!   (by `LeavesDrops`), `deliveries_are_left_alone`.
+//!   actor that leaves the drops in `tmp`, and what others hold open, leaves a delivery what it rests on. So does a
+//!   reader who moves or unlinks names in `new`, also between a delivery's link and its unlink: the laws `drops_stay`
+//!   (by `LeavesDrops` and `LeavesTmp`), `deliveries_are_left_alone`.
 //! - So a link is due to a delivery only of a file that holds `Return-Path`, `Delivered-To` and the message that it
 //!   took, complete and on the disk, whatever others did to the disk meanwhile that leaves its drops. The law:
 //!   `linked_is_whole`.
@@ -31,7 +32,8 @@ pub fn names_are_apart()
 {}
 
 /// Drops stay by events of the queue's programs: by those that leave what isn't the queue's and what none of its programs made, by
-/// a cleaner's, which takes a name in `pid` away besides, and by those that change no name and no file.
+/// a cleaner's, which takes a name in `pid` away besides, and by those that change no name and no file. Drops in `tmp` stay by those
+/// of a reader too, who changes no file and no name in a `tmp`.
 pub fn drops_stay()
     ensures { DropsStay }
 {}
@@ -42,7 +44,8 @@ pub fn deliveries_keep()
     ensures { DeliveriesKeep }
 {}
 
-/// What another actor does that leaves the drops of others, and what others hold open, leaves a delivery all that it rests on.
+/// What another actor does that leaves the drops of others in `tmp`, and what others hold open, leaves a delivery all that it rests
+/// on.
 pub fn deliveries_are_left_alone()
     ensures { DeliveriesAreLeftAlone }
 {}

@@ -12,7 +12,10 @@ use std::thread::Threads;
 
 /// Whether the words are `work`. If there is no memory to read them they count as another command's, which finds that too.
 pub(crate) fn is_work(alloc: Global, words: &[String]) -> bool {
-    matches!(threads_told(alloc, words), Ok(_))
+    match words.first() {
+        Some(name) if name.as_str() == "work" => matches!(threads_told(alloc, words), Ok(_)),
+        _ => false,
+    }
 }
 
 /// Makes the call with the words of `work`, over standard input and output; `handle` is that of the program. The error: out of memory

@@ -22,10 +22,17 @@ const ROOM: usize = 8192;
 /// error gets a line. The error: out of memory.
 pub(crate) fn tells_no_ends(rt: &HostRuntime, alloc: Global) -> Result<bool, Memory> {
     let mut told = Vec::with_capacity(alloc, ROOM)?;
-    if let Ok(mut file) = File::open(rt, TOLD) {
-        read_into(&mut file, &mut told)?;
-    }
+    let read = match File::open(rt, TOLD) {
+        Ok(mut file) => {
+            let read = read_into(&mut file, &mut told);
+            drop(file);
+            read
+        }
+        Err(_) => Ok(()),
+    };
     let is_so = ignored(told.as_slice()) & CHILD_ENDED != 0;
+    drop(told);
+    read?;
     if is_so {
         let line =
             b"SIGCHLD is ignored here, so no end of a child would be told: start it with SIGCHLD at its default\n";

@@ -21,6 +21,8 @@ mod descriptors;
 mod looks;
 mod owner;
 mod process;
+mod reading;
+mod told;
 mod watching;
 
 pub use process::{run, words_of};

@@ -2,7 +2,6 @@
 ghost use Rattle.std.specs.Prelude.{IfOk, IfSome};
 ghost use Rattle.qmail_process.specs.Runs.{IsRefusal};
 
-use command_words::places;
 use host_streams::WriterSink;
 use local_parts::TEMPORARY;
 use mail_bytes::{ByteText, Memory, dec};
@@ -26,36 +25,42 @@ struct Foreign {
     own: Option<u32>,
 }
 
-/// The exit status of a command that would write into a queue that isn't its user's, with a line on standard error; None of any
-/// other command. Nothing is touched. The error: out of memory.
+/// The exit status of a command that would write into the queue of this directory, if that isn't its user's, with a line on standard
+/// error; None of any other command. Nothing is touched. The error: out of memory.
 pub(crate) fn refused(
     rt: &HostRuntime,
     alloc: Global,
     words: &[String],
+    dir: Option<&[u8]>,
 ) -> Result<Option<u8>, Memory>
     ensures { IfOk result (λ told. IfSome told IsRefusal) }
 {
-    let (Some(name), Some(dir)) = (words.first(), places(alloc, words)?.dir) else {
+    let (Some(name), Some(dir)) = (words.first(), dir) else {
         return Ok(None);
     };
-    let Some(status) = status_of(name.as_str()) else {
-        return Ok(None);
-    };
-    match strange(rt, dir.as_slice())? {
-        Some(strange) => {
-            tell(rt, alloc, name.as_bytes(), dir.as_slice(), strange)?;
-            Ok(Some(status))
-        }
+    match status_of(name.as_str()) {
+        Some(status) => refused_in(rt, alloc, name.as_bytes(), dir, status),
         None => Ok(None),
     }
 }
 
-/// Whether the command of these words may make directories below this one: an audit makes none in a queue that isn't its user's.
-/// The error: out of memory.
-pub(crate) fn may_make(rt: &HostRuntime, words: &[String], dir: &[u8]) -> Result<bool, Memory> {
-    match words.first() {
-        Some(name) if name.as_str() == "audit" => Ok(strange(rt, dir)?.is_none()),
-        _ => Ok(true),
+/// The same of the command of this name, which ends so if this directory isn't its user's.
+fn refused_in(
+    rt: &HostRuntime,
+    alloc: Global,
+    name: &[u8],
+    dir: &[u8],
+    status: u8,
+) -> Result<Option<u8>, Memory>
+    requires { IsRefusal status }
+    ensures { IfOk result (λ told. IfSome told IsRefusal) }
+{
+    match strange(rt, dir)? {
+        Some(strange) => {
+            tell(rt, alloc, name, dir, strange)?;
+            Ok(Some(status))
+        }
+        None => Ok(None),
     }
 }
 
@@ -114,24 +119,33 @@ fn tell(
     dir: &[u8],
     strange: Foreign,
 ) -> Result<(), Memory> {
-    let mut line = ByteText::from_slice(alloc, name)?;
+    let mut line = ByteText::new(alloc);
+    let is_put = put_line(&mut line, name, dir, strange);
+    if is_put.is_ok() {
+        let _given = WriterSink::new(rt.stderr()).give(line.as_slice());
+    }
+    drop(line);
+    is_put
+}
+
+/// Puts that line at the end of this one.
+fn put_line(line: &mut ByteText, name: &[u8], dir: &[u8], strange: Foreign) -> Result<(), Memory> {
+    line.extend(name)?;
     line.extend(b": ")?;
     line.extend(dir)?;
     line.extend(b" is user ")?;
-    put_number(&mut line, strange.owner)?;
+    put_number(line, strange.owner)?;
     match strange.own {
         Some(own) => {
             line.extend(b"'s, and this is user ")?;
-            put_number(&mut line, own)?;
+            put_number(line, own)?;
         }
         None => {
             line.extend(b"'s, and nothing tells who this is: ")?;
             line.extend(TOLD.as_bytes())?;
         }
     }
-    line.extend(b"\n")?;
-    let _given = WriterSink::new(rt.stderr()).give(line.as_slice());
-    Ok(())
+    line.extend(b"\n")
 }
 
 /// Puts a decimal number at the end of a line.

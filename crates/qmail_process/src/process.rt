@@ -1,5 +1,5 @@
 // A command over the real things.
-ghost use Rattle.std.specs.Prelude.{IfOk};
+ghost use Rattle.std.specs.Prelude.{[], IfOk};
 ghost use Rattle.qmail_process.specs.Runs.{IsRefusal, WasRun};
 ghost use Rattle.top_call.specs.Lent.{IsStatusOf};
 
@@ -7,12 +7,14 @@ use crate::child_limits::child_limit;
 use crate::child_signals::tells_no_ends;
 use crate::descriptors::Descriptors;
 use crate::looks::LockLooks;
-use crate::owner::{may_make, refused};
+use crate::owner::refused;
+use crate::reading::{open_disk, tell_unlisted};
+use crate::told::Told;
 use crate::watching::WatchingGate;
 use call_fs::CallFs;
-use command_words::{Channels, Member, Places, channels, member, places};
+use command_words::{Channels, Member};
 use host_children::{HostSystem, PARENT};
-use host_fs::{HostFs, Leaving, QueueFiles, start_helpers};
+use host_fs::{Leaving, QueueFiles, start_helpers};
 use host_streams::{
     HostClock, LateFile, MemberLock, ReaderSource, WriterSink, lock_member, lock_sender,
     unread_words,
@@ -21,9 +23,7 @@ use local_parts::TEMPORARY;
 use mail_bytes::Memory;
 use mem_fs::MemFs;
 use outside::{Gate, MemPosts, MemSpawner, OpenGate, Posts, Sink, Source, Spawner};
-use proc_runner::{
-    ChildPosts, Children, Opener, PatientSystem, Reader, Shared, read_own_input, share,
-};
+use proc_runner::{ChildPosts, Children, Opener, PatientSystem, Shared, read_own_input, share};
 use queue_limits::{NO_START, USAGE};
 use resting_gates::{
     LONGEST_DRAIN, LONGEST_IDLE, RestingGate, SHORTEST_DRAIN, SendingGate, drain_limit, idle_limit,
@@ -93,35 +93,70 @@ where
     <R::Started as OpenProcess>::Stderr: Send + 'static,
     ensures { IfOk result (λ status. WasRun (C.does call.now) words.now status) }
 {
-    let channels = channels(alloc, words)?;
-    if is_nameless(alloc, words)? {
-        return run_alone(call, rt, handle, alloc, &[]);
-    }
+    let told = Told::of(alloc, words)?;
+    let called = if told.is_nameless() {
+        run_nameless(call, rt, handle, alloc)
+    } else {
+        run_told(call, rt, handle, alloc, words, &told)
+    };
+    drop(told);
+    called
+}
+
+/// Makes the call with no words: those of a queue whose directory has no name are no command.
+fn run_nameless<C: TopCall, R: Threads + Wait + Copy + Send + Drop + 'static>(
+    call: &C,
+    rt: &HostRuntime,
+    handle: R,
+    alloc: Global,
+) -> Result<u8, Memory>
+    ensures { IfOk result (λ status. IsStatusOf (C.does call.now) [] status) }
+{
+    let told = Told::nothing();
+    let called = run_alone(call, rt, handle, alloc, &[], &told);
+    drop(told);
+    called
+}
+
+/// Makes the call with these words, which tell this.
+fn run_told<
+    C: TopCall,
+    R: Threads + Wait + Processes + Clock + Copy + Send + Sync + Drop + 'static,
+>(
+    call: &C,
+    rt: &HostRuntime,
+    handle: R,
+    alloc: Global,
+    words: &[String],
+    told: &Told,
+) -> Result<u8, Memory>
+where
+    R::Started: Drop + Send + 'static,
+    <R::Started as OpenProcess>::Stdin: Send + 'static,
+    <R::Started as OpenProcess>::Stdout: Send + 'static,
+    <R::Started as OpenProcess>::Stderr: Send + 'static,
+    ensures { IfOk result (λ status. WasRun (C.does call.now) words.now status) }
+{
+    let channels = told.channels;
     let Some(limits) = told_limits(rt, alloc, channels)? else {
         return Ok(USAGE);
     };
-    if let Some(status) = refused(rt, alloc, words)? {
+    if let Some(status) = refused(rt, alloc, words, told.dir())? {
         return Ok(status);
     }
     if channels != Channels::Nothing && tells_no_ends(rt, alloc)? {
         return Ok(unstarted(channels));
     }
-    let Some(lock) = lock(rt, alloc, words)? else {
-        return Ok(NO_START);
-    };
-    match channels {
-        Channels::Nothing => run_alone(call, rt, handle, alloc, words),
-        _ => run_parent(call, rt, handle, alloc, words, channels, limits, &lock),
-    }
-}
-
-/// Whether the directory of the queue has no name; the words are no command then.
-fn is_nameless(alloc: Global, words: &[String]) -> Result<bool, Memory> {
-    let Places { dir, env } = places(alloc, words)?;
-    drop(env);
-    match dir {
-        Some(dir) => Ok(dir.is_empty()),
-        None => Ok(false),
+    match lock(rt, alloc, told)? {
+        Some(lock) => {
+            let called = match channels {
+                Channels::Nothing => run_alone(call, rt, handle, alloc, words, told),
+                _ => run_parent(call, rt, handle, alloc, words, told, limits, &lock),
+            };
+            drop(lock);
+            called
+        }
+        None => Ok(NO_START),
     }
 }
 
@@ -205,46 +240,45 @@ fn idle(rt: &HostRuntime) -> Result<Option<u64>, Memory> {
     }
 }
 
-/// The lock of the member that a command with these words is, if it is one. It waits for the members of an earlier generation. None,
+/// The lock of the member that a command is whose words tell this, if it is one. It waits for the members of an earlier generation. None,
 /// and a line on standard error, if there is another sender, if the lock can't be had, or if the sender that started this member has
 /// ended.
-fn lock(rt: &HostRuntime, alloc: Global, words: &[String]) -> Result<Option<MemberLock>, Memory> {
-    let places = places(alloc, words)?;
-    let (Some(kind), Some(dir)) = (member(alloc, words)?, places.dir) else {
+fn lock(rt: &HostRuntime, alloc: Global, told: &Told) -> Result<Option<MemberLock>, Memory> {
+    let (Some(kind), Some(dir)) = (told.member, told.dir()) else {
         return Ok(Some(MemberLock::none()));
     };
-    let dir = dir.as_slice();
-    Ok(match kind {
-        Member::Send => lock_sender(rt, alloc, dir)?,
-        Member::Clean => lock_member(rt, alloc, dir, b"clean", PARENT)?,
-        Member::Lspawn => lock_member(rt, alloc, dir, b"lspawn", PARENT)?,
-        Member::Rspawn => lock_member(rt, alloc, dir, b"rspawn", PARENT)?,
-    })
+    match kind {
+        Member::Send => lock_sender(rt, alloc, dir),
+        Member::Clean => lock_member(rt, alloc, dir, b"clean", PARENT),
+        Member::Lspawn => lock_member(rt, alloc, dir, b"lspawn", PARENT),
+        Member::Rspawn => lock_member(rt, alloc, dir, b"rspawn", PARENT),
+    }
 }
 
-/// Makes the call with these words of a command that has no children.
+/// Makes the call with these words of a command that has no children, and tells what one that only reads couldn't list.
 fn run_alone<C: TopCall, R: Threads + Wait + Copy + Send + Drop + 'static>(
     call: &C,
     rt: &HostRuntime,
     handle: R,
     alloc: Global,
     words: &[String],
+    told: &Told,
 ) -> Result<u8, Memory>
     ensures { IfOk result (λ status. IsStatusOf (C.does call.now) words.now status) }
 {
-    run_over(
-        call,
-        rt,
-        handle,
-        alloc,
-        words,
-        &mut MemPosts::new(Vec::new(alloc)),
-        &mut MemSpawner::new(alloc, Vec::new(alloc), Vec::new(alloc)),
-        &OpenGate,
-    )
+    let mut posts = MemPosts::new(Vec::new(alloc));
+    let mut spawn = MemSpawner::new(alloc, Vec::new(alloc), Vec::new(alloc));
+    let called = run_over(
+        call, rt, handle, alloc, words, told, &mut posts, &mut spawn, &OpenGate,
+    );
+    drop(spawn);
+    drop(posts);
+    let status = called?;
+    tell_unlisted(rt, alloc, words, told.dir(), status);
+    Ok(status)
 }
 
-/// Makes the call with these words of a command that has these channels.
+/// Makes the call with these words of a command that has channels.
 fn run_parent<
     C: TopCall,
     R: Threads + Wait + Processes + Clock + Copy + Send + Sync + Drop + 'static,
@@ -254,7 +288,7 @@ fn run_parent<
     handle: R,
     alloc: Global,
     words: &[String],
-    channels: Channels,
+    told: &Told,
     limits: Limits,
     lock: &MemberLock,
 ) -> Result<u8, Memory>
@@ -265,16 +299,27 @@ where
     <R::Started as OpenProcess>::Stderr: Send + 'static,
     ensures { IfOk result (λ status. IsStatusOf (C.does call.now) words.now status) }
 {
-    let (opener, taker) = share(alloc, room_of(channels))?;
-    let mut posts = ChildPosts::new(handle, taker);
-    let called = run_with_posts(
-        call, rt, handle, alloc, words, channels, limits, lock, opener, &mut posts,
-    );
-    drop(posts);
-    called
+    let limit = child_limit(told.member, limits.drain);
+    let (mut opener, taker) = share(alloc, room_of(told.channels))?;
+    match read_requests(rt, handle, alloc, told.channels, &mut opener) {
+        Ok(queue) => {
+            let mut posts = ChildPosts::new(handle, taker);
+            let called = run_with_posts(
+                call, rt, handle, alloc, words, told, limits, lock, limit, opener, queue,
+                &mut posts,
+            );
+            drop(posts);
+            called
+        }
+        Err(why) => {
+            drop(opener);
+            drop(taker);
+            Err(why)
+        }
+    }
 }
 
-/// The same, with these posts, and children whose channels this opener opens.
+/// The same, with these posts, and children that may run for so long and whose channels this opener opens.
 fn run_with_posts<
     C: TopCall,
     R: Threads + Wait + Processes + Clock + Copy + Send + Sync + Drop + 'static,
@@ -285,10 +330,12 @@ fn run_with_posts<
     handle: R,
     alloc: Global,
     words: &[String],
-    channels: Channels,
+    told: &Told,
     limits: Limits,
     lock: &MemberLock,
-    mut opener: Opener,
+    limit: u64,
+    opener: Opener,
+    queue: Shared,
     posts: &mut P,
 ) -> Result<u8, Memory>
 where
@@ -298,35 +345,36 @@ where
     <R::Started as OpenProcess>::Stderr: Send + 'static,
     ensures { IfOk result (λ status. IsStatusOf (C.does call.now) words.now status) }
 {
-    let limit = child_limit(member(alloc, words)?, limits.drain);
-    let own = opener.open()?;
-    let queue = opener.queue()?;
-    let mut children = Children::new(
-        handle,
-        alloc,
-        system(rt, handle, alloc, words)?,
-        opener,
-        limit,
-    )?;
-    let begun = read_requests(rt, handle, alloc, channels, own);
-    let called = match begun {
-        Ok(()) => run_resting(
-            call,
-            rt,
-            handle,
-            alloc,
-            words,
-            channels,
-            limits,
-            lock,
-            queue,
-            posts,
-            &mut children,
-        ),
-        Err(why) => Err(why),
-    };
-    drop(children);
-    called
+    match system(rt, handle, alloc, told) {
+        Ok(system) => match Children::new(handle, alloc, system, opener, limit) {
+            Ok(mut children) => {
+                let called = run_resting(
+                    call,
+                    rt,
+                    handle,
+                    alloc,
+                    words,
+                    told,
+                    limits,
+                    lock,
+                    queue,
+                    posts,
+                    &mut children,
+                );
+                drop(children);
+                called
+            }
+            Err(why) => {
+                drop(queue);
+                Err(why)
+            }
+        },
+        Err(why) => {
+            drop(opener);
+            drop(queue);
+            Err(why)
+        }
+    }
 }
 
 /// The system whose processes the children of a command are, which waits until a member is at work.
@@ -334,39 +382,49 @@ fn system<R: Processes + Wait + Clock + Copy + Drop>(
     rt: &HostRuntime,
     handle: R,
     alloc: Global,
-    words: &[String],
+    told: &Told,
 ) -> Result<PatientSystem<HostSystem<R>, LockLooks>, Memory>
 where
     R::Started: Drop,
 {
-    let dir = files_dir(alloc, words)?;
-    let looks = LockLooks::new(rt, places(alloc, words)?.dir);
-    let system = HostSystem::new(handle, rt, process::id(rt.process()), dir);
-    Ok(PatientSystem::new(system, looks))
+    let dir = files_dir(alloc, told)?;
+    match told.copy_dir(alloc) {
+        Ok(looked) => {
+            let looks = LockLooks::new(rt, looked);
+            let system = HostSystem::new(handle, rt, process::id(rt.process()), dir);
+            Ok(PatientSystem::new(system, looks))
+        }
+        Err(why) => {
+            drop(dir);
+            Err(why)
+        }
+    }
 }
 
 /// The directory in which children's inputs are made: that of the queue.
-fn files_dir(alloc: Global, words: &[String]) -> Result<String, Memory> {
-    let Places { dir, env } = places(alloc, words)?;
-    drop(env);
-    match dir {
-        Some(dir) => String::from_str(alloc, str::from_utf8(dir.as_slice()).unwrap_or(".")),
+fn files_dir(alloc: Global, told: &Told) -> Result<String, Memory> {
+    match told.dir() {
+        Some(dir) => String::from_str(alloc, str::from_utf8(dir).unwrap_or(".")),
         None => String::from_str(alloc, "."),
     }
 }
 
-/// Reads standard input from now on as the program's own channel, if its input is one.
+/// Opens the program's own channel; standard input is read from now on, if the program's input is that channel. The queue of all
+/// channels.
 fn read_requests<R: Threads + Wait + Copy + Send + Drop + 'static>(
     rt: &HostRuntime,
     handle: R,
     alloc: Global,
     channels: Channels,
-    own: Option<Reader>,
-) -> Result<(), Memory> {
-    if let (Channels::InputAndChildren, Some(own)) = (channels, own) {
-        read_own_input(handle, alloc, own, rt.stdin())?;
+    opener: &mut Opener,
+) -> Result<Shared, Memory> {
+    match (channels, opener.open()?) {
+        (Channels::InputAndChildren, Some(own)) => {
+            drop(read_own_input(handle, alloc, own, rt.stdin())?);
+        }
+        (_, own) => drop(own),
     }
-    Ok(())
+    opener.queue()
 }
 
 /// Makes the call with these words, posts and children, and a gate that rests until a piece comes into this queue.
@@ -376,7 +434,7 @@ fn run_resting<C: TopCall, R: Threads + Wait + Copy + Send + Drop + 'static, P: 
     handle: R,
     alloc: Global,
     words: &[String],
-    channels: Channels,
+    told: &Told,
     limits: Limits,
     lock: &MemberLock,
     queue: Shared,
@@ -385,15 +443,19 @@ fn run_resting<C: TopCall, R: Threads + Wait + Copy + Send + Drop + 'static, P: 
 ) -> Result<u8, Memory>
     ensures { IfOk result (λ status. IsStatusOf (C.does call.now) words.now status) }
 {
-    match channels {
+    match told.channels {
         Channels::Links => {
             let gate = SendingGate::new(handle, queue, limits.idle, limits.drain);
             let gate = WatchingGate::new(rt, gate, lock);
-            run_over(call, rt, handle, alloc, words, posts, spawn, &gate)
+            let called = run_over(call, rt, handle, alloc, words, told, posts, spawn, &gate);
+            drop(gate);
+            called
         }
         _ => {
             let gate = RestingGate::new(handle, queue);
-            run_over(call, rt, handle, alloc, words, posts, spawn, &gate)
+            let called = run_over(call, rt, handle, alloc, words, told, posts, spawn, &gate);
+            drop(gate);
+            called
         }
     }
 }
@@ -419,23 +481,25 @@ fn run_over<
     handle: R,
     alloc: Global,
     words: &[String],
+    told: &Told,
     posts: &mut P,
     spawn: &mut S,
     gate: &G,
 ) -> Result<u8, Memory>
     ensures { IfOk result (λ status. IsStatusOf (C.does call.now) words.now status) }
 {
-    let Places { dir, env } = places(alloc, words)?;
+    let env = told.copy_env(alloc)?;
     let mut message = ReaderSource::new(rt.stdin());
     let mut envelope = ReaderSource::new(LateFile::new(rt, env));
-    let called = match dir {
+    let called = match told.dir() {
         Some(dir) => run_in(
             call,
             rt,
             handle,
             alloc,
             words,
-            dir.as_slice(),
+            told.member,
+            dir,
             &mut message,
             &mut envelope,
             posts,
@@ -474,6 +538,7 @@ fn run_in<
     handle: R,
     alloc: Global,
     words: &[String],
+    member: Option<Member>,
     dir: &[u8],
     message: &mut M,
     envelope: &mut E,
@@ -483,12 +548,9 @@ fn run_in<
 ) -> Result<u8, Memory>
     ensures { IfOk result (λ status. IsStatusOf (C.does call.now) words.now status) }
 {
-    let leaving = leaving(handle, alloc, words)?;
-    let mut files = QueueFiles::new(rt, handle, leaving);
-    if !may_make(rt, words, dir)? {
-        files.make_none();
-    }
-    let called = match HostFs::open(&&files, alloc, dir) {
+    let leaving = leaving(handle, alloc, member)?;
+    let files = QueueFiles::new(rt, handle, leaving);
+    let called = match open_disk(&&files, alloc, words, dir) {
         Ok(mut disk) => {
             let status = run_on(
                 call, rt, alloc, words, &mut disk, message, envelope, posts, spawn, gate,
@@ -528,13 +590,20 @@ fn run_nowhere<C: TopCall, M: Source, E: Source, P: Posts, S: Spawner, G: Gate>(
 fn leaving<R: Threads + Wait + Copy + Send + Drop + 'static>(
     handle: R,
     alloc: Global,
-    words: &[String],
+    member: Option<Member>,
 ) -> Result<Arc<Leaving, Global>, Memory> {
     let leaving = Arc::new(alloc, Leaving::new(alloc))?;
-    if let Some(Member::Send | Member::Clean) = member(alloc, words)? {
-        start_helpers(handle, &leaving)?;
+    let begun = match member {
+        Some(Member::Send | Member::Clean) => start_helpers(handle, &leaving),
+        _ => Ok(()),
+    };
+    match begun {
+        Ok(()) => Ok(leaving),
+        Err(why) => {
+            drop(leaving);
+            Err(why)
+        }
     }
-    Ok(leaving)
 }
 
 /// Makes the call over this disk.

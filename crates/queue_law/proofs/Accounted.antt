@@ -8,7 +8,8 @@ use Rattle.call_fs.specs.Disk.{Disk, File, Among, IsSynced}
 use Rattle.queue_inject.specs.declared.injection.Arguments.{Arguments}
 use Rattle.queue_inject.specs.Texts.{intd_text, todo_of}
 use Rattle.queue_paths.specs.Names.Name.{Of}
-use Rattle.queue_paths.specs.Names.Part.{Bounce, Todo}
+use Rattle.queue_paths.specs.Names.Part.{Bounce}
+use Rattle.queue_law.proofs.Waits.{todo_named, todo_entry}
 use Rattle.queue_law.specs.Books.{Books, Injection}
 use Rattle.send_known.specs.declared.channel.Channel.{Channel}
 use Rattle.send_known.specs.declared.channel.Channel.TheVariants as channel
@@ -115,9 +116,9 @@ module _ (controls : Controls) (q : Queue) (i : Injection) (r : Recipient i.args
   in_todo : IsQueued controls (about q i.number) → IsInTodo q.disk i
   in_todo h =
       let same : h.taken.injection ≡ i = (let w = h.taken.lives in cc) in
-      let todo = found q.disk.names q.disk.files (Of Todo i.number) h.todo h.todo_there in
-      let text = subst₂ (λ (y : Entry) (z : Injection). IsSynced y.file (intd_text z.args).bytes) todo.1 same h.text in
-      record { file = h.todo.number; there = todo.0; text = subst (IsSynced (q.disk.files h.todo.number)) (todo_is i.args) text }
+      let todo = todo_entry q.disk.names q.disk.files i.number h.todo h.todo_there in
+      let text = subst₂ (λ (y : Entry) (z : Injection). IsSynced y.file (intd_text z.args).bytes) todo same h.text in
+      record { file = h.todo.number; there = todo_named q.disk.names q.disk.files i.number h.todo h.todo_there; text = subst (IsSynced (q.disk.files h.todo.number)) (todo_is i.args) text }
 
   abbrev at_spot : Spot
   at_spot = spot_of controls i.args r

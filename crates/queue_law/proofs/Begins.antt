@@ -2,20 +2,21 @@
 use Rattle.std.proofs.Common.{◌≡◌, inl, inr, ℕ, ◌+◌, ◌<◌, ◌≤◌, Some, None, sym, subst, arith}
 use Rattle.address_rules.specs.declared.controls.Controls.{Controls}
 use Rattle.queue_paths.specs.Names.Name.{Of}
-use Rattle.queue_paths.specs.Names.Part.{Mess, Todo, Info}
+use Rattle.queue_paths.specs.Names.Part.{Mess, Info}
+use Rattle.queue_paths.specs.Parts.{in_todo}
 use Rattle.queue_law.specs.Numbers.{Queue, Entry, look, About, about, IsRecent, IsQueued, Phase, Sound}
 use Rattle.queue_law.specs.Numbers.Phase.{Free, Queued, Sorted, Finished}
 use Rattle.queue_law.specs.Ready.{IsSpent}
 use Rattle.queue_law.specs.Rests.{IsOverdue, IsClosed, RestsAs}
 use Rattle.queue_law.specs.Begins.{RestsBegin}
 
-queued_phase : (controls : Controls) (w : About) (y : Entry) → w.parts Todo ≡ Some y → Phase controls w → IsQueued controls w
+queued_phase : (controls : Controls) (w : About) (y : Entry) → in_todo w.parts ≡ Some y → Phase controls w → IsQueued controls w
 queued_phase controls w y there (Free h) = let none = h.no_todo in absurd (cc)
 queued_phase controls w y there (Queued h) = h
 queued_phase controls w y there (Sorted h) = let none = h.no_todo in absurd (cc)
 queued_phase controls w y there (Finished h) = let none = h.no_todo in absurd (cc)
 
-begins_queued : (controls : Controls) (now : ℕ) (q : Queue) (n : ℕ) (y : Entry) → Sound controls q → look q (Of Todo n) ≡ Some y
+begins_queued : (controls : Controls) (now : ℕ) (q : Queue) (n : ℕ) (y : Entry) → Sound controls q → in_todo (about q n).parts ≡ Some y
     → RestsAs now q n (IsQueued controls)
 begins_queued controls now q n y G there =
     let h = queued_phase controls (about q n) y there (G.fine n) in
@@ -43,7 +44,7 @@ begins_old controls now q n y G there old =
       shut = inl (subst (λ k. IsOverdue now (q.role k)) number (subst (IsOverdue now) (sym role) over));
     }
 
-spent_phase : (controls : Controls) (w : About) → w.parts Todo ≡ None → w.parts Info ≡ None → Phase controls w → IsSpent w
+spent_phase : (controls : Controls) (w : About) → in_todo w.parts ≡ None → w.parts Info ≡ None → Phase controls w → IsSpent w
 spent_phase controls w todo info (Free h) = record { unsorted = h.unsorted; no_todo = todo }
 spent_phase controls w todo info (Queued h) = let there = h.todo_there in absurd (cc)
 spent_phase controls w todo info (Sorted h) = let there = h.info_there in absurd (cc)

@@ -13,6 +13,7 @@ use Rattle.call_fs.proofs.Maps.{put_same, put_other}
 use Rattle.queue_paths.specs.Names.{Part, path}
 use Rattle.queue_paths.specs.Names.Name.{Of}
 use Rattle.queue_paths.specs.Names.Part.{Mess, Intd, Todo, Info, Local, Remote, Bounce}
+use Rattle.queue_paths.proofs.Parts.{intd_far, todo_far, intd_same, todo_same}
 use Rattle.send_known.specs.declared.channel.Channel.{Channel}
 use Rattle.send_known.specs.declared.channel.Channel.TheVariants as channel
 use Rattle.queue_law.specs.Books.{Injection, with_line, entered_in}
@@ -90,8 +91,8 @@ rebounced : (controls : Controls) (w v : About) → ((P : Part) → P ≢ Bounce
     → NotesState controls h.taken.injection (file_in (v.parts Bounce)) → IsPreprocessed controls v
 rebounced controls w v same living h notes = record {
   taken = taken_same controls w v living (same Mess (λ s. cc)) h.taken;
-  no_todo = same Todo (λ s. cc) ∙ h.no_todo;
-  no_intd = same Intd (λ s. cc) ∙ h.no_intd;
+  no_todo = todo_same w.parts v.parts (λ part is. same part (todo_far part Bounce is refl)) ∙ h.no_todo;
+  no_intd = intd_same w.parts v.parts (λ part is. same part (intd_far part Bounce is refl)) ∙ h.no_intd;
   info = h.info;
   info_there = same Info (λ s. cc) ∙ h.info_there;
   text = h.text;
@@ -116,8 +117,8 @@ rebounced_with controls w v line same h lives spots unreturned notes = record {
     valid = h.taken.valid;
     spots = spots;
   };
-  no_todo = same Todo (λ s. cc) ∙ h.no_todo;
-  no_intd = same Intd (λ s. cc) ∙ h.no_intd;
+  no_todo = todo_same w.parts v.parts (λ part is. same part (todo_far part Bounce is refl)) ∙ h.no_todo;
+  no_intd = intd_same w.parts v.parts (λ part is. same part (intd_far part Bounce is refl)) ∙ h.no_intd;
   info = h.info;
   info_there = same Info (λ s. cc) ∙ h.info_there;
   text = h.text;

@@ -5,7 +5,8 @@ use Rattle.call_fs.specs.Disk.{Among, IsSynced}
 use Rattle.queue_inject.specs.declared.injection.Arguments.{Arguments}
 use Rattle.queue_inject.specs.Texts.{message_text, entered}
 use Rattle.queue_paths.specs.Names.Name.{Of}
-use Rattle.queue_paths.specs.Names.Part.{Mess, Intd, Todo}
+use Rattle.queue_paths.specs.Names.Part.{Mess}
+use Rattle.queue_paths.specs.Parts.{in_intd, in_todo}
 use Rattle.queue_law.specs.Books.{Injection, IsValid}
 use Rattle.queue_law.specs.Numbers.{Entry, Queue, look, About, about, IsTaken, IsUnsorted, Phase}
 use Rattle.queue_law.specs.Numbers.Phase.{Free, Queued, Sorted, Finished}
@@ -13,17 +14,17 @@ use Rattle.queue_law.specs.Claims.{InState, SoundIsSafe}
 use Rattle.queue_law.specs.Claims.InState.{First, Second, Third, Fourth, Fifth}
 
 -- by whether message and intd are there
-bare_state : (w : About) → w.parts Todo ≡ None → IsUnsorted w → (w.parts Mess ≡ None → w.parts Intd ≡ None)
-    → (mess intd : Option Entry) → w.parts Mess ≡ mess → w.parts Intd ≡ intd → InState w
+bare_state : (w : About) → in_todo w.parts ≡ None → IsUnsorted w → (w.parts Mess ≡ None → in_intd w.parts ≡ None)
+    → (mess intd : Option Entry) → w.parts Mess ≡ mess → in_intd w.parts ≡ intd → InState w
 bare_state w todo unsorted below None intd is has = First is (below is) todo unsorted
 bare_state w todo unsorted below (Some mess) None is has = Second mess is has todo unsorted
 bare_state w todo unsorted below (Some mess) (Some intd) is has = Third mess intd is has todo unsorted
 
 state_of_phase : (controls : Controls) (w : About) → Phase controls w → InState w
-state_of_phase controls w (Free h) = bare_state w h.no_todo h.unsorted h.intd_below (w.parts Mess) (w.parts Intd) refl refl
+state_of_phase controls w (Free h) = bare_state w h.no_todo h.unsorted h.intd_below (w.parts Mess) (in_intd w.parts) refl refl
 state_of_phase controls w (Queued h) = Fourth h.taken.mess h.todo h.taken.mess_there h.todo_there h.no_bounce
 state_of_phase controls w (Sorted h) = Fifth h.taken.mess h.info h.taken.mess_there h.no_intd h.no_todo h.info_there
-state_of_phase controls w (Finished h) = bare_state w h.no_todo h.unsorted (λ _. h.no_intd) (w.parts Mess) (w.parts Intd) refl refl
+state_of_phase controls w (Finished h) = bare_state w h.no_todo h.unsorted (λ _. h.no_intd) (w.parts Mess) (in_intd w.parts) refl refl
 
 entered_is : (args : Arguments) → (message_text args).bytes ≡ entered args
 unfolding entered

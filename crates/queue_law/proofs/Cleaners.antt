@@ -32,6 +32,9 @@ use Rattle.queue_paths.specs.Names.{Name, Part, path, parse}
 use Rattle.queue_paths.specs.Names.Name.{Pid, Of}
 use Rattle.queue_paths.specs.Names.Part.{Mess, Intd, Todo, Info, Local, Remote, Bounce}
 use Rattle.queue_paths.proofs.Paths.{parse-path, path-parse}
+use Rattle.queue_paths.specs.Parts.{in_intd}
+use Rattle.queue_paths.proofs.Parts.{intd_far, todo_far, intd_alone, todo_alone, intd_out, todo_out, intd_same, todo_same}
+use Rattle.queue_law.proofs.Waits.{intd_missed, todo_missed}
 use Rattle.send_known.specs.declared.channel.Channel.{Channel}
 use Rattle.send_known.specs.declared.channel.Channel.TheVariants as channel
 use Rattle.queue_law.specs.Books.{Injection}
@@ -67,7 +70,7 @@ rests_frame controls now m q r (at.UnlinkIntd it) keep h =
     record { closed = w.0; rest = subst (Needs controls it) (sym w.1) h.rest }
 rests_frame controls now m q r (at.UnlinkSecond it) keep h =
     let w = keep (message_of it) refl h.closed in
-    record { closed = w.0; rest = subst (λ v. Needs controls it v × (v.parts Intd ≡ None)) (sym w.1) h.rest }
+    record { closed = w.0; rest = subst (λ v. Needs controls it v × (in_intd v.parts ≡ None)) (sym w.1) h.rest }
 rests_frame controls now m q r row keep h = tt
 
 pub stands_frame : (controls : Controls) (now m : ℕ) (q r : Queue) (row : Row) (p : Place)
@@ -109,12 +112,12 @@ made_same w v part text same (IsThere h) = IsThere (synced_same w v part text sa
 
 -- a number of which nothing is wanted stays in its phase
 spent_phase : (controls : Controls) (w v : About) → v.living ≡ w.living → ((part : Part) → w.parts part ≡ None → v.parts part ≡ None)
-    → ((part : Part) (y : Entry) → v.parts part ≡ Some y → w.parts part ≡ Some y) → (v.parts Mess ≡ None → v.parts Intd ≡ None)
+    → ((part : Part) (y : Entry) → v.parts part ≡ Some y → w.parts part ≡ Some y) → (v.parts Mess ≡ None → in_intd v.parts ≡ None)
     → IsSpent w → Phase controls w → Phase controls v
 spent_phase controls w v living lost there below h (Free f) = Free (record {
   unsorted = λ part later. lost part (f.unsorted part later);
   not_accepted = λ i lives t. f.not_accepted i (sym living ∙ lives) t;
-  no_todo = lost Todo f.no_todo;
+  no_todo = todo_out w.parts v.parts (λ part is. lost part) f.no_todo;
   intd_below = below;
 })
 spent_phase controls w v living lost there below h (Queued f) = let s = f.todo_there in let t = h.no_todo in absurd (cc)
@@ -124,8 +127,8 @@ spent_phase controls w v living lost there below h (Finished f) = Finished (reco
   lives = living ∙ f.lives;
   accepted = f.accepted;
   message = λ y is. f.message y (there Mess y is);
-  no_todo = lost Todo f.no_todo;
-  no_intd = lost Intd f.no_intd;
+  no_todo = todo_out w.parts v.parts (λ part is. lost part) f.no_todo;
+  no_intd = intd_out w.parts v.parts (λ part is. lost part) f.no_intd;
   unsorted = λ part later. lost part (f.unsorted part later);
   settled = f.settled;
 })
@@ -250,7 +253,13 @@ module _ (controls : Controls) (now : ℕ) (a : List ℕ) (q : Queue) (G : Sound
   part_closed n part far c = closed_on now q (gone q n part) n (part_other q n part Mess far) refl refl c
 
   part_spent : (n : ℕ) (part : Part) → IsSpent (about q n) → IsSpent (about (gone q n part) n)
-  part_spent n part h = record { unsorted = λ p later. part_lost q n part p (h.unsorted p later); no_todo = part_lost q n part Todo h.no_todo }
+  part_spent n part h = record {
+    unsorted = λ p later. part_lost q n part p (h.unsorted p later);
+    no_todo = todo_out (about q n).parts (about (gone q n part) n).parts (λ p is. part_lost q n part p) h.no_todo;
+  }
+
+  intd_gone : (n : ℕ) → in_intd (about (gone q n Intd) n).parts ≡ None
+  intd_gone n = intd_alone (about (gone q n Intd) n).parts ∙ part_gone q n Intd
 
   part_ready : (n : ℕ) → IsReady controls (about q n) → IsReady controls (about (gone q n Intd) n)
   part_ready n h =
@@ -258,21 +267,21 @@ module _ (controls : Controls) (now : ℕ) (a : List ℕ) (q : Queue) (G : Sound
       let v = about (gone q n Intd) n in
       let other = part_other q n Intd in
       record {
-        queued = queued_same controls w v refl (other Mess (λ s. cc)) (other Todo (λ s. cc)) (other Bounce (λ s. cc) ∙ h.queued.no_bounce) h.queued;
+        queued = queued_same controls w v refl (other Mess (λ s. cc)) (todo_same w.parts v.parts (λ p is. other p (todo_far p Intd is refl))) (other Bounce (λ s. cc) ∙ h.queued.no_bounce) h.queued;
         info = synced_same w v Info _ (other Info (λ s. cc)) h.info;
         lanes = λ ch. made_same w v (lane_part ch) _ (other (lane_part ch) (lane_far ch).0) (h.lanes ch);
       }
 
   -- todo went, and the number is preprocessed
-  part_done : (n : ℕ) → IsReady controls (about q n) → (about q n).parts Intd ≡ None → IsPreprocessed controls (about (gone q n Todo) n)
+  part_done : (n : ℕ) → IsReady controls (about q n) → in_intd (about q n).parts ≡ None → IsPreprocessed controls (about (gone q n Todo) n)
   part_done n h no_intd =
       let w = about q n in
       let v = about (gone q n Todo) n in
       let other = part_other q n Todo in
       record {
         taken = taken_same controls w v refl (other Mess (λ s. cc)) h.queued.taken;
-        no_todo = part_gone q n Todo;
-        no_intd = other Intd (λ s. cc) ∙ no_intd;
+        no_todo = todo_alone v.parts ∙ part_gone q n Todo;
+        no_intd = intd_same w.parts v.parts (λ p is. other p (intd_far p Todo is refl)) ∙ no_intd;
         info = h.info.file;
         info_there = other Info (λ s. cc) ∙ h.info.there;
         text = h.info.synced;
@@ -295,18 +304,18 @@ module _ (controls : Controls) (now : ℕ) (a : List ℕ) (q : Queue) (G : Sound
     foop_intd : (n : ℕ) (p : Place) → Rests controls now q (at.UnlinkIntd (command.Foop n)) → Steps (at.UnlinkIntd (command.Foop n)) p (Unlink (path (Of Intd n)))
     foop_intd n p h answer.Done fits =
         part_leads n Intd (at.UnlinkIntd (command.Foop n)) _ h.closed refl
-        (record { closed = part_closed n Intd (λ s. cc) h.closed; rest = (part_spent n Intd h.rest, part_gone q n Intd) })
-        (spent_phase controls (about q n) (about (gone q n Intd) n) refl (part_lost q n Intd) (part_there q n Intd) (λ _. part_gone q n Intd) h.rest (G.fine n))
+        (record { closed = part_closed n Intd (λ s. cc) h.closed; rest = (part_spent n Intd h.rest, intd_gone n) })
+        (spent_phase controls (about q n) (about (gone q n Intd) n) refl (part_lost q n Intd) (part_there q n Intd) (λ _. intd_gone n) h.rest (G.fine n))
         (λ k is. absurd (cc))
     foop_intd n p h (answer.Refused NotThere) fits =
-        still (at.UnlinkIntd (command.Foop n)) _ (record { closed = h.closed; rest = (h.rest, find_none q.disk.names q.disk.files (Of Intd n) fits) }) (λ k is. absurd (cc))
+        still (at.UnlinkIntd (command.Foop n)) _ (record { closed = h.closed; rest = (h.rest, intd_missed q.disk.names q.disk.files n fits) }) (λ k is. absurd (cc))
     foop_intd n p h (answer.Refused Fault) fits = still (at.UnlinkIntd (command.Foop n)) _ tt (λ k is. absurd (cc))
     foop_intd n p h given fits = absurd fits
 
     foop_mess : (n : ℕ) (p : Place) → Rests controls now q (at.UnlinkSecond (command.Foop n)) → Steps (at.UnlinkSecond (command.Foop n)) p (Unlink (path (Of Mess n)))
     foop_mess n p h answer.Done fits =
         part_leads n Mess (at.UnlinkSecond (command.Foop n)) _ h.closed refl tt
-        (spent_phase controls (about q n) (about (gone q n Mess) n) refl (part_lost q n Mess) (part_there q n Mess) (λ _. part_lost q n Mess Intd h.rest.1) h.rest.0 (G.fine n))
+        (spent_phase controls (about q n) (about (gone q n Mess) n) refl (part_lost q n Mess) (part_there q n Mess) (λ _. intd_out (about q n).parts (about (gone q n Mess) n).parts (λ p is. part_lost q n Mess p) h.rest.1) h.rest.0 (G.fine n))
         (λ k is. absurd (cc))
     foop_mess n p h (answer.Refused NotThere) fits = still (at.UnlinkSecond (command.Foop n)) _ tt (λ k is. absurd (cc))
     foop_mess n p h (answer.Refused Fault) fits = still (at.UnlinkSecond (command.Foop n)) _ tt (λ k is. absurd (cc))
@@ -316,11 +325,11 @@ module _ (controls : Controls) (now : ℕ) (a : List ℕ) (q : Queue) (G : Sound
     todo_intd n p h answer.Done fits =
         let ready = part_ready n h.rest in
         part_leads n Intd (at.UnlinkIntd (command.Todo n)) _ h.closed refl
-        (record { closed = part_closed n Intd (λ s. cc) h.closed; rest = (ready, part_gone q n Intd) })
+        (record { closed = part_closed n Intd (λ s. cc) h.closed; rest = (ready, intd_gone n) })
         (Queued ready.queued)
         (λ k is. absurd (cc))
     todo_intd n p h (answer.Refused NotThere) fits =
-        still (at.UnlinkIntd (command.Todo n)) _ (record { closed = h.closed; rest = (h.rest, find_none q.disk.names q.disk.files (Of Intd n) fits) }) (λ k is. absurd (cc))
+        still (at.UnlinkIntd (command.Todo n)) _ (record { closed = h.closed; rest = (h.rest, intd_missed q.disk.names q.disk.files n fits) }) (λ k is. absurd (cc))
     todo_intd n p h (answer.Refused Fault) fits = still (at.UnlinkIntd (command.Todo n)) _ tt (λ k is. absurd (cc))
     todo_intd n p h given fits = absurd fits
 
@@ -333,7 +342,7 @@ module _ (controls : Controls) (now : ℕ) (a : List ℕ) (q : Queue) (G : Sound
         subst (λ j. RestsAs now (gone q n Todo) j (IsPreprocessed controls)) w (record { closed = part_closed n Todo (λ s. cc) h.closed; rest = done }))
     todo_todo n p h (answer.Refused NotThere) fits =
         let there = h.rest.0.queued.todo_there in
-        let none = find_none q.disk.names q.disk.files (Of Todo n) fits in
+        let none = todo_missed q.disk.names q.disk.files n fits in
         absurd (cc)
     todo_todo n p h (answer.Refused Fault) fits = still (at.UnlinkSecond (command.Todo n)) _ tt (λ k is plus. absurd (cc))
     todo_todo n p h given fits = absurd fits

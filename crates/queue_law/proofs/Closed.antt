@@ -1,6 +1,6 @@
 -- What a program that works at a closed number does to the queue: a name of the number goes, a file of it is made or written, or a
 -- descriptor is opened or closed.
-use Rattle.std.proofs.Common.{◌≡◌, ◌≢◌, inl, inr, ℕ, List, Option, Some, None, refl, sym, ap, ◌∙◌, subst, ⊎_elim}
+use Rattle.std.proofs.Common.{◌≡◌, ◌≢◌, inl, inr, ℕ, List, false, Option, Some, None, refl, sym, ap, ◌∙◌, subst, ⊎_elim}
 use Rattle.address_rules.specs.declared.controls.Controls.{Controls}
 use Rattle.call_fs.specs.Disk.{File, Open}
 use Rattle.call_fs.specs.Apply.{IsNew}
@@ -8,6 +8,9 @@ use Rattle.call_fs.proofs.Maps.{put_other, put_at_other, put_at_cases}
 use Rattle.queue_paths.specs.Names.{Part, path}
 use Rattle.queue_paths.specs.Names.Name.{Of}
 use Rattle.queue_paths.specs.Names.Part.{Mess, Todo, Bounce}
+use Rattle.queue_paths.specs.Parts.{is_todo, in_todo}
+use Rattle.queue_paths.proofs.Parts.{todo_far, todo_same}
+use Rattle.queue_law.proofs.Waits.{todo_role}
 use Rattle.queue_law.specs.Numbers.{Entry, Queue, look, IsRecent, NamesSuit, About, about, IsTaken, IsQueued, Phase, NoneLost, Sound}
 use Rattle.queue_law.specs.Numbers.Role.{AsPart}
 use Rattle.queue_law.specs.Injectors.{IsHeld}
@@ -93,7 +96,7 @@ taken_same controls w v living mess h = record {
   spots = h.spots;
 }
 
-abbrev pub queued_same : (controls : Controls) (w v : About) → v.living ≡ w.living → v.parts Mess ≡ w.parts Mess → v.parts Todo ≡ w.parts Todo
+abbrev pub queued_same : (controls : Controls) (w v : About) → v.living ≡ w.living → v.parts Mess ≡ w.parts Mess → in_todo v.parts ≡ in_todo w.parts
     → v.parts Bounce ≡ None → IsQueued controls w → IsQueued controls v
 queued_same controls w v living mess todo bounce h = record {
   taken = taken_same controls w v living mess h.taken;
@@ -198,12 +201,12 @@ module _ (now : ℕ) (a : List ℕ) (q : Queue) (S : NamesSuit q) (n : ℕ) (c :
         let v = ap q.role same in
         absurd (cc))
 
-    pub bytes_todo : Todo ≢ part → look new_bytes (Of Todo n) ≡ look q (Of Todo n)
-    bytes_todo far = find_far q.disk.names q.disk.files (Of Todo n) file.number f (λ y h same.
-        let w = (S (Of Todo n) y h).0 in
+    pub bytes_todo : is_todo part ≡ false → in_todo (about new_bytes n).parts ≡ in_todo (about q n).parts
+    bytes_todo far = todo_same (about q n).parts (about new_bytes n).parts (λ p is. find_far q.disk.names q.disk.files (Of p n) file.number f (λ y h same.
+        let w = todo_role p n y.number (q.role y.number) is (S (Of p n) y h).0 in
         let v = ap q.role same in
         let u : AsPart Todo n ≡ AsPart part n = sym w ∙ v ∙ mine in
-        far (cc))
+        todo_far Todo part refl far (cc)))
 
     pub bytes_closed : IsClosed now new_bytes n
     bytes_closed = closed_on now q new_bytes n bytes_mess refl refl c

@@ -10,6 +10,8 @@ use Rattle.queue_inject.specs.declared.row.Row.{Row}
 use Rattle.queue_paths.specs.Names.{Name, Part, path}
 use Rattle.queue_paths.specs.Names.Name.{Pid, Of}
 use Rattle.queue_paths.specs.Names.Part.{Mess, Intd, Todo, Info, Local, Remote, Bounce}
+use Rattle.queue_paths.specs.Parts.{in_todo}
+use Rattle.queue_paths.proofs.Parts.{todo_out}
 use Rattle.queue_law.specs.Books.{Injection, Books, IsInjected}
 use Rattle.call_fs.proofs.Maps.{put_cases, put_same, put_other, put_at_cases, put_at_other}
 use Rattle.queue_law.proofs.Tests.{off, tells_name}
@@ -70,7 +72,7 @@ pub record Outcome (controls : Controls) (now : ℕ) (q : Queue) (a : List ℕ) 
   pub fine : (n : ℕ) → number ≡ Some n → Phase controls (about r n)
   pub over : NoneLost controls r.books
   pub accepted : (i : Injection) → IsInjected q.books i → i.accepted ≡ true → IsInjected r.books i
-  pub waits : IsEarly q → (n : ℕ) (i : Injection) → r.books.living n ≡ Some i → i.accepted ≡ true → look r (Of Todo n) ≢ None
+  pub waits : IsEarly q → (n : ℕ) (i : Injection) → r.books.living n ≡ Some i → i.accepted ≡ true → in_todo (about r n).parts ≢ None
   pub none_over : IsEarly q → (i : Injection) → Among i r.books.over → i.accepted ≡ true → ⊥
   pub outside : Outside q.disk r.disk
   pub old : LeavesOld q r
@@ -285,7 +287,8 @@ module _ (controls : Controls) (now : ℕ) (q : Queue) (a : List ℕ) (args : Ar
       accepted = λ i h _. still_there q.books i h;
     };
     accepted = λ _ h _. h;
-    waits = λ e k p lives t none. e.waits k p lives t (made_none q x a fd i read role new (Of Todo k) none);
+    waits = λ e k p lives t none. e.waits k p lives t
+        (todo_out (about (made q a x fd i read role) k).parts (about q k).parts (λ part is. made_none q x a fd i read role new (Of part k)) none);
     none_over = λ e. e.none_over;
     suits = made_suits now q G.suits x a fd i read role new right;
     fine = at_number (made q a x fd i read role) (Phase controls) m fine;
@@ -312,7 +315,8 @@ module _ (controls : Controls) (now : ℕ) (q : Queue) (a : List ℕ) (args : Ar
       accepted = λ i h _. still_there q.books i h;
     };
     accepted = λ _ h _. h;
-    waits = λ e k i lives t none. e.waits k i lives t (find_none q.disk.names q.disk.files (Of Todo k) (not_found q.disk.names (put q.disk.files j f) (Of Todo k) none));
+    waits = λ e k i lives t none. e.waits k i lives t (todo_out (about (written q j f) k).parts (about q k).parts
+        (λ part is gone. find_none q.disk.names q.disk.files (Of part k) (not_found q.disk.names (put q.disk.files j f) (Of part k) gone)) none);
     none_over = λ e. e.none_over;
     suits = written_suits now q G.suits j f recent;
     fine = at_number (written q j f) (Phase controls) n (begun_phase controls (written q j f) a args n begins);
@@ -335,7 +339,7 @@ module _ (controls : Controls) (now : ℕ) (q : Queue) (a : List ℕ) (args : Ar
   pub named_outcome : (x : Name) (o : Option ℕ) (c : Books) (n : ℕ) (row : Row) → is_later_name x ≡ false → IsUnsorted (about q n) → q.role n ≡ AsMessage a args
       → Touches q a args n → ((k : ℕ) → o ≡ Some k → (y : Name) × (q.disk.names (path y) ≡ Some k)) → Concerns q x (Some n) → NameSuits (named q x o c) x → ((k : ℕ) → k ≢ n → c.living k ≡ q.books.living k)
       → ((i : Injection) → IsInjected q.books i → i.accepted ≡ true → IsInjected c i) → NoneLost controls c
-      → (IsEarly q → (k : ℕ) (i : Injection) → c.living k ≡ Some i → i.accepted ≡ true → look (named q x o c) (Of Todo k) ≢ None)
+      → (IsEarly q → (k : ℕ) (i : Injection) → c.living k ≡ Some i → i.accepted ≡ true → in_todo (about (named q x o c) k).parts ≢ None)
       → (IsEarly q → (i : Injection) → Among i c.over → i.accepted ≡ true → ⊥)
       → Phase controls (about (named q x o c) n) → Basis (named q x o c) a args row → Leads (named q x o c) row
   named_outcome x o c n row early unsorted mine touches queued concerns here living accepted over waits none_over fine next = record {

@@ -4,7 +4,7 @@ use Rattle.address_rules.specs.declared.controls.Controls.{Controls}
 use Rattle.call_fs.specs.Disk.{Among}
 use Rattle.queue_paths.specs.Names.{Name, path}
 use Rattle.queue_paths.specs.Names.Name.{Of}
-use Rattle.queue_paths.specs.Names.Part.{Todo}
+use Rattle.queue_paths.proofs.Parts.{todo_same}
 use Rattle.queue_law.specs.Books.{Injection, Books, IsInjected}
 use Rattle.queue_law.specs.Numbers.{Entry, Queue, look, about, IsRight, Phase, NoneLost, Sound, IsEarly}
 use Rattle.queue_law.proofs.Frame.{still_there}
@@ -41,7 +41,7 @@ module _ (a : List ℕ) (q r : Queue) (F : Foreign a q r) where
   pub foreign_early : IsEarly q → IsEarly r
   foreign_early e = record {
     unsorted = λ n part later. same (Of part n) ∙ e.unsorted n part later;
-    waits = λ n i lives t none. e.waits n i (subst (λ (b : Books). b.living n ≡ Some i) F.books lives) t (sym (same (Of Todo n)) ∙ none);
+    waits = λ n i lives t none. e.waits n i (subst (λ (b : Books). b.living n ≡ Some i) F.books lives) t (sym (todo_same (about q n).parts (about r n).parts (λ part is. same (Of part n))) ∙ none);
     none_over = subst (λ (b : Books). (i : Injection) → Among i b.over → i.accepted ≡ true → ⊥) (sym F.books) e.none_over;
   }
 

@@ -5,7 +5,9 @@ use Rattle.call_fs.specs.Disk.{File, Among, IsSynced}
 use Rattle.call_fs.specs.Survival.{HadAt, Survives, AllSurvive, settled}
 use Rattle.queue_paths.specs.Names.{Name}
 use Rattle.queue_paths.specs.Names.Name.{Of}
-use Rattle.queue_paths.specs.Names.Part.{Mess, Intd, Todo, Info, Bounce}
+use Rattle.queue_paths.specs.Names.Part.{Mess, Info, Bounce}
+use Rattle.queue_paths.specs.Parts.{in_intd, in_todo}
+use Rattle.queue_paths.proofs.Parts.{todo_there, intd_out, todo_out, todo_stays}
 use Rattle.queue_inject.specs.Texts.{message_text}
 use Rattle.send_known.specs.declared.channel.Channel.{Channel}
 use Rattle.queue_law.specs.Books.{Injection}
@@ -127,12 +129,26 @@ module _ (q : Queue) (contents : ℕ → List ℕ) (survives : AllSurvive q.disk
       → NotesState controls i (file_in (look (after_halt contents q) (Of Bounce n)))
   notes_after controls n i h = notes_by controls n i (look q (Of Bounce n)) refl h
 
+  pub still_no_intd : (n : ℕ) → in_intd (about q n).parts ≡ None → in_intd (about (after_halt contents q) n).parts ≡ None
+  still_no_intd n = intd_out (about q n).parts (about (after_halt contents q) n).parts (λ part is. still_absent (Of part n))
+
+  pub still_no_todo : (n : ℕ) → in_todo (about q n).parts ≡ None → in_todo (about (after_halt contents q) n).parts ≡ None
+  still_no_todo n = todo_out (about q n).parts (about (after_halt contents q) n).parts (λ part is. still_absent (Of part n))
+
+  pub still_in_todo : (n : ℕ) (y : Entry) → in_todo (about q n).parts ≡ Some y → in_todo (about (after_halt contents q) n).parts ≡ Some (after_file y)
+  still_in_todo n = todo_stays (about q n).parts (about (after_halt contents q) n).parts after_file
+      (λ part is. still_absent (Of part n))
+      (λ part y is. still_there (Of part n) y)
+
+  pub still_todo_synced : (n : ℕ) (y : Entry) (text : List ℕ) → in_todo (about q n).parts ≡ Some y → IsSynced y.file text → IsSynced (after_file y).file text
+  still_todo_synced n y text there = let at = todo_there (about q n).parts y there in still_synced (Of at.0 n) y text at.2
+
   phase_after : (controls : Controls) (n : ℕ) → Phase controls (about q n) → Phase controls (about (after_halt contents q) n)
   phase_after controls n (Free h) = Free (record {
     not_accepted = h.not_accepted;
     unsorted = λ part later. still_absent (Of part n) (h.unsorted part later);
-    no_todo = still_absent (Of Todo n) h.no_todo;
-    intd_below = λ none. still_absent (Of Intd n) (h.intd_below (was_absent (Of Mess n) none));
+    no_todo = still_no_todo n h.no_todo;
+    intd_below = λ none. still_no_intd n (h.intd_below (was_absent (Of Mess n) none));
   })
   phase_after controls n (Queued h) = Queued (record {
     taken = record {
@@ -146,8 +162,8 @@ module _ (q : Queue) (contents : ℕ → List ℕ) (survives : AllSurvive q.disk
       spots = h.taken.spots;
     };
     todo = after_file h.todo;
-    todo_there = still_there (Of Todo n) h.todo h.todo_there;
-    text = still_synced (Of Todo n) h.todo _ h.todo_there h.text;
+    todo_there = still_in_todo n h.todo h.todo_there;
+    text = still_todo_synced n h.todo _ h.todo_there h.text;
     no_bounce = still_absent (Of Bounce n) h.no_bounce;
     unnoted = h.unnoted;
     unreturned = h.unreturned;
@@ -163,8 +179,8 @@ module _ (q : Queue) (contents : ℕ → List ℕ) (survives : AllSurvive q.disk
       valid = h.taken.valid;
       spots = h.taken.spots;
     };
-    no_todo = still_absent (Of Todo n) h.no_todo;
-    no_intd = still_absent (Of Intd n) h.no_intd;
+    no_todo = still_no_todo n h.no_todo;
+    no_intd = still_no_intd n h.no_intd;
     info = after_file h.info;
     info_there = still_there (Of Info n) h.info h.info_there;
     text = still_synced (Of Info n) h.info _ h.info_there h.text;
@@ -179,8 +195,8 @@ module _ (q : Queue) (contents : ℕ → List ℕ) (survives : AllSurvive q.disk
     message = λ y e.
         let w = was_there (Of Mess n) y e in
         subst (λ (z : Entry). IsSynced z.file (message_text h.injection.args).bytes) w.2 (still_synced (Of Mess n) w.0 _ w.1 (h.message w.0 w.1));
-    no_todo = still_absent (Of Todo n) h.no_todo;
-    no_intd = still_absent (Of Intd n) h.no_intd;
+    no_todo = still_no_todo n h.no_todo;
+    no_intd = still_no_intd n h.no_intd;
     unsorted = λ part later. still_absent (Of part n) (h.unsorted part later);
     settled = h.settled;
   })
@@ -199,7 +215,9 @@ module _ (q : Queue) (contents : ℕ → List ℕ) (survives : AllSurvive q.disk
 pub early_after : (q : Queue) (contents : ℕ → List ℕ) → IsEarly q → IsEarly (after_halt contents q)
 early_after q contents e = record {
   unsorted = λ n part later. find_none q.disk.names _ (Of part n) (not_found q.disk.names q.disk.files (Of part n) (e.unsorted n part later));
-  waits = λ n i lives t none. e.waits n i lives t (find_none q.disk.names q.disk.files (Of Todo n) (not_found q.disk.names _ (Of Todo n) none));
+  waits = λ n i lives t none. e.waits n i lives t
+      (todo_out (about (after_halt contents q) n).parts (about q n).parts
+      (λ part is gone. find_none q.disk.names q.disk.files (Of part n) (not_found q.disk.names _ (Of part n) gone)) none);
   none_over = e.none_over;
 }
 

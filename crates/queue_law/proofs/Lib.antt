@@ -4,6 +4,8 @@ pub mod Tests
 pub mod Texts
 -- names and their files
 pub mod Looks
+-- what a number has in intd and in todo
+pub mod Waits
 -- what a step leaves of the others
 pub mod Frame
 -- what one call does to the queue

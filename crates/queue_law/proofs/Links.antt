@@ -9,6 +9,8 @@ use Rattle.queue_inject.specs.declared.row.Row.TheVariants as at
 use Rattle.queue_paths.specs.Names.{Name, path}
 use Rattle.queue_paths.specs.Names.Name.{Pid, Of}
 use Rattle.queue_paths.specs.Names.Part.{Mess, Intd, Todo, Bounce}
+use Rattle.queue_paths.specs.Parts.{in_intd, in_todo}
+use Rattle.queue_paths.proofs.Parts.{is_todo_name, intd_apart, todo_apart, intd_alone, todo_alone, intd_same, todo_same, todo_missing}
 use Rattle.queue_inject.specs.Texts.{message_text}
 use Rattle.queue_inject.specs.Table.{in_message}
 use Rattle.queue_law.specs.Books.{Injection, Books, begun, accept, IsInjected, IsValid}
@@ -28,8 +30,8 @@ use Rattle.queue_law.proofs.Rows.{message_next}
 -- a number without a message: nothing of it is there, and nothing is owed
 record IsGone (controls : Controls) (w : About) : Type 0 where
   unsorted : IsUnsorted w
-  no_todo : w.parts Todo ≡ None
-  no_intd : w.parts Intd ≡ None
+  no_todo : in_todo w.parts ≡ None
+  no_intd : in_intd w.parts ≡ None
   settled : (i : Injection) → w.living ≡ Some i → i.accepted ≡ true → IsSettled controls i
 
 gone_of : (controls : Controls) (w : About) → Phase controls w → w.parts Mess ≡ None → IsGone controls w
@@ -120,7 +122,7 @@ module _ (controls : Controls) (now : ℕ) (q : Queue) (a : List ℕ) (args : Ar
         file = h.file;
         mess = find_put q.disk.names q.disk.files x n ∙ ap Some (sym is);
         unsorted = λ part later. other (Of part n) (later_far x part n refl later) ∙ F.unsorted part later;
-        no_todo = other (Of Todo n) (λ s. cc) ∙ F.no_todo;
+        no_todo = todo_same (about q n).parts (about r n).parts (λ part is. other (Of part n) (todo_apart part n x is refl)) ∙ F.no_todo;
         lives = put_same q.books.living n _;
       } in
       named_outcome controls now q a args G x (Some n) c n (at.UnlinkPid seq n (record { 0 = fd })) refl F.unsorted h.mine (inl none)
@@ -134,7 +136,7 @@ module _ (controls : Controls) (now : ℕ) (q : Queue) (a : List ℕ) (args : Ar
       (λ (s : (k ≡ n) × (put q.books.living n (Some (begun a args n)) k ≡ Some (begun a args n))).
       let w = s.1 in let same : begun a args n ≡ i = cc in off (ap (λ (z : Injection). z.accepted) same ∙ t))
       (λ (s : (k ≢ n) × (put q.books.living n (Some (begun a args n)) k ≡ q.books.living k)).
-      e.waits k i (sym s.1 ∙ lives) t (sym (other (Of Todo k) (λ s. cc)) ∙ none))
+      e.waits k i (sym s.1 ∙ lives) t (sym (todo_same (about q k).parts (about r k).parts (λ part is. other (Of part k) (todo_apart part k x is refl))) ∙ none))
       (put_cases q.books.living n (Some (begun a args n)) k))
       (λ e i w t. ⊎_elim (λ lives. e.waits n i lives t F.no_todo) (λ over. e.none_over i over t) (old_among (q.books.living n) q.books.over i w))
       (begun_phase controls r a args n begins) (
@@ -142,7 +144,7 @@ module _ (controls : Controls) (now : ℕ) (q : Queue) (a : List ℕ) (args : Ar
           mess = record {
             holds = record {
               mine = h.mine;
-              rest = record { bare = record { begins = begins; no_intd = other (Of Intd n) (λ s. cc) ∙ F.no_intd }; holds = h.empty };
+              rest = record { bare = record { begins = begins; no_intd = intd_same (about q n).parts (about r n).parts (λ part is. other (Of part n) (intd_apart part n x is refl)) ∙ F.no_intd }; holds = h.empty };
             };
             opened = h.opened;
           };
@@ -153,18 +155,19 @@ module _ (controls : Controls) (now : ℕ) (q : Queue) (a : List ℕ) (args : Ar
       )
 
   -- a name of this injector's goes
-  gone_row : (x : Name) (n : ℕ) (row : Row) → is_later_name x ≡ false → ((k : ℕ) → Of Todo k ≢ x) → IsUnsorted (about q n) → q.role n ≡ AsMessage a args
+  gone_row : (x : Name) (n : ℕ) (row : Row) → is_later_name x ≡ false → is_todo_name x ≡ false → IsUnsorted (about q n) → q.role n ≡ AsMessage a args
       → (about q n).living ≡ Some (begun a args n) → Concerns q x (Some n)
       → Phase controls (about (named q x None q.books) n) → Basis (named q x None q.books) a args row → To (named q x None q.books) row
   gone_row x n row early no_todo unsorted mine lives concerns fine next =
       named_outcome controls now q a args G x None q.books n row early unsorted mine (inr lives) (λ k is. absurd (cc)) concerns
       (λ z h. let w = find_gone q.disk.names q.disk.files x in absurd (cc)) (λ _ _. refl) (λ _ w _. w) G.over
-      (λ e k i lives t none. e.waits k i lives t (sym (named_other q x None q.books (Of Todo k) (no_todo k)) ∙ none))
+      (λ e k i lives t none. e.waits k i lives t
+      (sym (todo_same (about q k).parts (about (named q x None q.books) k).parts (λ part is. named_other q x None q.books (Of part k) (todo_apart part k x is no_todo))) ∙ none))
       (λ e. e.none_over)
       fine next
 
   -- another name went, and the injection goes on
-  abbrev begun_still : (x : Name) (n : ℕ) → is_later_name x ≡ false → Of Mess n ≢ x → Of Todo n ≢ x → IsBegun (about q n) a args n
+  abbrev begun_still : (x : Name) (n : ℕ) → is_later_name x ≡ false → Of Mess n ≢ x → is_todo_name x ≡ false → IsBegun (about q n) a args n
       → IsBegun (about (named q x None q.books) n) a args n
   begun_still x n early mess todo b =
       let other = named_other q x None q.books in
@@ -172,7 +175,7 @@ module _ (controls : Controls) (now : ℕ) (q : Queue) (a : List ℕ) (args : Ar
         file = b.file;
         mess = other (Of Mess n) mess ∙ b.mess;
         unsorted = λ part later. other (Of part n) (later_far x part n early later) ∙ b.unsorted part later;
-        no_todo = other (Of Todo n) todo ∙ b.no_todo;
+        no_todo = todo_same (about q n).parts (about (named q x None q.books) n).parts (λ part is. other (Of part n) (todo_apart part n x is todo)) ∙ b.no_todo;
         lives = b.lives;
       }
 
@@ -182,9 +185,9 @@ module _ (controls : Controls) (now : ℕ) (q : Queue) (a : List ℕ) (args : Ar
       let x = Pid args.pid args.start seq in
       let r = named q x None q.books in
       let d = h.mess.holds.rest in
-      let begins = begun_still x n refl (λ s. cc) (λ s. cc) d.bare.begins in
-      let no_intd = named_other q x None q.books (Of Intd n) (λ s. cc) ∙ d.bare.no_intd in
-      gone_row x n _ refl (λ k s. cc) d.bare.begins.unsorted h.mess.holds.mine d.bare.begins.lives (λ y e. let w = h.pid in cc) (begun_phase controls r a args n begins)
+      let begins = begun_still x n refl (λ s. cc) refl d.bare.begins in
+      let no_intd = intd_same (about q n).parts (about r n).parts (λ part is. named_other q x None q.books (Of part n) (intd_apart part n x is refl)) ∙ d.bare.no_intd in
+      gone_row x n _ refl refl d.bare.begins.unsorted h.mess.holds.mine d.bare.begins.lives (λ y e. let w = h.pid in cc) (begun_phase controls r a args n begins)
       (message_next r a args n fd 0 (record {
         holds = record { mine = h.mess.holds.mine; rest = record { bare = record { begins = begins; no_intd = no_intd }; holds = d.holds } };
         opened = h.mess.opened;
@@ -195,22 +198,23 @@ module _ (controls : Controls) (now : ℕ) (q : Queue) (a : List ℕ) (args : Ar
   clean_intd_row n cause h bad =
       let x = Of Intd n in
       let r = named q x None q.books in
-      let begins = begun_still x n refl (λ s. cc) (λ s. cc) h.rest in
-      gone_row x n _ refl (λ k s. cc) h.rest.unsorted h.mine h.rest.lives refl (begun_phase controls r a args n begins)
-      (record { mine = h.mine; rest = record { begins = begins; no_intd = find_gone q.disk.names q.disk.files x } }, bad)
+      let begins = begun_still x n refl (λ s. cc) refl h.rest in
+      gone_row x n _ refl refl h.rest.unsorted h.mine h.rest.lives refl (begun_phase controls r a args n begins)
+      (record { mine = h.mine; rest = record { begins = begins; no_intd = intd_alone (about r n).parts ∙ find_gone q.disk.names q.disk.files x } }, bad)
 
   pub clean_mess_row : (n : ℕ) (cause : ℕ) → Holds q a args n (λ w. IsBare w a args n) → IsFailure cause
       → To (named q (Of Mess n) None q.books) (at.Failed cause)
   clean_mess_row n cause h bad =
       let x = Of Mess n in
+      let r = named q x None q.books in
       let other = named_other q x None q.books in
       let b = h.rest.begins in
-      gone_row x n _ refl (λ k s. cc) b.unsorted h.mine b.lives refl
+      gone_row x n _ refl refl b.unsorted h.mine b.lives refl
       (Free (record {
         not_accepted = λ i lives t. let w = b.lives in let v : i.accepted ≡ false = cc in off (sym v ∙ t);
         unsorted = λ part later. other (Of part n) (later_far x part n refl later) ∙ b.unsorted part later;
-        no_todo = other (Of Todo n) (λ s. cc) ∙ b.no_todo;
-        intd_below = λ _. other (Of Intd n) (λ s. cc) ∙ h.rest.no_intd;
+        no_todo = todo_same (about q n).parts (about r n).parts (λ part is. other (Of part n) (todo_apart part n x is refl)) ∙ b.no_todo;
+        intd_below = λ _. intd_same (about q n).parts (about r n).parts (λ part is. other (Of part n) (intd_apart part n x is refl)) ∙ h.rest.no_intd;
       }))
       (tt, bad)
 
@@ -230,10 +234,14 @@ module _ (controls : Controls) (now : ℕ) (q : Queue) (a : List ℕ) (args : Ar
       (λ k far. put_other q.books.living n _ k far)
       (λ i. still_accepted q.books a args n w.begins.lives i)
       G.over
-      (λ e k i living t none. ⊎_elim
-      (λ (same : Of Todo k ≡ x). let r = named q x (Some h.number) c in let v = find_put q.disk.names q.disk.files x h.number in let u = ap (look r) same in absurd (cc))
+      (λ e k i living t none.
+      let r = named q x (Some h.number) c in
+      let bare : look r (Of Todo k) ≡ None = todo_missing (about r k).parts none Todo refl in
+      ⊎_elim
+      (λ (same : Of Todo k ≡ x). let v = find_put q.disk.names q.disk.files x h.number in let u = ap (look r) same in absurd (cc))
       (λ (far : Of Todo k ≢ x).
-      e.waits k i (sym (put_other q.books.living n _ k (λ s. far (ap (Of Todo) s))) ∙ living) t (sym (named_other q x (Some h.number) c (Of Todo k) far) ∙ none))
+      e.waits k i (sym (put_other q.books.living n _ k (λ s. far (ap (Of Todo) s))) ∙ living) t
+      (todo_alone (about q k).parts ∙ sym (named_other q x (Some h.number) c (Of Todo k) far) ∙ bare))
       (tells_name x (Of Todo k)))
       (λ e. e.none_over)
       (Queued (record {
@@ -253,7 +261,7 @@ module _ (controls : Controls) (now : ℕ) (q : Queue) (a : List ℕ) (args : Ar
           };
         };
         todo = y;
-        todo_there = find_put q.disk.names q.disk.files x h.number ∙ ap Some (sym is);
+        todo_there = todo_alone (about (named q x (Some h.number) c) n).parts ∙ find_put q.disk.names q.disk.files x h.number ∙ ap Some (sym is);
         text = w.fulfils;
         no_bounce = named_other q x (Some h.number) c (Of Bounce n) (λ s. cc) ∙ w.begins.unsorted Bounce refl;
         unnoted = refl;

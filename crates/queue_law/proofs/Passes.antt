@@ -21,6 +21,8 @@ use Rattle.call_fs.proofs.Maps.{put_same, put_other}
 use Rattle.queue_paths.specs.Names.{Part, path}
 use Rattle.queue_paths.specs.Names.Name.{Of}
 use Rattle.queue_paths.specs.Names.Part.{Mess, Todo, Bounce}
+use Rattle.queue_paths.specs.Parts.{is_todo}
+use Rattle.queue_paths.proofs.Parts.{todo_far, todo_alone, todo_same}
 use Rattle.todo_pass.specs.declared.part.Target.{Target}
 use Rattle.todo_pass.specs.declared.part.Target.TheVariants as target
 use Rattle.todo_pass.specs.declared.row.Row.{Row}
@@ -46,13 +48,13 @@ use Rattle.queue_law.proofs.Closed.{with_fds, gone, part_other, part_lost, part_
 -- the parts that a pass makes are none of the others
 record IsFar (part : Part) : Type 0 where
   mess : Mess ≢ part
-  todo : Todo ≢ part
+  todo : is_todo part ≡ false
   bounce : Bounce ≢ part
 
 far : (t : Target) → IsFar (file_part t)
-far target.Info = record { mess = λ s. cc; todo = λ s. cc; bounce = λ s. cc }
-far target.Local = record { mess = λ s. cc; todo = λ s. cc; bounce = λ s. cc }
-far target.Remote = record { mess = λ s. cc; todo = λ s. cc; bounce = λ s. cc }
+far target.Info = record { mess = λ s. cc; todo = refl; bounce = λ s. cc }
+far target.Local = record { mess = λ s. cc; todo = refl; bounce = λ s. cc }
+far target.Remote = record { mess = λ s. cc; todo = refl; bounce = λ s. cc }
 
 right_part : (t : Target) (n : ℕ) (y : Entry) → IsRight (Of (file_part t) n) y (AsPart (file_part t) n)
 right_part target.Info n y = (refl, tt)
@@ -98,7 +100,7 @@ module _ (controls : Controls) (now : ℕ) (a : List ℕ) (q : Queue) (G : Sound
       let part = file_part t in
       let r = gone q n part in
       let f = far t in
-      let w = queued_same controls (about q n) (about r n) refl (part_other q n part Mess f.mess) (part_other q n part Todo f.todo) (part_lost q n part Bounce R.rest.no_bounce) R.rest in
+      let w = queued_same controls (about q n) (about r n) refl (part_other q n part Mess f.mess) (todo_same (about q n).parts (about r n).parts (λ p is. part_other q n part p (todo_far p part is f.todo))) (part_lost q n part Bounce R.rest.no_bounce) R.rest in
       record {
         leads = leads_on controls now a q r G n (part_elsewhere now a q G.suits n R.closed part) (part_suits q G.suits n part) (Queued w) G.over (part_outside q n part)
             (record { files = λ _ _ _ _. refl; roles = λ _ _ _. refl });
@@ -118,7 +120,7 @@ module _ (controls : Controls) (now : ℕ) (a : List ℕ) (q : Queue) (G : Sound
       let r = made q a x fd i read role in
       let f = far t in
       let other = new_other now a q G.suits n R.closed part fd i read new in
-      let w = queued_same controls (about q n) (about r n) refl (other Mess f.mess) (other Todo f.todo) (other Bounce f.bounce ∙ R.rest.no_bounce) R.rest in
+      let w = queued_same controls (about q n) (about r n) refl (other Mess f.mess) (todo_same (about q n).parts (about r n).parts (λ p is. other p (todo_far p part is f.todo))) (other Bounce f.bounce ∙ R.rest.no_bounce) R.rest in
       record {
         leads = leads_on controls now a q r G n (new_elsewhere now a q G.suits n R.closed part fd i read new)
             (made_suits now q G.suits x a fd i read role new (right_part t n (record { number = i; file = empty_file read })))
@@ -231,7 +233,7 @@ module _ (controls : Controls) (now : ℕ) (a : List ℕ) (q : Queue) (G : Sound
     open_todo : (p : Pass) → Steps at.OpenTodo p (call.Open (path (Of Todo n)) how.Read)
     open_todo p (answer.Opened fd) fits =
         let opened : Option ℕ → Option Open = option_map (λ k. record { number = k; mode = Mode.Opened how.Read }) in
-        let named = (found q.disk.names q.disk.files (Of Todo n) R.rest.todo R.rest.todo_there).0 in (
+        let named = (found q.disk.names q.disk.files (Of Todo n) R.rest.todo (sym (todo_alone (about q n).parts) ∙ R.rest.todo_there)).0 in (
           q.role,
           of_fds (put q.disk.opens fd.0 (opened (q.disk.names (path (Of Todo n))))) (put q.holder fd.0 (Some a)) (at.ReadTodo fd)
               (λ o k mode other h.

@@ -16,6 +16,7 @@ use Rattle.queue_inject.specs.Texts.{limit, envelope_text, envelope_of, intd_tex
 use Rattle.queue_paths.specs.Names.{Name, Part as FilePart, path}
 use Rattle.queue_paths.specs.Names.Name.{Of}
 use Rattle.queue_paths.specs.Names.Part.{Mess, Todo, Info, Local, Remote}
+use Rattle.queue_paths.proofs.Parts.{todo_alone}
 use Rattle.send_known.specs.declared.channel.Channel.{Channel}
 use Rattle.send_known.specs.declared.channel.Channel.TheVariants as channel
 use Rattle.todo_pass.specs.declared.part.Target.{Target}
@@ -114,7 +115,7 @@ passes_make controls n past first q run leads at_give Q =
     let F = files_are_made controls n past first q.disk run leads (subst IsMadeRow (sym at_give) tt) in
     let args = Q.taken.injection.args in
     let held = F.todo at_give in
-    let read : p.todo ≡ (intd_text args).bytes = was_read q n Q.todo (intd_text args).bytes p.todo held.0 Q.todo_there Q.text held.1 held.2 in
+    let read : p.todo ≡ (intd_text args).bytes = was_read q n Q.todo (intd_text args).bytes p.todo held.0 (sym (todo_alone (about q n).parts) ∙ Q.todo_there) Q.text held.1 held.2 in
     let so = says_so args F.sorted.0 Q.taken.valid.envelope (subst (λ t. IsTodo t F.sorted.0) read F.sorted.1) in
     let sorted = F.sorted.2 in
     let w = about q n in

@@ -10,7 +10,7 @@ use Rattle.queue_clean.specs.Commands.{message_of}
 use Rattle.queue_clean.specs.Table.{Place, pid_path}
 use Rattle.queue_paths.specs.Names.{Name, Part, parse}
 use Rattle.queue_paths.specs.Names.Name.{Pid, Of}
-use Rattle.queue_paths.specs.Names.Part.{Mess, Intd, Todo, Info, Bounce}
+use Rattle.queue_paths.specs.Names.Part.{Mess, Todo, Info, Bounce}
 use Rattle.queue_law.specs.Numbers.{Entry, Queue, look, NamesSuit, about, IsQueued}
 use Rattle.queue_law.specs.Numbers.Role.{AsOld}
 use Rattle.queue_law.specs.Routes.{lane_part}
@@ -21,7 +21,7 @@ use Rattle.queue_law.specs.Steps.{Elsewhere, Foreign, after_halt}
 use Rattle.queue_law.specs.Cleaners.{number_at, Needs, Rests, waiting, StandsAt, CleanerStands, IsBeside, RestIsKept}
 use Rattle.queue_law.proofs.Frame.{about_same}
 use Rattle.queue_law.proofs.Foreigners.{foreign_elsewhere}
-use Rattle.queue_law.proofs.Halts.{after_file, after_moment, after_number, still_absent, still_there, still_synced}
+use Rattle.queue_law.proofs.Halts.{after_file, after_moment, after_number, still_absent, still_there, still_synced, still_no_intd, still_no_todo, still_in_todo, still_todo_synced}
 use Rattle.queue_law.proofs.Rests.{closed_later, closed_far, judged_far}
 use Rattle.queue_law.proofs.Cleaners.{stands_frame}
 
@@ -95,8 +95,8 @@ module _ (q : Queue) (contents : ℕ → List ℕ) (survives : AllSurvive q.disk
       spots = h.taken.spots;
     };
     todo = after_file q contents survives h.todo;
-    todo_there = still_there q contents survives (Of Todo n) h.todo h.todo_there;
-    text = still_synced q contents survives (Of Todo n) h.todo _ h.todo_there h.text;
+    todo_there = still_in_todo q contents survives n h.todo h.todo_there;
+    text = still_todo_synced q contents survives n h.todo _ h.todo_there h.text;
     no_bounce = still_absent q contents survives (Of Bounce n) h.no_bounce;
     unnoted = h.unnoted;
     unreturned = h.unreturned;
@@ -105,7 +105,7 @@ module _ (q : Queue) (contents : ℕ → List ℕ) (survives : AllSurvive q.disk
   needs_halt : (controls : Controls) (it : Command) (n : ℕ) → Needs controls it (about q n) → Needs controls it (about (after_halt contents q) n)
   needs_halt controls (command.Foop k) n h = record {
     unsorted = λ part later. still_absent q contents survives (Of part n) (h.unsorted part later);
-    no_todo = still_absent q contents survives (Of Todo n) h.no_todo;
+    no_todo = still_no_todo q contents survives n h.no_todo;
   }
   needs_halt controls (command.Todo k) n h = record {
     queued = queued_halt controls n h.queued;
@@ -118,7 +118,7 @@ module _ (q : Queue) (contents : ℕ → List ℕ) (survives : AllSurvive q.disk
       record { closed = closed_halt now (message_of it) h.closed; rest = needs_halt controls it (message_of it) h.rest }
   rests_halt controls now (at.UnlinkSecond it) h = record {
     closed = closed_halt now (message_of it) h.closed;
-    rest = (needs_halt controls it (message_of it) h.rest.0, still_absent q contents survives (Of Intd (message_of it)) h.rest.1);
+    rest = (needs_halt controls it (message_of it) h.rest.0, still_no_intd q contents survives (message_of it) h.rest.1);
   }
   rests_halt controls now row h = tt
 

@@ -9,6 +9,7 @@ use Rattle.queue_inject.specs.declared.row.Row.TheVariants as at
 use Rattle.queue_paths.specs.Names.{Name, path}
 use Rattle.queue_paths.specs.Names.Name.{Pid, Of}
 use Rattle.queue_paths.specs.Names.Part.{Mess, Intd, Todo}
+use Rattle.queue_paths.proofs.Parts.{todo_apart, intd_out, todo_out, todo_same}
 use Rattle.queue_inject.specs.Texts.{message_text, intd_text}
 use Rattle.queue_inject.specs.Table.{piece_size, in_message, in_todo}
 use Rattle.queue_law.specs.Books.{IsValid}
@@ -128,7 +129,7 @@ module _ (controls : Controls) (now : ℕ) (q : Queue) (a : List ℕ) (args : Ar
         file = b.file;
         mess = other (Of Mess n) (λ s. cc) ∙ b.mess;
         unsorted = λ part later. other (Of part n) (later_far x part n refl later) ∙ b.unsorted part later;
-        no_todo = other (Of Todo n) (λ s. cc) ∙ b.no_todo;
+        no_todo = todo_same (about q n).parts (about r n).parts (λ part is. other (Of part n) (todo_apart part n x is refl)) ∙ b.no_todo;
         lives = b.lives;
       } in
       made_outcome controls now q a args G x fd i read role n (in_todo (intd_text args) n fd 0) new refl b.unsorted (inr (h.mine, inr b.lives))
@@ -164,10 +165,10 @@ module _ (controls : Controls) (now : ℕ) (q : Queue) (a : List ℕ) (args : Ar
           file = f;
           mess = find_near q.disk.names q.disk.files (Of Mess n) _ f b.mess;
           unsorted = λ part later. find_absent q.disk.names q.disk.files (Of part n) n f (b.unsorted part later);
-          no_todo = find_absent q.disk.names q.disk.files (Of Todo n) n f b.no_todo;
+          no_todo = todo_out (about q n).parts (about (written q n f) n).parts (λ part is. find_absent q.disk.names q.disk.files (Of part n) n f) b.no_todo;
           lives = b.lives;
         };
-        no_intd = find_absent q.disk.names q.disk.files (Of Intd n) n f h.no_intd;
+        no_intd = intd_out (about q n).parts (about (written q n f) n).parts (λ part is. find_absent q.disk.names q.disk.files (Of part n) n f) h.no_intd;
       }
 
   mess_row : (n : ℕ) (f : File) (row : Row) → q.role n ≡ AsMessage a args → IsBare (about q n) a args n → args.start ≤ f.moment
@@ -238,7 +239,7 @@ module _ (controls : Controls) (now : ℕ) (q : Queue) (a : List ℕ) (args : Ar
           file = b.file;
           mess = find_far q.disk.names q.disk.files (Of Mess n) i f (λ y e s. far (cc (b.mess, e, s))) ∙ b.mess;
           unsorted = λ part later. find_absent q.disk.names q.disk.files (Of part n) i f (b.unsorted part later);
-          no_todo = find_absent q.disk.names q.disk.files (Of Todo n) i f b.no_todo;
+          no_todo = todo_out (about q n).parts (about (written q i f) n).parts (λ part is. find_absent q.disk.names q.disk.files (Of part n) i f) b.no_todo;
           lives = b.lives;
         };
         message = h.message;

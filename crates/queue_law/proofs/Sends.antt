@@ -15,6 +15,8 @@ use Rattle.queue_inject.specs.Texts.{message_text}
 use Rattle.queue_paths.specs.Names.{Name, Part, path}
 use Rattle.queue_paths.specs.Names.Name.{Of}
 use Rattle.queue_paths.specs.Names.Part.{Mess, Intd, Todo, Info, Local, Remote, Bounce}
+use Rattle.queue_paths.proofs.Parts.{intd_apart, todo_apart, intd_same, todo_same}
+use Rattle.queue_law.proofs.Waits.{intd_early, todo_early}
 use Rattle.send_known.specs.declared.channel.Channel.{Channel}
 use Rattle.send_known.specs.declared.channel.Channel.TheVariants as channel
 use Rattle.queue_law.specs.Ledgers.{Line}
@@ -126,8 +128,8 @@ resorted controls ch w v same living h new was =
         valid = h.taken.valid;
         spots = h.taken.spots;
       };
-      no_todo = same Todo (early Todo refl) ∙ h.no_todo;
-      no_intd = same Intd (early Intd refl) ∙ h.no_intd;
+      no_todo = todo_same w.parts v.parts (λ part is. same part (early part (todo_early part is))) ∙ h.no_todo;
+      no_intd = intd_same w.parts v.parts (λ part is. same part (early part (intd_early part is))) ∙ h.no_intd;
       info = h.info;
       info_there = same Info far.0 ∙ h.info_there;
       text = h.text;
@@ -387,8 +389,8 @@ module _ (controls : Controls) (now : ℕ) (q : Queue) (a : List ℕ) (G : Sound
             let v = sym (other (Of Mess n) (λ s. cc)) ∙ e in
             let same : h.taken.mess ≡ y = cc in
             subst (λ (z : Entry). IsSynced z.file (message_text h.taken.injection.args).bytes) same h.taken.message;
-        no_todo = other (Of Todo n) (λ s. cc) ∙ h.no_todo;
-        no_intd = other (Of Intd n) (λ s. cc) ∙ h.no_intd;
+        no_todo = todo_same (about q n).parts (about (named q x None q.books) n).parts (λ part is. other (Of part n) (todo_apart part n x is refl)) ∙ h.no_todo;
+        no_intd = intd_same (about q n).parts (about (named q x None q.books) n).parts (λ part is. other (Of part n) (intd_apart part n x is refl)) ∙ h.no_intd;
         unsorted = later;
         settled = record {
           valid = h.taken.valid;

@@ -22,11 +22,12 @@ use Rattle.queue_inject.specs.Texts.{Text, message_text, intd_text}
 use Rattle.queue_inject.specs.Table.{piece_size, failure, work_of, past_bytes, moved, due_by as inject_due}
 use Rattle.queue_law.specs.Books.{linked, IsValid}
 use Rattle.queue_paths.proofs.Paths.{parse-path}
+use Rattle.queue_law.proofs.Waits.{intd_missed}
 use Rattle.queue_law.proofs.Tests.{same_text}
 use Rattle.queue_law.specs.Injectors.{IsFailure, HasIntd, IsOpen, IsBegun, IsBare, IsWhole, Holds, AtLink, AtMess, AtUnlink, AtTodo, AtLinkTodo, Basis}
 use Rattle.queue_law.proofs.Texts.{fails, not_zero, if_either}
 use Rattle.queue_law.specs.Numbers.{Entry, Role, Queue, look, About, about, Sound}
-use Rattle.queue_law.proofs.Looks.{find_none, found}
+use Rattle.queue_law.proofs.Looks.{found}
 use Rattle.queue_law.specs.Steps.{Elsewhere, queue_after}
 use Rattle.queue_law.proofs.Frame.{still_there, outside_same}
 use Rattle.queue_law.proofs.Deeds.{Outcome, named, written}
@@ -169,7 +170,7 @@ module _ (controls : Controls) (now : ℕ) (q : Queue) (a : List ℕ) (args : Ar
   at_clean_intd : (n : ℕ) (cause : ℕ) → Holds q a args n (λ w. IsBegun w a args n) → IsFailure cause → Steps (at.CleanIntd n cause) (Unlink (path (Of Intd n)))
   at_clean_intd n cause h bad Done fits = (q.role, clean_intd_row controls now q a args G n cause h bad)
   at_clean_intd n cause h bad (Refused NotThere) fits =
-      let none = find_none q.disk.names q.disk.files (Of Intd n) fits in
+      let none = intd_missed q.disk.names q.disk.files n fits in
       same (at.CleanMess n cause) (record { mine = h.mine; rest = record { begins = h.rest; no_intd = none } }, bad)
   at_clean_intd n cause h bad (Refused Fault) fits = same (at.Failed cause) (tt, bad)
   at_clean_intd n cause h bad answer fits = absurd fits

@@ -12,7 +12,8 @@ use Rattle.queue_inject.specs.declared.injection.Arguments.{Arguments}
 use Rattle.queue_inject.specs.Texts.{recipients_of, todo_of}
 use Rattle.queue_paths.specs.Names.{path}
 use Rattle.queue_paths.specs.Names.Name.{Of}
-use Rattle.queue_paths.specs.Names.Part.{Bounce, Todo}
+use Rattle.queue_paths.specs.Names.Part.{Bounce}
+use Rattle.queue_paths.specs.Parts.{in_todo, parts_of}
 use Rattle.todo_pass.specs.Places.{HasRecord}
 use Rattle.queue_law.specs.Books.{Injection, Books, IsInjected, IsValid}
 use Rattle.queue_law.specs.Ledgers.{Bounced, Ledger, Spot}
@@ -24,7 +25,7 @@ use Rattle.queue_law.specs.Numbers.{Queue, Sound}
 -- todo is there, with the injection's text, and all of it is on the disk
 pub record IsInTodo (d : Disk) (i : Injection) : Type 0 where
   pub file : ℕ
-  pub there : d.names (path (Of Todo i.number)) ≡ Some file
+  pub there : in_todo (parts_of d.names i.number) ≡ Some file
   pub text : IsSynced (d.files file) (todo_of i.args)
 
 -- the file of its channel is there, and at its place it has `T`, its routed address and NUL

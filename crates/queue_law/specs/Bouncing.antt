@@ -14,7 +14,8 @@ use Rattle.call_fs.specs.Apply.{effect, empty_file, Fits}
 use Rattle.call_fs.specs.Disk.{Among, File, Open}
 use Rattle.queue_paths.specs.Names.{Part, path}
 use Rattle.queue_paths.specs.Names.Name.{Of}
-use Rattle.queue_paths.specs.Names.Part.{Bounce, Info, Todo}
+use Rattle.queue_paths.specs.Names.Part.{Bounce, Info}
+use Rattle.queue_paths.specs.Parts.{in_todo}
 use Rattle.send_known.specs.declared.channel.Channel.{Channel}
 use Rattle.queue_law.specs.Ledgers.{Bounced, Line}
 use Rattle.queue_law.specs.Ledgers.Line.{Drops, Notes}
@@ -150,7 +151,7 @@ BouncesDrop = (controls : Controls) (now : ℕ) (q : Queue) (a : List ℕ) (read
 
 -- Of the number of a bounce file this holds: it is preprocessed, and the file names each recipient that is noted.
 pub record IsBouncing (controls : Controls) (w : About) : Type 0 where
-  pub no_todo : w.parts Todo ≡ None
+  pub no_todo : in_todo w.parts ≡ None
   pub info : Entry
   pub info_there : w.parts Info ≡ Some info
   pub injection : Injection

@@ -4,18 +4,19 @@ use Rattle.address_rules.specs.declared.controls.Controls.{Controls}
 use Rattle.call_fs.specs.Disk.{IsSynced}
 use Rattle.queue_inject.specs.Texts.{entered}
 use Rattle.queue_paths.specs.Names.Name.{Of}
-use Rattle.queue_paths.specs.Names.Part.{Mess, Intd, Todo, Info, Bounce}
+use Rattle.queue_paths.specs.Names.Part.{Mess, Info, Bounce}
+use Rattle.queue_paths.specs.Parts.{in_intd, in_todo}
 use Rattle.queue_law.specs.Books.{Injection, IsInjected, IsValid}
 use Rattle.queue_law.specs.Numbers.{Entry, Queue, look, About, about, IsUnsorted, Sound}
 
 -- The five states of a number, by which of its names are there (INTERNALS, "Queue structure"). In the fourth, which is queued, intd, info
 -- and the channel files may be there or not; in the fifth, which is preprocessed, the channel files and the bounce file.
 pub data InState (w : About) : Type 0 where
-  First : w.parts Mess ≡ None → w.parts Intd ≡ None → w.parts Todo ≡ None → IsUnsorted w → InState w
-  Second : (mess : Entry) → w.parts Mess ≡ Some mess → w.parts Intd ≡ None → w.parts Todo ≡ None → IsUnsorted w → InState w
-  Third : (mess intd : Entry) → w.parts Mess ≡ Some mess → w.parts Intd ≡ Some intd → w.parts Todo ≡ None → IsUnsorted w → InState w
-  Fourth : (mess todo : Entry) → w.parts Mess ≡ Some mess → w.parts Todo ≡ Some todo → w.parts Bounce ≡ None → InState w
-  Fifth : (mess info : Entry) → w.parts Mess ≡ Some mess → w.parts Intd ≡ None → w.parts Todo ≡ None → w.parts Info ≡ Some info → InState w
+  First : w.parts Mess ≡ None → in_intd w.parts ≡ None → in_todo w.parts ≡ None → IsUnsorted w → InState w
+  Second : (mess : Entry) → w.parts Mess ≡ Some mess → in_intd w.parts ≡ None → in_todo w.parts ≡ None → IsUnsorted w → InState w
+  Third : (mess intd : Entry) → w.parts Mess ≡ Some mess → in_intd w.parts ≡ Some intd → in_todo w.parts ≡ None → IsUnsorted w → InState w
+  Fourth : (mess todo : Entry) → w.parts Mess ≡ Some mess → in_todo w.parts ≡ Some todo → w.parts Bounce ≡ None → InState w
+  Fifth : (mess info : Entry) → w.parts Mess ≡ Some mess → in_intd w.parts ≡ None → in_todo w.parts ≡ None → w.parts Info ≡ Some info → InState w
 
 pub record IsSafe (q : Queue) : Type 0 where
   -- each number is in one of the five states

@@ -19,7 +19,7 @@ use Rattle.queue_clean.specs.Commands.{commands, command_of, message_of}
 use Rattle.queue_clean.specs.Table.{Place, place_after, first_row, pid_path, Next as CleansNext}
 use Rattle.queue_paths.specs.Names.{Name, path, parse}
 use Rattle.queue_paths.specs.Names.Name.{Pid}
-use Rattle.queue_paths.specs.Names.Part.{Intd}
+use Rattle.queue_paths.specs.Parts.{in_intd}
 use Rattle.queue_law.specs.Books.{own_call}
 use Rattle.queue_law.specs.Numbers.{Queue, Entry, look, NamesSuit, About, about, IsPreprocessed, Sound}
 use Rattle.queue_law.specs.Numbers.Role.{AsMessage}
@@ -44,7 +44,7 @@ Needs controls (Todo n) w = IsReady controls w
 abbrev pub Rests : Controls → ℕ → Queue → Row → Type 0
 Rests controls now q (at.UnlinkIntd command) = RestsAs now q (message_of command) (Needs controls command)
 Rests controls now q (at.UnlinkSecond command) =
-    RestsAs now q (message_of command) (λ w. Needs controls command w × (w.parts Intd ≡ None))
+    RestsAs now q (message_of command) (λ w. Needs controls command w × (in_intd w.parts ≡ None))
 Rests controls now q row = Unit {0}
 
 -- the first row of a command that was taken, if one was

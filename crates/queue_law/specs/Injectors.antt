@@ -10,7 +10,8 @@ use Rattle.queue_inject.specs.Texts.{message_text, intd_text}
 use Rattle.queue_inject.specs.Table.{place_after as inject_after}
 use Rattle.queue_limits.specs.declared.times.TheConstants.{DAY, LONGEST_STALL}
 use Rattle.queue_paths.specs.Names.Name.{Pid, Of}
-use Rattle.queue_paths.specs.Names.Part.{Mess, Intd, Todo}
+use Rattle.queue_paths.specs.Names.Part.{Mess, Intd}
+use Rattle.queue_paths.specs.Parts.{in_intd, in_todo}
 use Rattle.queue_law.specs.Books.{Books, begun, last_read, IsValid, HasQueued}
 use Rattle.queue_law.specs.Numbers.{Queue, look, About, about, IsUnsorted}
 use Rattle.queue_law.specs.Numbers.Role.{AsMessage}
@@ -36,13 +37,13 @@ pub record IsBegun (w : About) (a : List ℕ) (args : Arguments) (n : ℕ) : Typ
   pub unsorted : IsUnsorted w
   pub file : File
   pub mess : w.parts Mess ≡ Some (record { number = n; file = file })
-  pub no_todo : w.parts Todo ≡ None
+  pub no_todo : in_todo w.parts ≡ None
   pub lives : w.living ≡ Some (begun a args n)
 
 -- no intd is there
 pub record IsBare (w : About) (a : List ℕ) (args : Arguments) (n : ℕ) : Type 0 where
   pub begins : IsBegun w a args n
-  pub no_intd : w.parts Intd ≡ None
+  pub no_intd : in_intd w.parts ≡ None
 
 -- the message file has these bytes so far
 pub record IsDraft (w : About) (a : List ℕ) (args : Arguments) (n : ℕ) (bytes : List ℕ) : Type 0 where

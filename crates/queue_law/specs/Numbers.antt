@@ -7,6 +7,7 @@ use Rattle.queue_inject.specs.Texts.{message_text, intd_text}
 use Rattle.queue_paths.specs.Names.{Name, Part, path}
 use Rattle.queue_paths.specs.Names.Name.{Pid, Of}
 use Rattle.queue_paths.specs.Names.Part.{Mess, Intd, Todo, Info, Local, Remote, Bounce}
+use Rattle.queue_paths.specs.Parts.{in_intd, in_todo}
 use Rattle.send_known.specs.declared.channel.Channel.{Channel}
 use Rattle.queue_law.specs.Books.{Injection, Books, IsValid}
 use Rattle.queue_law.specs.Routes.{info_of, lane_part}
@@ -111,8 +112,8 @@ IsSorted w = (part : Part) × (is_later part ≡ true) × (w.parts part ≢ None
 pub record IsFree (w : About) : Type 0 where
   pub unsorted : IsUnsorted w
   pub not_accepted : (i : Injection) → w.living ≡ Some i → i.accepted ≡ true → ⊥
-  pub no_todo : w.parts Todo ≡ None
-  pub intd_below : w.parts Mess ≡ None → w.parts Intd ≡ None
+  pub no_todo : in_todo w.parts ≡ None
+  pub intd_below : w.parts Mess ≡ None → in_intd w.parts ≡ None
 
 -- its message is accepted, whole, and on the disk
 pub record IsTaken (controls : Controls) (w : About) : Type 0 where
@@ -130,7 +131,7 @@ pub record IsTaken (controls : Controls) (w : About) : Type 0 where
 pub record IsQueued (controls : Controls) (w : About) : Type 0 where
   pub taken : IsTaken controls w
   pub todo : Entry
-  pub todo_there : w.parts Todo ≡ Some todo
+  pub todo_there : in_todo w.parts ≡ Some todo
   pub text : IsSynced todo.file (intd_text taken.injection.args).bytes
   pub no_bounce : w.parts Bounce ≡ None
   pub unnoted : taken.injection.ledger.noted ≡ []
@@ -151,8 +152,8 @@ file_in (Some y) = Some y.file
 -- channel file is there nothing is returned.
 pub record IsPreprocessed (controls : Controls) (w : About) : Type 0 where
   pub taken : IsTaken controls w
-  pub no_todo : w.parts Todo ≡ None
-  pub no_intd : w.parts Intd ≡ None
+  pub no_todo : in_todo w.parts ≡ None
+  pub no_intd : in_intd w.parts ≡ None
   pub info : Entry
   pub info_there : w.parts Info ≡ Some info
   pub text : IsSynced info.file (info_of taken.injection.args)
@@ -166,8 +167,8 @@ pub record IsFinished (controls : Controls) (w : About) : Type 0 where
   pub lives : w.living ≡ Some injection
   pub accepted : injection.accepted ≡ true
   pub message : (y : Entry) → w.parts Mess ≡ Some y → IsSynced y.file (message_text injection.args).bytes
-  pub no_todo : w.parts Todo ≡ None
-  pub no_intd : w.parts Intd ≡ None
+  pub no_todo : in_todo w.parts ≡ None
+  pub no_intd : in_intd w.parts ≡ None
   pub unsorted : IsUnsorted w
   pub settled : IsSettled controls injection
 
@@ -197,5 +198,5 @@ pub record Sound (controls : Controls) (q : Queue) : Type 0 where
 -- injection's life is over.
 pub record IsEarly (q : Queue) : Type 0 where
   pub unsorted : (n : ℕ) → IsUnsorted (about q n)
-  pub waits : (n : ℕ) (i : Injection) → q.books.living n ≡ Some i → i.accepted ≡ true → look q (Of Todo n) ≢ None
+  pub waits : (n : ℕ) (i : Injection) → q.books.living n ≡ Some i → i.accepted ≡ true → in_todo (about q n).parts ≢ None
   pub none_over : (i : Injection) → Among i q.books.over → i.accepted ≡ true → ⊥

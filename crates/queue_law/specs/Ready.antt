@@ -3,7 +3,8 @@ use Rattle.std.specs.Prelude.{◌≡◌, List, [], ℕ, Some, None}
 use Rattle.address_rules.specs.declared.controls.Controls.{Controls}
 use Rattle.call_fs.specs.Disk.{IsSynced}
 use Rattle.queue_paths.specs.Names.{Part}
-use Rattle.queue_paths.specs.Names.Part.{Todo, Info}
+use Rattle.queue_paths.specs.Names.Part.{Info}
+use Rattle.queue_paths.specs.Parts.{in_todo}
 use Rattle.send_known.specs.declared.channel.Channel.{Channel}
 use Rattle.queue_law.specs.Routes.{info_of, lane_text, lane_part}
 use Rattle.queue_law.specs.Numbers.{Entry, About, IsUnsorted, IsQueued}
@@ -11,7 +12,7 @@ use Rattle.queue_law.specs.Numbers.{Entry, About, IsUnsorted, IsQueued}
 -- Nothing of the message is wanted: it doesn't wait in todo, and preprocessing left nothing.
 pub record IsSpent (w : About) : Type 0 where
   pub unsorted : IsUnsorted w
-  pub no_todo : w.parts Todo ≡ None
+  pub no_todo : in_todo w.parts ≡ None
 
 -- the file of a part is there, with just this text, and all of it is on the disk
 pub record HasSynced (w : About) (part : Part) (text : List ℕ) : Type 0 where

@@ -14,7 +14,8 @@ use Rattle.call_fs.specs.Apply.{effect, Fits}
 use Rattle.call_fs.specs.Disk.{Among, File, Open as OpenFile}
 use Rattle.queue_paths.specs.Names.{Name, Part, path}
 use Rattle.queue_paths.specs.Names.Name.{Of}
-use Rattle.queue_paths.specs.Names.Part.{Mess, Todo, Info, Bounce}
+use Rattle.queue_paths.specs.Names.Part.{Mess, Info, Bounce}
+use Rattle.queue_paths.specs.Parts.{in_todo}
 use Rattle.send_known.specs.declared.channel.Channel.{Channel}
 use Rattle.queue_law.specs.Ledgers.{Bounced, Ledger, Line}
 use Rattle.queue_law.specs.Ledgers.Line.{Delivers, Drops, Fails, Notes, Reads, Returns}
@@ -52,7 +53,7 @@ OnlyReads q a call = ⊥
 
 -- the number is preprocessed, and of this channel a file is there, of the injection whose life lasts
 pub record HasLane (w : About) (ch : Channel) : Type 0 where
-  pub no_todo : w.parts Todo ≡ None
+  pub no_todo : in_todo w.parts ≡ None
   pub file : Entry
   pub there : w.parts (lane_part ch) ≡ Some file
   pub injection : Injection
@@ -74,7 +75,7 @@ pub record MayDrop (controls : Controls) (w : About) (ch : Channel) : Type 0 whe
 
 -- The info file may go: the number is preprocessed, and its channel files are gone, and so is its bounce file.
 pub record MayEnd (w : About) : Type 0 where
-  pub no_todo : w.parts Todo ≡ None
+  pub no_todo : in_todo w.parts ≡ None
   pub info : Entry
   pub there : w.parts Info ≡ Some info
   pub gone : (ch : Channel) → w.parts (lane_part ch) ≡ None
@@ -82,7 +83,7 @@ pub record MayEnd (w : About) : Type 0 where
 
 -- A bounce that carries these notes may be entered: they were read of the bounce file, once both channel files were gone.
 pub record MayReturn (w : About) (l : Ledger) (b : Bounced) : Type 0 where
-  pub no_todo : w.parts Todo ≡ None
+  pub no_todo : in_todo w.parts ≡ None
   pub gone : (ch : Channel) → w.parts (lane_part ch) ≡ None
   pub read : Among b.notes l.reads
 

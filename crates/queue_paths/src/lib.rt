@@ -9,6 +9,7 @@
 //! - The number of splits, as a figure: the law `splits_are_23`.
 //! - Names of the queue's files, their texts, and reading them back: `split`, `path`, `parse`, and the law
 //!   `names_are_exact`.
+//! - What a number has in intd and in todo, by its names, as all laws say it: the law `waits_are_named`.
 //! - The directories that hold them, one list for the model, the disk of a script and a real directory:
 //!   `queue_dirs`, `split_dir`.
 #![tactic(auto)]
@@ -18,5 +19,5 @@ mod laws;
 mod names;
 
 pub use dirs::{FLAT_DIRS, SPLIT_DIRS, SPLITS, queue_dirs, split_dir};
-pub use laws::{names_are_exact, splits_are_23};
+pub use laws::{names_are_exact, splits_are_23, waits_are_named};
 pub use names::{Name, parse, path, split};

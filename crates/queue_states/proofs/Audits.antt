@@ -22,6 +22,7 @@ use Rattle.queue_states.specs.Found.{has, has_in, state_with, entry_of, is_found
 use Rattle.queue_states.specs.Audit.{HasFile, HasQueueDirs, IsAscending, IsAuditOf, IsNameCount, AreStates}
 use Rattle.queue_states.proofs.Gathered.{none_found}
 use Rattle.queue_states.proofs.MessageFiles.{lies_in}
+use Rattle.queue_states.proofs.States.{state_named}
 use Rattle.queue_states.proofs.Searches.{told_both, told_each}
 
 -- the state of files that are there just if these tests say so
@@ -80,7 +81,7 @@ module _ (d : Disk) (none found : BTreeMap ℕ Files) (empty : none.entries ≡ 
       no_entry n files e = let gone : get nat_cmp none n ≡ None = rw empty refl in cc
 
   state_is : (n : ℕ) (files : Files) → IsTrue (is_number n) → get nat_cmp found n ≡ Some files → state_with files ≡ state_of d n
-  state_is n files number at = state_same files (λ part. is_there d part n) (λ part. sym (ap (λ o. has_in o part) at) ∙ exact part n number)
+  state_is n files number at = state_same files (λ part. is_there d part n) (λ part. sym (ap (λ o. has_in o part) at) ∙ exact part n number) ∙ sym (state_named d n)
 
   known : (n : ℕ) (files : Files) → get nat_cmp found n ≡ Some files → IsTrue (is_number n) × HasFile d n
   known n files at =

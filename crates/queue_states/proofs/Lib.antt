@@ -6,5 +6,7 @@ pub mod MessageFiles
 pub mod Gathered
 -- searches of a disk that may tell what it holds
 pub mod Searches
+-- a state by the very names
+pub mod States
 -- a whole audit
 pub mod Audits

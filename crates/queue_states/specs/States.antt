@@ -2,7 +2,8 @@
 use Rattle.std.specs.Prelude.{ℕ, Bool, true, false, List, [], ◌∷◌, is_some}
 use Rattle.call_fs.specs.Disk.{Disk}
 use Rattle.queue_paths.specs.Names.{Part, path}
-use Rattle.queue_paths.specs.Names.Part.{Mess, Intd, Todo, Info, Local, Remote, Bounce}
+use Rattle.queue_paths.specs.Parts.{in_intd, in_todo, parts_of}
+use Rattle.queue_paths.specs.Names.Part.{Mess, Info, Local, Remote, Bounce}
 use Rattle.queue_paths.specs.Names.Name.{Of}
 use Rattle.queue_states.specs.declared.state.State.{State}
 use Rattle.queue_states.specs.declared.state.State.TheVariants.{S1, S2, S3, S4, S5, Other}
@@ -24,7 +25,14 @@ state_by_all present = Other
 abbrev pub is_there : Disk → Part → ℕ → Bool
 is_there d part n = is_some (d.names (path (Of part n)))
 
+-- it has a name in intd, and in todo
+abbrev pub is_in_intd : Disk → ℕ → Bool
+is_in_intd d n = is_some (in_intd (parts_of d.names n))
+
+abbrev pub is_in_todo : Disk → ℕ → Bool
+is_in_todo d n = is_some (in_todo (parts_of d.names n))
+
 -- the state of number n on this disk
 abbrev pub state_of : Disk → ℕ → State
 state_of d n =
-    state_by (is_there d Mess n) (is_there d Intd n) (is_there d Todo n) (is_there d Info n) (is_there d Local n) (is_there d Remote n) (is_there d Bounce n)
+    state_by (is_there d Mess n) (is_in_intd d n) (is_in_todo d n) (is_there d Info n) (is_there d Local n) (is_there d Remote n) (is_there d Bounce n)

@@ -32,7 +32,7 @@ use Rattle.send_core.specs.declared.desk.Desk.{Desk}
 use Rattle.send_parts.specs.declared.row.Row.TheVariants as at
 use Rattle.send_parts.specs.declared.row.Row.{Row}
 use Rattle.send_known.specs.Messages.{learned}
-use Rattle.send_parts.specs.Files.{message_number}
+use Rattle.send_parts.specs.Files.{message_number, number_below}
 use Rattle.send_parts.specs.Readings.{begun_at, read_on}
 use Rattle.send_parts.specs.Replies.{Said, said}
 use Rattle.send_parts.specs.Rows.{is_again}
@@ -137,7 +137,7 @@ named_not None split = refl
 named_not (Some n) split = refl
 
 scanned_not : (w : Way) (text : List ℕ) (split : ℕ) (b : Book) → is_coming (scanned w text split b).row ≡ false
-scanned_not way.Fine text split b = named_not (message_number text) split
+scanned_not way.Fine text split b = named_not (number_below split text) split
 scanned_not way.Over text split b = either_not (nat_lt split 22) (start.Scan (split + 1)) start.Over refl refl
 scanned_not way.Absent text split b = failed_not way.Absent
 scanned_not way.Broken text split b = failed_not way.Broken

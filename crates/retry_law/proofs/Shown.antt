@@ -128,8 +128,8 @@ module _ (c : Channel) (n : ℕ) where
 
   sweep_none : {A : Type 0} (row : SweepRow) (d : Desk) (got : GotData) → Shows (due_at (at.Sweep row) d) got → A
   sweep_none (sweep.StatMess split k) d got e = not_file (Of MessFile k) (no_mess c n k) (stat_of (Of MessFile k) got e)
-  sweep_none (sweep.StatInfo split k) d got e = not_file (Of InfoFile k) (no_info c n k) (stat_of (Of InfoFile k) got e)
-  sweep_none (sweep.StatTodo split k info) d got e = not_file (Of TodoFile k) (no_todo c k) (stat_of (Of TodoFile k) got e)
+  sweep_none (sweep.StatTodo split k) d got e = not_file (Of TodoFile k) (no_todo c k) (stat_of (Of TodoFile k) got e)
+  sweep_none (sweep.StatInfo split k todo) d got e = not_file (Of InfoFile k) (no_info c n k) (stat_of (Of InfoFile k) got e)
   sweep_none row d got e = absurd (cc)
 
   row_shows : (row : Row) (d : Desk) (got : GotData) → Shows (due_at row d) got → meets row d.pass ≡ Some n

@@ -405,11 +405,7 @@ all_offered p most pipe came more e took ends = bytes_offered p most pipe came (
 
 some_most : (program : Program) → 0 < most_of program
 some_most (Cleaner start) = omega arith
-some_most (Injector args) = omega arith
-some_most (Sender start) = omega arith
-some_most (LocalSpawner start) = omega arith
-some_most (RemoteSpawner start) = omega arith
-some_most (Delivery start args) = omega arith
+some_most other = omega arith
 
 -- so it may come, and is of the kind of what was due
 pub record Comes (s : State) (a : List ℕ) (due : NeedData) (came : GotData) : Type 0 where
@@ -439,10 +435,7 @@ IsFedBy s a due = Unit {0}
 takes_any : (program : Program) (bytes : List ℕ) → IsAlone program → (IsMail program → ⊥) → IsInputOf program bytes
 takes_any (Injector args) bytes alone never = absurd (never tt)
 takes_any (Delivery start args) bytes alone never = tt
-takes_any (Cleaner start) bytes alone never = absurd alone
-takes_any (Sender start) bytes alone never = absurd alone
-takes_any (LocalSpawner start) bytes alone never = absurd alone
-takes_any (RemoteSpawner start) bytes alone never = absurd alone
+takes_any other bytes alone never = absurd alone
 
 fed_slot : (s : State) (a bytes : List ℕ) (d : ℕ) (o : Option Tenant) → s.pipework.programs a d ≡ o → Carries s → GivesNoMail s a (needs.Give (port.Program d) bytes) → IsFed s o bytes
 fed_slot s a bytes d None is carries never = tt

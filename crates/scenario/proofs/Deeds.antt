@@ -15,7 +15,7 @@ use Rattle.world_events.specs.Starting.{starts_in}
 use Rattle.world_events.specs.declared.event.Event.{Event as Kept}
 use Rattle.world_events.specs.declared.event.Event.TheVariants as kept
 use Rattle.world_events.specs.declared.event.Program.{Program}
-use Rattle.world_events.specs.declared.event.Program.TheVariants.{Injector, Cleaner, Sender, LocalSpawner, RemoteSpawner, Delivery}
+use Rattle.world_events.specs.declared.event.Program.TheVariants.{Injector, Delivery}
 use Rattle.mail_world.specs.ByKind.{IsMail}
 use Rattle.mail_world.specs.Generations.{started_in as kept_started, starts_of as kept_starts}
 use Rattle.mail_world.specs.History.{Event, started_by}
@@ -189,10 +189,7 @@ texts_mail message envelope other mail = absurd mail
 pub texts_named : (a message envelope : List ℕ) (program : Program) → IsNamedSo a program → IsNamedSo a (with_texts message envelope program)
 texts_named a message envelope (Injector args) named = named
 texts_named a message envelope (Delivery start args) named = named
-texts_named a message envelope (Cleaner start) named = absurd named
-texts_named a message envelope (Sender start) named = absurd named
-texts_named a message envelope (LocalSpawner start) named = absurd named
-texts_named a message envelope (RemoteSpawner start) named = absurd named
+texts_named a message envelope other named = absurd named
 
 -- the starts are as they should be, whatever input stands in them
 pub starts_begun : (c message envelope : List ℕ) (h : List Event) → AreNamedStarts h → AreNamedStarts (begun_with c message envelope h)

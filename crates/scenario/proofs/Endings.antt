@@ -18,7 +18,7 @@ use Rattle.call_fs.specs.Disk.{Disk}
 use Rattle.call_fs.specs.Plan.{Plan}
 use Rattle.world_events.specs.Children.{Counts, child_of}
 use Rattle.world_events.specs.declared.event.Program.{Program}
-use Rattle.world_events.specs.declared.event.Program.TheVariants.{Injector, Cleaner, Sender, LocalSpawner, RemoteSpawner, Delivery}
+use Rattle.world_events.specs.declared.event.Program.TheVariants.{Injector, Sender, LocalSpawner, Delivery}
 use Rattle.mail_world.specs.Generations.{lives_in, is_unreported, lowest_unreported}
 use Rattle.mail_world.specs.History.{Actor, Life, State, IsDelivery, IsLocalSpawner, IsSender, next_of, program_of, report_text}
 use Rattle.mail_world.specs.History.Life.{Alive, Over, Stopped}
@@ -56,12 +56,8 @@ gives_two s a x carries is (needs.Give (port.Program d) bytes) next = by_tenant 
     by_program c (Some (Injector args)) at of =
         let gives = feeder_gives x.program x.past s.now (found_in s a) d bytes (feeds_so s a x d c args carries is at of) (carries.runs a x is) next in
         (gives.texts.message, gives.texts.envelope, gives.texts.are)
-    by_program c (Some (Cleaner start)) at of = tt
-    by_program c (Some (Sender start)) at of = tt
-    by_program c (Some (LocalSpawner start)) at of = tt
-    by_program c (Some (RemoteSpawner start)) at of = tt
-    by_program c (Some (Delivery start args)) at of = tt
     by_program c None at of = tt
+    by_program c (Some other) at of = tt
 
     by_tenant : (o : Option Tenant) → s.pipework.programs a d ≡ o → AreTextsFor s o bytes
     by_tenant None at = tt

@@ -25,6 +25,7 @@ use Rattle.world_events.specs.declared.event.Event.{Event as Kept}
 use Rattle.world_events.specs.declared.event.Event.TheVariants as kept
 use Rattle.world_events.specs.declared.event.Program.{Program}
 use Rattle.world_events.specs.declared.event.Program.TheVariants.{Injector, Cleaner, Sender, LocalSpawner, RemoteSpawner, Delivery}
+use Rattle.mail_world.specs.ByKind.{IsMail}
 use Rattle.mail_world.specs.History.{Event, Actor, Life, State, Allowed, IsSender, Legal, MayBear, MayDo, MayRun, acted, after, begins, books_after, bouncer_of, finished, happens, newborn, next_of, slot_by, stopped}
 use Rattle.mail_world.specs.History.Event.{Start, Act, Child, Generation, Report, End, Stop, Moment, Halt}
 use Rattle.mail_world.specs.History.Life.{Over, Stopped}
@@ -37,6 +38,7 @@ use Rattle.scenario.specs.Fates.{AreNamedStarts, IsNamedStart, IsNamedSo, is_del
 use Rattle.script_fates.specs.Entering.{HasDue, booked_after, heard_after, heard_by}
 use Rattle.scenario.specs.inside.Fates.{AreNamed, Follows, HasDone, IsHeard, IsReadAs, TellsRead}
 use Rattle.mail_world.proofs.Coming.{may_come}
+use Rattle.mail_world.proofs.Programs.{mail_runs}
 use Rattle.scenario.proofs.KeptEvents.{act_told, child_told}
 
 -- what an actor did by an event of its own, and by the start of a child
@@ -103,20 +105,13 @@ stopped_is (Some x) y is = (x, refl, let same : stopped x ≡ y = some_is (stopp
 -- no sender has such a name
 no_sender_named : (a : List ℕ) (program : Program) → IsNamedSo a program → IsSender program → ⊥
 no_sender_named a (Injector args) named sends = sends
-no_sender_named a (Cleaner start) named sends = named
-no_sender_named a (Sender start) named sends = named
-no_sender_named a (LocalSpawner start) named sends = named
-no_sender_named a (RemoteSpawner start) named sends = named
 no_sender_named a (Delivery start args) named sends = sends
+no_sender_named a other named sends = named
 
--- and who has a delivery's starts alone
-no_delivery_runs : (a : List ℕ) (program : Program) → is_delivery_name a ≡ true → IsNamedSo a program → MayRun program → ⊥
+-- and no injector has a delivery's
+no_delivery_runs : (a : List ℕ) (program : Program) → is_delivery_name a ≡ true → IsNamedSo a program → IsMail program → ⊥
 no_delivery_runs a (Injector args) is named runs = let both : true ≡ false = sym is ∙ named in absurd (cc)
-no_delivery_runs a (Cleaner start) is named runs = runs
-no_delivery_runs a (Sender start) is named runs = runs
-no_delivery_runs a (LocalSpawner start) is named runs = runs
-no_delivery_runs a (RemoteSpawner start) is named runs = runs
-no_delivery_runs a (Delivery start args) is named runs = runs
+no_delivery_runs a other is named runs = runs
 
 -- the members of a generation
 is_member_sender : Contains members (codes "sender")
@@ -408,20 +403,14 @@ heard_apart m s a own wrote (Some x) apart h =
     subst (IsHeard m) (sym (put_at_other s.actors a (Some y) (codes "sender") (λ e. apart (sym e)))) h
 
 -- one that sends nothing and links nothing
-quiet_books : (child : Option Bouncer) (b : Books) (a : List ℕ) (program : Program) (past : List Own) (read : ℕ) (ready : Ready) (due : NeedData) (came : GotData) → (MayRun program → ⊥) → (IsSender program → ⊥)
+quiet_books : (child : Option Bouncer) (b : Books) (a : List ℕ) (program : Program) (past : List Own) (read : ℕ) (ready : Ready) (due : NeedData) (came : GotData) → (IsMail program → ⊥) → (IsSender program → ⊥)
     → books_after child b a program past read ready due came ≡ b
 quiet_books child b a (Injector args) past read ready due came runs sends = absurd (runs tt)
 quiet_books child b a (Sender start) past read ready due came runs sends = absurd (sends tt)
-quiet_books child b a (Cleaner start) past read ready (needs.File c) (got.Answered told) runs sends = refl
-quiet_books child b a (Cleaner start) past read ready due came runs sends = refl
-quiet_books child b a (LocalSpawner start) past read ready (needs.File c) (got.Answered told) runs sends = refl
-quiet_books child b a (LocalSpawner start) past read ready due came runs sends = refl
-quiet_books child b a (RemoteSpawner start) past read ready (needs.File c) (got.Answered told) runs sends = refl
-quiet_books child b a (RemoteSpawner start) past read ready due came runs sends = refl
-quiet_books child b a (Delivery start args) past read ready (needs.File c) (got.Answered told) runs sends = refl
-quiet_books child b a (Delivery start args) past read ready due came runs sends = refl
+quiet_books child b a other past read ready (needs.File c) (got.Answered told) runs sends = refl
+quiet_books child b a other past read ready due came runs sends = refl
 
-follows_quiet : (f : Following) (s : State) (a : List ℕ) (own : Own) (wrote : ℕ) → a ≢ codes "sender" → ((x : Actor) → s.actors a ≡ Some x → MayRun x.program → ⊥)
+follows_quiet : (f : Following) (s : State) (a : List ℕ) (own : Own) (wrote : ℕ) → a ≢ codes "sender" → ((x : Actor) → s.actors a ≡ Some x → IsMail x.program → ⊥)
     → ((x : Actor) → s.actors a ≡ Some x → IsSender x.program → ⊥) → Follows f s → Follows f (acted s a own wrote (s.actors a))
 follows_quiet f s a own wrote apart runs sends h = by (s.actors a) refl where
   by : (o : Option Actor) → s.actors a ≡ o → Follows f (acted s a own wrote o)
@@ -435,7 +424,7 @@ pub apart_by : (a : List ℕ) → bytes_eq a (codes "sender") ≡ false → a �
 apart_by a differs e = let same : true ≡ false = ap (λ (b : List ℕ). bytes_eq b (codes "sender")) (sym e) ∙ differs in absurd (cc)
 
 pub follows_member : (f : Following) (s : State) (a : List ℕ) (own : Own) (wrote : ℕ) → AreNamed s → a ≢ codes "sender" → Contains members a → Follows f s → Follows f (acted s a own wrote (s.actors a))
-follows_member f s a own wrote named apart member h = follows_quiet f s a own wrote apart (λ x is. named.member a x is member) (λ x is sends. apart (named.sender a x is sends)) h
+follows_member f s a own wrote named apart member h = follows_quiet f s a own wrote apart (λ x is mail. named.member a x is member (mail_runs x.program mail)) (λ x is sends. apart (named.sender a x is sends)) h
 
 pub follows_delivery : (f : Following) (s : State) (a : List ℕ) (own : Own) (wrote : ℕ) → AreNamed s → a ≢ codes "sender" → ¬ (Contains members a) → is_delivery_name a ≡ true
     → Follows f s → Follows f (acted s a own wrote (s.actors a))
@@ -444,11 +433,8 @@ follows_delivery f s a own wrote named apart alone delivers h =
 
 mail_is : (a : List ℕ) (program : Program) → is_delivery_name a ≡ false → IsNamedSo a program → (args : Arguments) × (program ≡ Injector args)
 mail_is a (Injector args) none named = (args, refl)
-mail_is a (Cleaner start) none named = absurd named
-mail_is a (Sender start) none named = absurd named
-mail_is a (LocalSpawner start) none named = absurd named
-mail_is a (RemoteSpawner start) none named = absurd named
 mail_is a (Delivery start args) none named = let both : true ≡ false = sym named ∙ none in absurd (cc)
+mail_is a other none named = absurd named
 
 -- what an injector's event enters, so too
 booked_is : (child : Option Bouncer) (b : Books) (a : List ℕ) (args : Arguments) (past : List Own) (read : ℕ) (ready : Ready) (due : NeedData) (came : GotData)

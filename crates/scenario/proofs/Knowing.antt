@@ -15,7 +15,7 @@ use Rattle.call_fs.specs.declared.program.Ready.{Ready}
 use Rattle.call_fs.specs.declared.program.TheConstants.{INPUT_READY}
 use Rattle.world_events.specs.declared.event.Event.{Event as Kept}
 use Rattle.world_events.specs.declared.event.Program.{Program}
-use Rattle.world_events.specs.declared.event.Program.TheVariants.{Injector, Cleaner, Sender, LocalSpawner, RemoteSpawner, Delivery}
+use Rattle.world_events.specs.declared.event.Program.TheVariants.{Injector, Cleaner, Sender}
 use Rattle.world_pipes.specs.Pipes.{offered}
 use Rattle.mail_world.specs.Generations.{CanNot, Waits, idled_by, is_unreported, lives_in, lowest_unreported}
 use Rattle.mail_world.specs.History.{Event, Actor, State, MayReport, after, next_of, program_of}
@@ -59,9 +59,7 @@ module _ (s t : State) (actors : s.actors ≡ t.actors) (pipework : s.pipework �
       let f : Pipework → Bool → Ready = λ w b.
       record { links = is_ready (w.pipes a port.Clean) ∷ is_ready (w.pipes a port.Lspawn) ∷ is_ready (w.pipes a port.Rspawn) ∷ false ∷ []; child = only_child b } in
       ap (λ (w : Pipework). f w (has_ended s (s.pipework.programs a 0))) pipework ∙ ap (f t.pipework) (slot_same a 0)
-  by_program a (LocalSpawner start) = or_child_same a
-  by_program a (RemoteSpawner start) = or_child_same a
-  by_program a (Delivery start args) = or_child_same a
+  by_program a other = or_child_same a
 
   by_actor : (a : List ℕ) (o : Option Actor) → found_at s a o ≡ found_at t a o
   by_actor a None = refl

@@ -11,7 +11,7 @@ use Rattle.call_fs.specs.declared.past.NeedData.{NeedData}
 use Rattle.call_fs.specs.declared.past.NeedData.TheVariants as needs
 use Rattle.queue_inject.specs.declared.injection.Arguments.{Arguments}
 use Rattle.world_events.specs.declared.event.Program.{Program}
-use Rattle.world_events.specs.declared.event.Program.TheVariants.{Injector, Cleaner, Sender, LocalSpawner, RemoteSpawner, Delivery}
+use Rattle.world_events.specs.declared.event.Program.TheVariants.{Injector}
 use Rattle.mail_world.specs.History.{Life, State, Actor, call_act, next_of, program_of}
 use Rattle.mail_world.specs.History.Life.{Alive, Over, Stopped}
 use Rattle.mail_world.specs.Pipework.{Tenant}
@@ -35,12 +35,8 @@ to_one : (program : Option Program) (c a : List ℕ) (own : Own) (bytes : List �
 to_one (Some (Injector args)) c a own bytes o p h k =
     let same = one_giving h.0 k.0 h.1 k.1 (sym h.2 ∙ k.2) in
     h.3 ∙ ap (λ (m : List ℕ). Happens (Fed a own c m h.1)) same.0 ∙ ap (λ (e : List ℕ). Happens (Fed a own c k.0 e)) same.1 ∙ sym k.3
-to_one (Some (Cleaner start)) c a own bytes o p h k = h ∙ sym k
-to_one (Some (Sender start)) c a own bytes o p h k = h ∙ sym k
-to_one (Some (LocalSpawner start)) c a own bytes o p h k = h ∙ sym k
-to_one (Some (RemoteSpawner start)) c a own bytes o p h k = h ∙ sym k
-to_one (Some (Delivery start args)) c a own bytes o p h k = h ∙ sym k
 to_one None c a own bytes o p h k = h ∙ sym k
+to_one (Some other) c a own bytes o p h k = h ∙ sym k
 
 gives_one : (s : State) (a : List ℕ) (own : Own) (bytes : List ℕ) (tenant : Option Tenant) (o p : Outcome) → Gives s a own bytes tenant o → Gives s a own bytes tenant p → o ≡ p
 gives_one s a own bytes None o p h k = h ∙ sym k

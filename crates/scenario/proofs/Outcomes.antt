@@ -12,7 +12,7 @@ use Rattle.crash_fs.specs.Answers.{IsFinite}
 use Rattle.crash_fs.proofs.Decided.{Decided}
 use Rattle.crash_fs.proofs.GivenAnswers.{has_answer}
 use Rattle.world_events.specs.declared.event.Program.{Program}
-use Rattle.world_events.specs.declared.event.Program.TheVariants.{Injector, Cleaner, Sender, LocalSpawner, RemoteSpawner, Delivery}
+use Rattle.world_events.specs.declared.event.Program.TheVariants.{Injector}
 use Rattle.mail_world.specs.Acting.{MayMake}
 use Rattle.mail_world.specs.History.{Actor, Life, State, call_act, netstring, next_of, program_of}
 use Rattle.mail_world.specs.History.Event.{Act, End}
@@ -45,12 +45,8 @@ only_waits s n a due (Some came) why e = absurd (cc)
 
 to_not : (o : Option Program) (c a : List ℕ) (own : Own) (bytes : List ℕ) (why : Refusal) → GivesTo o c a own bytes (Is why) → why ≡ NotWaiting
 to_not (Some (Injector args)) c a own bytes why h = let e = h.3 in absurd (cc)
-to_not (Some (Cleaner start)) c a own bytes why h = absurd (cc)
-to_not (Some (Sender start)) c a own bytes why h = absurd (cc)
-to_not (Some (LocalSpawner start)) c a own bytes why h = absurd (cc)
-to_not (Some (RemoteSpawner start)) c a own bytes why h = absurd (cc)
-to_not (Some (Delivery start args)) c a own bytes why h = absurd (cc)
 to_not None c a own bytes why h = absurd (cc)
+to_not (Some other) c a own bytes why h = absurd (cc)
 
 gives_not : (s : State) (a : List ℕ) (own : Own) (bytes : List ℕ) (o : Option Tenant) (why : Refusal) → Gives s a own bytes o (Is why) → why ≡ NotWaiting
 gives_not s a own bytes None why h = absurd (cc)
@@ -115,12 +111,8 @@ GivesTexts s a due = Unit {0}
 
 to_some : (o : Option Program) (c a : List ℕ) (own : Own) (bytes : List ℕ) → AreTextsTo o bytes → (outcome : Outcome) × GivesTo o c a own bytes outcome
 to_some (Some (Injector args)) c a own bytes texts = (Happens (Fed a own c texts.0 texts.1), (texts.0, texts.1, texts.2, refl))
-to_some (Some (Cleaner start)) c a own bytes texts = (Happens (Came (Act a own 0)), refl)
-to_some (Some (Sender start)) c a own bytes texts = (Happens (Came (Act a own 0)), refl)
-to_some (Some (LocalSpawner start)) c a own bytes texts = (Happens (Came (Act a own 0)), refl)
-to_some (Some (RemoteSpawner start)) c a own bytes texts = (Happens (Came (Act a own 0)), refl)
-to_some (Some (Delivery start args)) c a own bytes texts = (Happens (Came (Act a own 0)), refl)
 to_some None c a own bytes texts = (Happens (Came (Act a own 0)), refl)
+to_some (Some other) c a own bytes texts = (Happens (Came (Act a own 0)), refl)
 
 gives_some : (s : State) (a : List ℕ) (own : Own) (bytes : List ℕ) (o : Option Tenant) → AreTextsFor s o bytes → (outcome : Outcome) × Gives s a own bytes o outcome
 gives_some s a own bytes None texts = (Happens (Came (Act a own 0)), refl)

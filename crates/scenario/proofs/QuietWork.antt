@@ -181,11 +181,7 @@ calm_gives : (plan : Plan) (a : List ℕ) (own : Own) (bytes : List ℕ) (child 
     → GivesTo child c a own bytes (Happens x) → IsCalm plan x
 calm_gives plan a own bytes (Some (program.Injector args)) c x plain fed g = calm_as plan x _ g.3 (fed g.0 g.1)
 calm_gives plan a own bytes None c x plain fed g = calm_as plan x _ g plain
-calm_gives plan a own bytes (Some (program.Cleaner start)) c x plain fed g = calm_as plan x _ g plain
-calm_gives plan a own bytes (Some (program.Sender start)) c x plain fed g = calm_as plan x _ g plain
-calm_gives plan a own bytes (Some (program.LocalSpawner start)) c x plain fed g = calm_as plan x _ g plain
-calm_gives plan a own bytes (Some (program.RemoteSpawner start)) c x plain fed g = calm_as plan x _ g plain
-calm_gives plan a own bytes (Some (program.Delivery start args)) c x plain fed g = calm_as plan x _ g plain
+calm_gives plan a own bytes (Some other) c x plain fed g = calm_as plan x _ g plain
 
 calm_given : (plan : Plan) (s : State) (a : List ℕ) (own : Own) (bytes : List ℕ) (tenant : Option Tenant) (x : Deed) → IsCalm plan (Came (Act a own 0)) → ((c message envelope : List ℕ) → IsCalm plan (Fed a own c message envelope))
     → Gives s a own bytes tenant (Happens x) → IsCalm plan x

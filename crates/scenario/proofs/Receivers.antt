@@ -10,7 +10,7 @@ use Rattle.world_events.specs.Programs.{injection_of}
 use Rattle.world_events.specs.declared.event.Event.{Event as Kept}
 use Rattle.world_events.specs.declared.event.Event.TheVariants as kept
 use Rattle.world_events.specs.declared.event.Program.{Program}
-use Rattle.world_events.specs.declared.event.Program.TheVariants.{Injector, Cleaner, Sender, LocalSpawner, RemoteSpawner, Delivery}
+use Rattle.world_events.specs.declared.event.Program.TheVariants.{Injector, Delivery}
 use Rattle.mail_world.specs.Books.{mail_by, mails_of}
 use Rattle.queue_law.proofs.Tests.{other_text}
 use Rattle.mail_world.specs.History.{Event}
@@ -203,11 +203,7 @@ whole_all (k ∷ ks) (e ∷ h) mails told = (whole_event k e told.0 mails.0, who
 -- so it was before a child was given its input
 named_before : (a message envelope : List ℕ) (program : Program) → IsNamedSo a (with_texts message envelope program) → IsNamedSo a program
 named_before a message envelope (Injector args) is = is
-named_before a message envelope (Cleaner start) is = is
-named_before a message envelope (Sender start) is = is
-named_before a message envelope (LocalSpawner start) is = is
-named_before a message envelope (RemoteSpawner start) is = is
-named_before a message envelope (Delivery start args) is = is
+named_before a message envelope other is = is
 
 whole_before : (c message envelope : List ℕ) (ks : List Kept) → AllByRecursion IsWhole (start_with c message envelope ks) → AllByRecursion IsWhole ks
 whole_before c message envelope [] whole = tt
@@ -243,13 +239,10 @@ started_with c message envelope ((kept.Child a own b program) ∷ ks) injects wh
   by_program : (program : Program) → IsNamedSo b program → receivers_in (start_with c message envelope ks) ≡ given_to c envelope (receivers_in ks)
       → receivers_in (start_with c message envelope (kept.Child a own b program ∷ ks)) ≡ given_to c envelope (receivers_in (kept.Child a own b program ∷ ks))
   by_program (Injector args) mail same = by_name args (bytes_eq b c) same
-  by_program (Cleaner start) mail same = absurd mail
-  by_program (Sender start) mail same = absurd mail
-  by_program (LocalSpawner start) mail same = absurd mail
-  by_program (RemoteSpawner start) mail same = absurd mail
   by_program (Delivery start args) mail same =
       let far : b ≢ c = λ e. let both : true ≡ false = sym mail ∙ ap is_delivery_name e ∙ injects in absurd (cc) in
       ap (λ (t : Bool). receivers_in (if t then (kept.Child a own b (Delivery start args)) ∷ ks else (kept.Child a own b (Delivery start args) ∷ start_with c message envelope ks))) (other_text b c far) ∙ same
+  by_program other mail same = absurd mail
 started_with c message envelope ((kept.Feed a own b text more) ∷ ks) injects whole = absurd whole.0
 started_with c message envelope ((kept.Start a program) ∷ ks) injects whole = by_kind (injection_of program) (started_with c message envelope ks injects whole.1) where
   by_kind : (o : Option Arguments) → receivers_in (start_with c message envelope ks) ≡ given_to c envelope (receivers_in ks)

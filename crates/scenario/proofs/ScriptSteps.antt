@@ -30,7 +30,7 @@ use Rattle.queue_inject.specs.declared.injection.Arguments.{Arguments}
 use Rattle.world_events.specs.Children.{Counts, child_of, counts_in as kept_counts}
 use Rattle.world_events.specs.Inputs.{bounce, forward, with_inputs}
 use Rattle.world_events.specs.declared.event.Program.{Program}
-use Rattle.world_events.specs.declared.event.Program.TheVariants.{Injector, Cleaner, Sender, LocalSpawner, RemoteSpawner, Delivery}
+use Rattle.world_events.specs.declared.event.Program.TheVariants.{Injector, Delivery}
 use Rattle.world_events.specs.declared.event.Event.{Event as Kept}
 use Rattle.world_events.specs.declared.event.Event.TheVariants as kept
 use Rattle.mail_world.specs.Generations.{Waits, CanNot, has_idled, idled_by}
@@ -440,12 +440,8 @@ to_as : (s : State) (n : Counts) (a : List ℕ) (own : Own) (slot : ℕ) (bytes 
     → (k ≡ kept.Act a own → IsKeptTo o c a own bytes (kept.Act a own)) → IsKeptTo o c a own bytes k → IsKeptAs s n a own (needs.Give (port.Program slot) bytes) got.Gave k
 to_as s n a own slot bytes c k (Some (Injector args)) is of acts kept_as =
     Feeds slot c kept_as.0 kept_as.1 args (ap (λ (b : List ℕ). needs.Give (port.Program slot) b) kept_as.2) refl is of kept_as.3
-to_as s n a own slot bytes c k (Some (Cleaner start)) is of acts kept_as = Acts (acts_so s a own slot bytes c (Some (Cleaner start)) is of (acts kept_as)) kept_as
-to_as s n a own slot bytes c k (Some (Sender start)) is of acts kept_as = Acts (acts_so s a own slot bytes c (Some (Sender start)) is of (acts kept_as)) kept_as
-to_as s n a own slot bytes c k (Some (LocalSpawner start)) is of acts kept_as = Acts (acts_so s a own slot bytes c (Some (LocalSpawner start)) is of (acts kept_as)) kept_as
-to_as s n a own slot bytes c k (Some (RemoteSpawner start)) is of acts kept_as = Acts (acts_so s a own slot bytes c (Some (RemoteSpawner start)) is of (acts kept_as)) kept_as
-to_as s n a own slot bytes c k (Some (Delivery start args)) is of acts kept_as = Acts (acts_so s a own slot bytes c (Some (Delivery start args)) is of (acts kept_as)) kept_as
 to_as s n a own slot bytes c k None is of acts kept_as = Acts (acts_so s a own slot bytes c None is of (acts kept_as)) kept_as
+to_as s n a own slot bytes c k (Some other) is of acts kept_as = Acts (acts_so s a own slot bytes c (Some other) is of (acts kept_as)) kept_as
 
 given_as : (s : State) (n : Counts) (a : List ℕ) (own : Own) (slot : ℕ) (bytes : List ℕ) (k : Kept) (o : Option Tenant) → s.pipework.programs a slot ≡ o → IsKeptGiving s o a own bytes k
     → IsKeptAs s n a own (needs.Give (port.Program slot) bytes) got.Gave k

@@ -1,5 +1,5 @@
 -- The searches among the events that came.
-use Rattle.std.proofs.Common.{◌≡◌, ℕ, List, [], ◌∷◌, ◌++◌, length, reverse, Bool, true, false, ◌&&◌, cond, nat_lt, refl, sym, ap, ap₂, ◌∙◌, arith, length-append}
+use Rattle.std.proofs.Common.{◌≡◌, ℕ, List, [], ◌∷◌, ◌++◌, length, reverse, Bool, true, false, ◌&&◌, ◌==◌, cond, refl, sym, ap, ap₂, ◌∙◌, arith, length-append}
 use Rattle.std.specs.Prelude.{drop}
 use Rattle.std.specs.List.{AllZip, count_by, list_all}
 use Rattle.std.proofs.lemmas.List.{drop_all, drop-append-le, length-reverse, reverse-append, reverse-reverse}
@@ -102,6 +102,6 @@ more_first events deeds k x told same =
 pub searches_told : (old new : List Kept) (later h : List Deed) → AllZip TellsDeed (reverse old) h → AllZip TellsDeed (reverse new) (later ++ h)
     → are_searches_kept (drop (length old) new) ≡ are_searches later
 searches_told old new later h was now =
-    ap₂ (λ (all : Bool) (n : ℕ). all && nat_lt n 2)
+    ap₂ (λ (all : Bool) (n : ℕ). all && (n == 1))
     (all_told (list_all is_search_kept) (list_all is_search_deed) refl more_searches old new later h was now)
     (all_told (count_by is_first_kept) (count_by is_first_deed) refl more_first old new later h was now)

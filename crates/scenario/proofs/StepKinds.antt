@@ -13,7 +13,7 @@ use Rattle.call_fs.specs.Disk.{Disk}
 use Rattle.world_events.specs.Children.{Counts, child_of}
 use Rattle.queue_inject.specs.declared.injection.Arguments.{Arguments}
 use Rattle.world_events.specs.declared.event.Program.{Program}
-use Rattle.world_events.specs.declared.event.Program.TheVariants.{Injector, Cleaner, Sender, LocalSpawner, RemoteSpawner, Delivery}
+use Rattle.world_events.specs.declared.event.Program.TheVariants.{Injector}
 use Rattle.mail_world.specs.History.{call_act, netstring, Actor, Life, State, next_of, program_of}
 use Rattle.mail_world.specs.History.Event.{Act, Child, End}
 use Rattle.mail_world.specs.History.Life.{Alive, Over, Stopped}
@@ -179,11 +179,7 @@ module _ (plan : Plan) (s : State) (pid : ℕ) (n : Counts) (a : List ℕ) (x : 
         is = same_deed deed (Fed a (own_by s a (needs.Give (port.Program d) bytes) Gave) c h.0 h.1) h.3
             ∙ ap (λ (t : List ℕ). Fed a (own_by s a (needs.Give (port.Program d) t) Gave) c h.0 h.1) h.2;
       })
-  to_actor d bytes c (Some (Cleaner start)) is of next h = gives_on d bytes (runs_so d c (Some (Cleaner start)) is of (λ program e mail. by_program (Cleaner start) program (λ m. m) e mail)) next h
-  to_actor d bytes c (Some (Sender start)) is of next h = gives_on d bytes (runs_so d c (Some (Sender start)) is of (λ program e mail. by_program (Sender start) program (λ m. m) e mail)) next h
-  to_actor d bytes c (Some (LocalSpawner start)) is of next h = gives_on d bytes (runs_so d c (Some (LocalSpawner start)) is of (λ program e mail. by_program (LocalSpawner start) program (λ m. m) e mail)) next h
-  to_actor d bytes c (Some (RemoteSpawner start)) is of next h = gives_on d bytes (runs_so d c (Some (RemoteSpawner start)) is of (λ program e mail. by_program (RemoteSpawner start) program (λ m. m) e mail)) next h
-  to_actor d bytes c (Some (Delivery start args)) is of next h = gives_on d bytes (runs_so d c (Some (Delivery start args)) is of (λ program e mail. by_program (Delivery start args) program (λ m. m) e mail)) next h
+  to_actor d bytes c (Some other) is of next h = gives_on d bytes (runs_so d c (Some other) is of (λ program e mail. by_program other program (λ m. m) e mail)) next h
 
   -- what is given to a slot
   given_to : (d : ℕ) (bytes : List ℕ) (o : Option Tenant) → s.pipework.programs a d ≡ o → IsNext (needs.Give (port.Program d) bytes)

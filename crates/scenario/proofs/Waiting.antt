@@ -13,7 +13,7 @@ use Rattle.queue_inject.specs.declared.injection.Arguments.{Arguments}
 use Rattle.world_events.specs.Children.{Counts, child_of}
 use Rattle.world_events.specs.declared.event.Event.TheVariants as kept
 use Rattle.world_events.specs.declared.event.Program.{Program}
-use Rattle.world_events.specs.declared.event.Program.TheVariants.{Injector, Cleaner, Sender, LocalSpawner, RemoteSpawner, Delivery}
+use Rattle.world_events.specs.declared.event.Program.TheVariants.{Injector}
 use Rattle.world_pipes.specs.Pipes.{offered, end_of}
 use Rattle.mail_world.specs.Generations.{CanNot}
 use Rattle.mail_world.specs.History.{Event, Actor, Life, State, IsStatusOf, netstring, next_of, program_of}
@@ -131,12 +131,8 @@ all_comes s pid a program (needs.Ended status) came unfiled all = absurd all
 
 to_as : (o : Option Program) (c a : List ℕ) (own mine : Own) (bytes : List ℕ) → IsKeptTo o c a own bytes (kept.Act a own) → own ≡ mine → GivesTo o c a mine bytes (Happens (Came (Act a own 0)))
 to_as (Some (Injector args)) c a own mine bytes is same = let no = is.3 in absurd (cc)
-to_as (Some (Cleaner start)) c a own mine bytes is same = ap (λ (own : Own). Happens (Came (Act a own 0))) same
-to_as (Some (Sender start)) c a own mine bytes is same = ap (λ (own : Own). Happens (Came (Act a own 0))) same
-to_as (Some (LocalSpawner start)) c a own mine bytes is same = ap (λ (own : Own). Happens (Came (Act a own 0))) same
-to_as (Some (RemoteSpawner start)) c a own mine bytes is same = ap (λ (own : Own). Happens (Came (Act a own 0))) same
-to_as (Some (Delivery start args)) c a own mine bytes is same = ap (λ (own : Own). Happens (Came (Act a own 0))) same
 to_as None c a own mine bytes is same = ap (λ (own : Own). Happens (Came (Act a own 0))) same
+to_as (Some other) c a own mine bytes is same = ap (λ (own : Own). Happens (Came (Act a own 0))) same
 
 gives_as : (s : State) (a : List ℕ) (own mine : Own) (bytes : List ℕ) (o : Option Tenant) → IsKeptGiving s o a own bytes (kept.Act a own) → own ≡ mine → Gives s a mine bytes o (Happens (Came (Act a own 0)))
 gives_as s a own mine bytes None is same = ap (λ (own : Own). Happens (Came (Act a own 0))) same

@@ -1,11 +1,8 @@
 -- Generations, and what runs more than one actor: a turn, and the rounds of `settle`.
-use Rattle.std.specs.Prelude.{◌≡◌, ◌≢◌, ◌⊎◌, ℕ, zero, suc, ◌+◌, ◌*◌, ◌<◌, ◌≤◌, List, [], ◌∷◌, ◌++◌, length, map, Bool, true, false, not, ◌&&◌, ◌||◌, Option, Some, None, if◌then◌else◌, bytes_eq, codes, nat_lt}
+use Rattle.std.specs.Prelude.{◌≡◌, ◌≢◌, ◌⊎◌, ℕ, zero, suc, ◌+◌, ◌*◌, ◌<◌, ◌≤◌, List, [], ◌∷◌, ◌++◌, length, map, Bool, true, false, not, ◌&&◌, ◌||◌, ◌==◌, Option, Some, None, if◌then◌else◌, bytes_eq, codes, nat_lt}
 use Rattle.std.specs.List.{count_by, sum_by, list_any, list_all}
 use Rattle.call_fs.specs.Disk.{Disk}
 use Rattle.call_fs.specs.Plan.{Plan}
-use Rattle.call_fs.specs.declared.calls.CallData.TheVariants.{NextName}
-use Rattle.call_fs.specs.declared.past.NeedData.{NeedData}
-use Rattle.call_fs.specs.declared.past.NeedData.TheVariants.{File}
 use Rattle.actor_names.specs.MailNames.{members}
 use Rattle.world_events.specs.declared.books.Entry.{Entry}
 use Rattle.world_events.specs.declared.event.Program.TheVariants.{Cleaner, Sender, LocalSpawner, RemoteSpawner}
@@ -21,6 +18,8 @@ use Rattle.scenario.specs.Deeds.Deed.{Came, Fed}
 use Rattle.scenario.specs.Steps.{Outcome, refusal_line, plan_through, has_idled, IsRunOf}
 use Rattle.scenario.specs.Steps.Outcome.{Happens, Is}
 use Rattle.scenario.specs.Steps.Refusal.{Alive, NotWaiting, Rounds}
+-- what a search is
+pub use Rattle.world_events.specs.Searches.{searches, is_search_call, is_first_call}
 
 -- Generations and reports
 
@@ -166,23 +165,15 @@ pub record IsRound (d : Disk) (h : List Deed) (plan : Plan) (letter : Letter) (r
   pub reports : AreReportsAfter d (events_of round.parts ++ h) letter (text_of round.parts) round.slots
 
 -- a search for a message to preprocess, which is all that a sender does in an idle turn
-abbrev pub is_search_call : NeedData → Bool
-is_search_call (File (NextName dir after)) = bytes_eq dir (codes "todo")
-is_search_call other = false
-
 abbrev pub is_search : Event → Bool
-is_search (Act a own wrote) = bytes_eq a (codes "sender") && is_search_call own.due
+is_search (Act a own wrote) = searches a && is_search_call own.due
 is_search other = false
 
 abbrev pub is_search_deed : Deed → Bool
 is_search_deed (Came event) = is_search event
 is_search_deed (Fed a own c message envelope) = false
 
--- one that begins at the start of `todo/`, as one search of each turn does
-abbrev pub is_first_call : NeedData → Bool
-is_first_call (File (NextName dir after)) = bytes_eq after []
-is_first_call other = false
-
+-- one that begins at the start of its directory, as one search of each turn does
 abbrev pub is_first : Event → Bool
 is_first (Act a own wrote) = is_first_call own.due
 is_first other = false
@@ -191,11 +182,13 @@ abbrev pub is_first_deed : Deed → Bool
 is_first_deed (Came event) = is_first event
 is_first_deed (Fed a own c message envelope) = false
 
--- These are nothing but searches, and all of one turn: two turns, or what is left of one and the next, have two from the start.
+-- These are nothing but searches, and just one of them is from the start: all of `todo/` was searched in them, and by one turn. Two turns, or what is left
+-- of one and the next, have two from the start. What is left of a turn that made its search from the start before has none, and isn't idle: a message
+-- may have come meanwhile whose name it has passed.
 abbrev pub are_searches : List Deed → Bool
-are_searches deeds = list_all is_search_deed deeds && nat_lt (count_by is_first_deed deeds) 2
+are_searches deeds = list_all is_search_deed deeds && (count_by is_first_deed deeds == 1)
 
--- Nothing happened in a round but an idle turn of the sender, or what was left of one.
+-- Nothing happened in a round but an idle turn of the sender, which searched all of `todo/` in it.
 abbrev pub is_idle : Disk → List Deed → Letter → Round → Bool
 is_idle d h letter round = are_searches (round_events letter round) && has_idled d h (round_events letter round)
 

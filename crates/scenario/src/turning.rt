@@ -8,18 +8,17 @@ ghost use Rattle.scenario.specs.Deeds.{Deed};
 ghost use Rattle.script_lines.specs.declared.line.Line.TheVariants as LineOf;
 ghost use Rattle.script_lines.specs.declared.keyword.Alone.TheVariants as AloneOf;
 ghost use Rattle.script_lines.specs.declared.keyword.OfLetter.TheVariants as OfLetterOf;
-ghost use Rattle.scenario.specs.inside.Playing.{IsPlaying, HasPlayed, HasTurned, HasParted, HasRounded, HasReported, NonePassed, are_searches_kept, is_first_kept, is_search_kept};
-ghost use Rattle.scenario.specs.Turns.{counted, is_first_call, is_search_call, NoneBetween};
+ghost use Rattle.scenario.specs.inside.Playing.{IsPlaying, HasPlayed, HasTurned, HasParted, HasRounded, HasReported, NonePassed, are_searches_kept};
+ghost use Rattle.scenario.specs.Turns.{counted, NoneBetween};
 
 use crate::refusing::put_refusal;
 use crate::stepping::run;
-use actor_names::Member;
-use call_fs::{CallData, NeedData};
 use crash_fs::CrashDisk;
 use mail_bytes::Memory;
 use mail_world::{ActorName, Entry, Event, World};
 use script_words::Letter;
 use std::alloc::{AllocError, Global};
+use world_events::{is_first, is_search};
 
 /// How many rounds `settle` makes at least, and how many more for each mail that was accepted and for each of its recipients.
 const FIRST_ROUNDS: u64 = 100;
@@ -169,7 +168,7 @@ fn with_entry(count: u64, entry: &Entry) -> Result<u64, Memory>
 
 /// One round: a turn, which passes over the actors that started before that first place, and those after the generation there and before
 /// that later place, and then a report for each program of the remote spawner that has none. Tells whether it is the last one: something
-/// was printed, or nothing happened but an idle turn of the sender, or what was left of one.
+/// was printed, or nothing happened but an idle turn of the sender, which searched all of `todo/` in it.
 fn round(
     alloc: Global,
     world: &mut World<CrashDisk>,
@@ -191,50 +190,23 @@ fn round(
     Ok(idle && only_searches(world, before))
 }
 
-/// Whether all events after the first so many are searches of one turn of the sender.
+/// Whether all events after the first so many are searches of the sender, of one turn that searched all of `todo/` in them.
 fn only_searches(world: &World<CrashDisk>, before: usize) -> bool
     ensures { result ≡ are_searches_kept (drop before world.now.events) }
 {
     match world.history().events().get(before..) {
         Some(events) => are_searches(events),
-        None => true,
+        None => false,
     }
 }
 
-/// Whether these are searches of the sender for a message to preprocess, and of one turn: at most one of them begins at the start.
+/// Whether these are searches of the sender for a message to preprocess, just one of which begins at the start: so all of `todo/` was searched
+/// in them, and by one turn.
 fn are_searches(events: &[Event]) -> bool
     ensures { result ≡ are_searches_kept events.now }
 {
     events.iter().all(|event| is_search(event))
-        && events.iter().filter(|event| is_first(event)).count() < 2
-}
-
-/// Whether an event is such a search.
-fn is_search(event: &Event) -> bool
-    ensures { result ≡ is_search_kept event.now }
-{
-    matches!(event, Event::Act { actor, own } if actor.as_slice() == Member::Sender.name() && is_search_call(&own.due))
-}
-
-/// Whether what was due is a search in `todo/`.
-fn is_search_call(due: &NeedData) -> bool
-    ensures { result ≡ is_search_call due.now }
-{
-    matches!(due, NeedData::File(CallData::NextName(dir, _)) if dir.as_slice() == b"todo".as_slice())
-}
-
-/// Whether a search begins at the start.
-fn is_first(event: &Event) -> bool
-    ensures { result ≡ is_first_kept event.now }
-{
-    matches!(event, Event::Act { own, .. } if is_first_call(&own.due))
-}
-
-/// Whether what was due is a search from the start.
-fn is_first_call(due: &NeedData) -> bool
-    ensures { result ≡ is_first_call due.now }
-{
-    matches!(due, NeedData::File(CallData::NextName(_, after)) if after.as_slice() == b"".as_slice())
+        && events.iter().filter(|event| is_first(event)).count() == 1
 }
 
 /// Reports for each program of the living remote spawner that has no report, in order of its slot.

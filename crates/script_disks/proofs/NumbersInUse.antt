@@ -15,6 +15,7 @@ use Rattle.queue_paths.proofs.Paths.{is_number_tells, is_number_if}
 use Rattle.queue_states.specs.declared.state.State.{State}
 use Rattle.queue_states.specs.declared.state.State.TheVariants.{S1, S2, S3, S4, S5, Other}
 use Rattle.queue_states.specs.States.{state_by, state_of, is_there}
+use Rattle.queue_states.proofs.States.{state_named}
 use Rattle.script_disks.specs.Numbers.{AreNumbersIn}
 use Rattle.script_disks.proofs.Gathered.{HasFile, Gathered, flat_dirs, split_dirs, found_part}
 
@@ -113,7 +114,9 @@ any_tells f h =
 
 tested : (d : Disk) (n : ℕ) → (if is_s1 (state_of d n) then not (any_part (λ part. is_there d part n)) else any_part (λ part. is_there d part n)) ≡ true
 unfolding any_part
-tested d n = one_tells (is_there d Mess n) (is_there d Intd n) (is_there d Todo n) (is_there d Info n) (is_there d Local n) (is_there d Remote n) (is_there d Bounce n)
+tested d n = subst (λ (state : State). (if is_s1 state then not (any_part (λ part. is_there d part n)) else any_part (λ part. is_there d part n)) ≡ true)
+    (sym (state_named d n))
+    (one_tells (is_there d Mess n) (is_there d Intd n) (is_there d Todo n) (is_there d Info n) (is_there d Local n) (is_there d Remote n) (is_there d Bounce n))
 
 not_s1 : (d : Disk) (n : ℕ) (part : Part) → is_there d part n ≡ true → state_of d n ≢ S1
 not_s1 d n part there e =

@@ -392,8 +392,8 @@ not_sweep : (row : SweepRow) (text : List ℕ) (c : Channel) → due_by (sweep_s
 not_sweep sweep.First text c is = cc
 not_sweep (sweep.Next split) text c is = cc
 not_sweep (sweep.StatMess split n) text c is = cc
-not_sweep (sweep.StatInfo split n) text c is = cc
-not_sweep (sweep.StatTodo split n info) text c is = cc
+not_sweep (sweep.StatTodo split n) text c is = cc
+not_sweep (sweep.StatInfo split n todo) text c is = cc
 not_sweep (sweep.Give split n) text c is = cc
 not_sweep (sweep.Take split n) text c is = no_clean c is
 not_sweep sweep.Over text c is = cc

@@ -273,8 +273,8 @@ module _ (k : ℕ) where
   c_sweep sweep.First d h = stay d.turns (at.Sweep sweep.First) h refl
   c_sweep (sweep.Next split) d h = stay d.turns (at.Sweep (sweep.Next split)) h refl
   c_sweep (sweep.StatMess split n) d h = stay d.turns (at.Sweep (sweep.StatMess split n)) h refl
-  c_sweep (sweep.StatInfo split n) d h = stay d.turns (at.Sweep (sweep.StatInfo split n)) h refl
-  c_sweep (sweep.StatTodo split n info) d h = stay d.turns (at.Sweep (sweep.StatTodo split n info)) h refl
+  c_sweep (sweep.StatTodo split n) d h = stay d.turns (at.Sweep (sweep.StatTodo split n)) h refl
+  c_sweep (sweep.StatInfo split n todo) d h = stay d.turns (at.Sweep (sweep.StatInfo split n todo)) h refl
   c_sweep (sweep.Give split n) d h = stay d.turns (at.Sweep (sweep.Give split n)) h refl
   c_sweep (sweep.Take split n) d h = stay d.turns (at.Sweep (sweep.Take split n)) h refl
 

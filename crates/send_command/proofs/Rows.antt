@@ -32,7 +32,7 @@ use Rattle.send_parts.specs.declared.rows.StartRow.TheVariants as start
 use Rattle.send_parts.specs.declared.rows.SweepRow.{SweepRow}
 use Rattle.send_parts.specs.declared.rows.SweepRow.TheVariants as sweep
 use Rattle.send_links.specs.Records.{records_of}
-use Rattle.send_parts.specs.Files.{message_number}
+use Rattle.send_parts.specs.Files.{message_number, number_below}
 use Rattle.send_parts.specs.Replies.{Said, said}
 use Rattle.send_parts.specs.Rows.{is_again}
 use Rattle.send_parts.specs.Start.{file_after, filed, info_row, judged_by, next_file, scan_row, scanned}
@@ -251,8 +251,8 @@ module _ (E : ℕ → Type 0) where
     fine_sweep sweep.First d e = tt
     fine_sweep (sweep.Next split) d e = tt
     fine_sweep (sweep.StatMess split n) d e = tt
-    fine_sweep (sweep.StatInfo split n) d e = tt
-    fine_sweep (sweep.StatTodo split n info) d e = tt
+    fine_sweep (sweep.StatTodo split n) d e = tt
+    fine_sweep (sweep.StatInfo split n todo) d e = tt
     fine_sweep (sweep.Give split n) d e = tt
     fine_sweep (sweep.Take split n) d e = tt
 
@@ -297,4 +297,4 @@ module _ (E : ℕ → Type 0) where
   fine_start_if false x y p q = q
 
   pub fine_scanned : (text : List ℕ) (split : ℕ) (b : Book) → FineStart (scanned way.Fine text split b).row × FineStart (scanned way.Over text split b).row
-  fine_scanned text split b = (fine_scan_row (message_number text) split, fine_start_if (nat_lt split 22) (start.Scan (split + 1)) start.Over tt tt)
+  fine_scanned text split b = (fine_scan_row (number_below split text) split, fine_start_if (nat_lt split 22) (start.Scan (split + 1)) start.Over tt tt)

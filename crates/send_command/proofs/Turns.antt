@@ -250,17 +250,17 @@ swept_on way.Broken text split b = loss_if (nat_lt split 22) (sweep.Next (split 
 swept_on way.NoMemory text split b = loss_if (nat_lt split 22) (sweep.Next (split + 1)) sweep.Over tt tt
 
 mess_on : (w : Way) (split n moment now : ℕ) → NoLoss (mess_stated w split n moment now)
-mess_on way.Fine split n moment now = loss_if (nat_lt (moment + 129600) now) (sweep.StatInfo split n) (sweep.Next split) tt tt
+mess_on way.Fine split n moment now = loss_if (nat_lt (moment + 129600) now) (sweep.StatTodo split n) (sweep.Next split) tt tt
 mess_on w split n moment now = tt
 
-info_on : (w : Way) (split n : ℕ) → NoLoss (info_stated w split n)
-info_on way.Fine split n = tt
-info_on way.Absent split n = tt
-info_on w split n = tt
+todo_stat_on : (w : Way) (split n : ℕ) → NoLoss (todo_stated w split n)
+todo_stat_on way.Fine split n = tt
+todo_stat_on way.Absent split n = tt
+todo_stat_on w split n = tt
 
-todo_stat_on : (w : Way) (split n : ℕ) (info : Bool) → NoLoss (todo_stated w split n info)
-todo_stat_on way.Absent split n false = tt
-todo_stat_on w split n info = tt
+info_on : (w : Way) (split n : ℕ) (todo : Bool) → NoLoss (info_stated w split n todo)
+info_on way.Absent split n false = tt
+info_on w split n todo = tt
 
 module _ (now : ℕ) (d : Desk) where
   abbrev SweepOf : SweepRow → GotData → Type 0
@@ -274,8 +274,8 @@ module _ (now : ℕ) (d : Desk) where
   sweeps sweep.First came may = leads_sweep sweep.First came (swept_on (said came).way (said came).bytes 0 d.book)
   sweeps (sweep.Next split) came may = leads_sweep (sweep.Next split) came (swept_on (said came).way (said came).bytes split d.book)
   sweeps (sweep.StatMess split n) came may = leads_sweep (sweep.StatMess split n) came (mess_on (said came).way split n (said came).stat.moment now)
-  sweeps (sweep.StatInfo split n) came may = leads_sweep (sweep.StatInfo split n) came (info_on (said came).way split n)
-  sweeps (sweep.StatTodo split n info) came may = leads_sweep (sweep.StatTodo split n info) came (todo_stat_on (said came).way split n info)
+  sweeps (sweep.StatTodo split n) came may = leads_sweep (sweep.StatTodo split n) came (todo_stat_on (said came).way split n)
+  sweeps (sweep.StatInfo split n todo) came may = leads_sweep (sweep.StatInfo split n todo) came (info_on (said came).way split n todo)
   sweeps (sweep.Give split n) got.Gave may = tt
   sweeps (sweep.Give split n) got.Failed may = Lost 81 (NoCleaner (Ungiven (remove_text n)))
   sweeps (sweep.Give split n) came may = absurd may
@@ -481,8 +481,8 @@ end_at E (at.Finish finish.Lost n) d status fine due = absurd (cc)
 end_at E (at.Sweep sweep.First) d status fine due = absurd (cc)
 end_at E (at.Sweep (sweep.Next split)) d status fine due = absurd (cc)
 end_at E (at.Sweep (sweep.StatMess split n)) d status fine due = absurd (cc)
-end_at E (at.Sweep (sweep.StatInfo split n)) d status fine due = absurd (cc)
-end_at E (at.Sweep (sweep.StatTodo split n info)) d status fine due = absurd (cc)
+end_at E (at.Sweep (sweep.StatTodo split n)) d status fine due = absurd (cc)
+end_at E (at.Sweep (sweep.StatInfo split n todo)) d status fine due = absurd (cc)
 end_at E (at.Sweep (sweep.Give split n)) d status fine due = absurd (cc)
 end_at E (at.Sweep (sweep.Take split n)) d status fine due = absurd (cc)
 end_at E (at.Sweep sweep.Over) d status fine due = absurd (cc)

@@ -42,7 +42,7 @@ use Rattle.send_parts.specs.declared.reply.Way.{Way}
 use Rattle.send_parts.specs.declared.reply.Way.TheVariants as way
 use Rattle.send_parts.specs.declared.rows.StartRow.{StartRow}
 use Rattle.send_parts.specs.declared.rows.StartRow.TheVariants as start
-use Rattle.send_parts.specs.Files.{is_info, message_number}
+use Rattle.send_parts.specs.Files.{is_info, number_below}
 use Rattle.send_parts.specs.Readings.{opened, read_more}
 use Rattle.send_parts.specs.Replies.{Said, answered, said}
 use Rattle.send_parts.specs.Start.{act_start, by_way, control_read, file_after, filed, info_read, info_row, judged_by, next_file, remote_limit, remote_stated, scan_row, scanned, start_failed}
@@ -82,7 +82,7 @@ late_scan None split = tt
 late_scan (Some n) split = tt
 
 late_scanned : (w : Way) (text : List ℕ) (split : ℕ) (b : Book) → IsLate (scanned w text split b).row
-late_scanned way.Fine text split b = late_scan (message_number text) split
+late_scanned way.Fine text split b = late_scan (number_below split text) split
 late_scanned way.Over text split b = late_either (nat_lt split 22) (start.Scan (split + 1)) start.Over tt tt
 late_scanned way.Absent text split b = tt
 late_scanned way.Broken text split b = tt

@@ -289,8 +289,8 @@ module _ (h : ℕ → Option Mode) where
   swept_holds sweep.First d = tt
   swept_holds (sweep.Next split) d = tt
   swept_holds (sweep.StatMess split n) d = tt
-  swept_holds (sweep.StatInfo split n) d = tt
-  swept_holds (sweep.StatTodo split n info) d = tt
+  swept_holds (sweep.StatTodo split n) d = tt
+  swept_holds (sweep.StatInfo split n todo) d = tt
   swept_holds (sweep.Give split n) d = tt
   swept_holds (sweep.Take split n) d = tt
 
@@ -644,8 +644,8 @@ uses_sweep : (h : ℕ → Option Mode) (d : Desk) (row : SweepRow) → UsesHeld 
 uses_sweep h d sweep.First = tt
 uses_sweep h d (sweep.Next split) = tt
 uses_sweep h d (sweep.StatMess split n) = tt
-uses_sweep h d (sweep.StatInfo split n) = tt
-uses_sweep h d (sweep.StatTodo split n info) = tt
+uses_sweep h d (sweep.StatTodo split n) = tt
+uses_sweep h d (sweep.StatInfo split n todo) = tt
 uses_sweep h d (sweep.Give split n) = tt
 uses_sweep h d (sweep.Take split n) = tt
 uses_sweep h d sweep.Over = tt

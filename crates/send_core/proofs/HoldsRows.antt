@@ -15,7 +15,7 @@ use Rattle.send_parts.specs.declared.reading.Reading.{Reading}
 use Rattle.send_parts.specs.declared.reading.Reading.TheVariants.{Opening, Going, Closing, Shutting}
 use Rattle.send_parts.specs.declared.reply.Way.{Way}
 use Rattle.send_parts.specs.declared.reply.Way.TheVariants as way
-use Rattle.send_parts.specs.Files.{is_info, message_number}
+use Rattle.send_parts.specs.Files.{is_info, number_below}
 use Rattle.send_parts.specs.Replies.{Said}
 use Rattle.todo_pass.specs.declared.row.Row.{Row as PassRow}
 use Rattle.todo_pass.proofs.Holds.{HoldsRow}
@@ -144,7 +144,7 @@ module _ (h : ℕ → Option Mode) where
   scan_row_holds (Some n) split = tt
 
   pub scanned_holds : (w : Way) (text : List ℕ) (split : ℕ) (b : Book) → HoldsStart h (scanned w text split b).row
-  scanned_holds way.Fine text split b = scan_row_holds (message_number text) split
+  scanned_holds way.Fine text split b = scan_row_holds (number_below split text) split
   scanned_holds way.Over text split b = either_start (nat_lt split 22) (start.Scan (split + 1)) start.Over tt tt
   scanned_holds way.Absent text split b = tt
   scanned_holds way.Broken text split b = tt

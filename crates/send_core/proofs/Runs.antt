@@ -529,8 +529,8 @@ module _ (Gives : Channel → List ℕ → Type 0) (Opens Appends : List ℕ →
   sweep_due sweep.First d = tt
   sweep_due (sweep.Next split) d = tt
   sweep_due (sweep.StatMess split n) d = tt
-  sweep_due (sweep.StatInfo split n) d = tt
-  sweep_due (sweep.StatTodo split n info) d = tt
+  sweep_due (sweep.StatTodo split n) d = tt
+  sweep_due (sweep.StatInfo split n todo) d = tt
   sweep_due (sweep.Give split n) d = tt
   sweep_due (sweep.Take split n) d = tt
   sweep_due sweep.Over d = tt

@@ -460,7 +460,7 @@ module _ (S : ℕ → List ℕ → Type 0) (now : ℕ) (t : Facts) (d : Desk) wh
 
     mess_says : (w : Way) (split n moment : ℕ) → SweepSays S u (mess_stated w split n moment now)
     mess_says way.Fine split n moment = by (nat_lt (moment + PID_NAME_AGE) now) where
-      by : (b : Bool) → SweepSays S u (if b then sweep.StatInfo split n else sweep.Next split)
+      by : (b : Bool) → SweepSays S u (if b then sweep.StatTodo split n else sweep.Next split)
       by true = tt
       by false = tt
     mess_says way.Over split n moment = tt
@@ -468,20 +468,20 @@ module _ (S : ℕ → List ℕ → Type 0) (now : ℕ) (t : Facts) (d : Desk) wh
     mess_says way.Broken split n moment = tt
     mess_says way.NoMemory split n moment = tt
 
-    info_says : (w : Way) (split n : ℕ) → SweepSays S u (info_stated_in w split n)
-    info_says way.Fine split n = tt
-    info_says way.Over split n = tt
-    info_says way.Absent split n = tt
-    info_says way.Broken split n = tt
-    info_says way.NoMemory split n = tt
+    todo_says : (w : Way) (split n : ℕ) → SweepSays S u (todo_stated w split n)
+    todo_says way.Fine split n = tt
+    todo_says way.Over split n = tt
+    todo_says way.Absent split n = tt
+    todo_says way.Broken split n = tt
+    todo_says way.NoMemory split n = tt
 
-    todo_says : (w : Way) (split n : ℕ) (info : Bool) → SweepSays S u (todo_stated w split n info)
-    todo_says way.Fine split n info = tt
-    todo_says way.Over split n info = tt
-    todo_says way.Absent split n true = tt
-    todo_says way.Absent split n false = tt
-    todo_says way.Broken split n info = tt
-    todo_says way.NoMemory split n info = tt
+    info_says : (w : Way) (split n : ℕ) (todo : Bool) → SweepSays S u (info_stated_in w split n todo)
+    info_says way.Fine split n todo = tt
+    info_says way.Over split n todo = tt
+    info_says way.Absent split n true = tt
+    info_says way.Absent split n false = tt
+    info_says way.Broken split n todo = tt
+    info_says way.NoMemory split n todo = tt
 
     taken_says : (w : Way) (split : ℕ) → SweepSays S u (sweep_taken w split)
     taken_says way.Fine split = tt
@@ -494,8 +494,8 @@ module _ (S : ℕ → List ℕ → Type 0) (now : ℕ) (t : Facts) (d : Desk) wh
   sweep_leads sweep.First got may = swept_says (told_then (due_at (at.Sweep sweep.First) d) got) (said got).way (said got).bytes 0
   sweep_leads (sweep.Next split) got may = swept_says (told_then (due_at (at.Sweep (sweep.Next split)) d) got) (said got).way (said got).bytes split
   sweep_leads (sweep.StatMess split n) got may = mess_says (told_then (due_at (at.Sweep (sweep.StatMess split n)) d) got) (said got).way split n (said got).stat.moment
-  sweep_leads (sweep.StatInfo split n) got may = info_says (told_then (due_at (at.Sweep (sweep.StatInfo split n)) d) got) (said got).way split n
-  sweep_leads (sweep.StatTodo split n info) got may = todo_says (told_then (due_at (at.Sweep (sweep.StatTodo split n info)) d) got) (said got).way split n info
+  sweep_leads (sweep.StatTodo split n) got may = todo_says (told_then (due_at (at.Sweep (sweep.StatTodo split n)) d) got) (said got).way split n
+  sweep_leads (sweep.StatInfo split n todo) got may = info_says (told_then (due_at (at.Sweep (sweep.StatInfo split n todo)) d) got) (said got).way split n todo
   sweep_leads (sweep.Give split n) came.Gave may = refl
   sweep_leads (sweep.Give split n) came.Failed may = tt
   sweep_leads (sweep.Give split n) (came.Answered told) may = absurd may
@@ -513,8 +513,8 @@ module _ (S : ℕ → List ℕ → Type 0) (now : ℕ) (t : Facts) (d : Desk) wh
   sweep_answered sweep.First says = tt
   sweep_answered (sweep.Next split) says = tt
   sweep_answered (sweep.StatMess split n) says = tt
-  sweep_answered (sweep.StatInfo split n) says = tt
-  sweep_answered (sweep.StatTodo split n info) says = tt
+  sweep_answered (sweep.StatTodo split n) says = tt
+  sweep_answered (sweep.StatInfo split n todo) says = tt
   sweep_answered (sweep.Give split n) says = tt
   sweep_answered (sweep.Take split n) says = says
   sweep_answered sweep.Over says = tt
@@ -733,8 +733,8 @@ module _ (S T : ℕ → List ℕ → Type 0) (f : (n : ℕ) (sender : List ℕ) 
   sweep_more sweep.First h = tt
   sweep_more (sweep.Next split) h = tt
   sweep_more (sweep.StatMess split n) h = tt
-  sweep_more (sweep.StatInfo split n) h = tt
-  sweep_more (sweep.StatTodo split n info) h = tt
+  sweep_more (sweep.StatTodo split n) h = tt
+  sweep_more (sweep.StatInfo split n todo) h = tt
   sweep_more (sweep.Give split n) h = tt
   sweep_more sweep.Over h = tt
   sweep_more sweep.Lost h = tt

@@ -10,7 +10,7 @@ use Rattle.send_parts.specs.declared.reply.Way.{Way}
 use Rattle.send_parts.specs.declared.reply.Way.TheVariants as way
 use Rattle.send_parts.specs.declared.rows.StartRow.{StartRow}
 use Rattle.send_parts.specs.declared.rows.StartRow.TheVariants as start
-use Rattle.send_parts.specs.Files.{message_number, sender_in}
+use Rattle.send_parts.specs.Files.{number_below, sender_in}
 use Rattle.send_known.specs.Messages.{learned}
 use Rattle.send_parts.specs.Start.{begins_at, by_way, filed, greeted_local, greeted_remote, info_row, judged_by, remote_stated, scan_next, scan_row, scanned, start_failed}
 use Rattle.todo_pass.specs.Table.{Pass}
@@ -91,7 +91,7 @@ module _ (S : ℕ → List ℕ → Type 0) (t : Facts) (p : Pass) where
     by false = (h, e, tt)
 
   pub lands_scanned : (w : Way) (text : List ℕ) (split : ℕ) (b : Book) → Sound S t.births.of b.messages → t.papers ≡ Told b.controls → Lands (scanned w text split b)
-  lands_scanned way.Fine text split b h e = by (message_number text) where
+  lands_scanned way.Fine text split b h e = by (number_below split text) where
     by : (o : Option ℕ) → LandsAt (start_at (scan_row o split)) (scanned way.Fine text split b)
     by None = (h, e, tt)
     by (Some n) = (h, e, tt)

@@ -161,8 +161,8 @@ module _ (b : Births) (now : ℕ) where
   sweep_still sweep.First d got gave may = by_file (due_at (at.Sweep sweep.First) d) tt (IsStill (due_at (at.Sweep sweep.First) d)) got may (λ told fit. refl)
   sweep_still (sweep.Next split) d got gave may = by_file (due_at (at.Sweep (sweep.Next split)) d) tt (IsStill (due_at (at.Sweep (sweep.Next split)) d)) got may (λ told fit. refl)
   sweep_still (sweep.StatMess split n) d got gave may = by_file (due_at (at.Sweep (sweep.StatMess split n)) d) tt (IsStill (due_at (at.Sweep (sweep.StatMess split n)) d)) got may (λ told fit. of_stat (Of MessFile n) (λ a c. refl) told.answer)
-  sweep_still (sweep.StatInfo split n) d got gave may = by_file (due_at (at.Sweep (sweep.StatInfo split n)) d) tt (IsStill (due_at (at.Sweep (sweep.StatInfo split n)) d)) got may (λ told fit. info_still n told.answer)
-  sweep_still (sweep.StatTodo split n info) d got gave may = by_file (due_at (at.Sweep (sweep.StatTodo split n info)) d) tt (IsStill (due_at (at.Sweep (sweep.StatTodo split n info)) d)) got may (λ told fit. of_stat (Of TodoFile n) (λ a c. refl) told.answer)
+  sweep_still (sweep.StatTodo split n) d got gave may = by_file (due_at (at.Sweep (sweep.StatTodo split n)) d) tt (IsStill (due_at (at.Sweep (sweep.StatTodo split n)) d)) got may (λ told fit. of_stat (Of TodoFile n) (λ a c. refl) told.answer)
+  sweep_still (sweep.StatInfo split n todo) d got gave may = by_file (due_at (at.Sweep (sweep.StatInfo split n todo)) d) tt (IsStill (due_at (at.Sweep (sweep.StatInfo split n todo)) d)) got may (λ told fit. info_still n told.answer)
   sweep_still (sweep.Give split n) d got gave may = give_still (remove_text n) got
   sweep_still (sweep.Take split n) d got gave may = take_still n got gave
   sweep_still sweep.Over d got gave may = absurd may

@@ -283,8 +283,8 @@ module _ (late : ℕ → Bool) (owed : List Owed) where
   sweep_silent sweep.First d got may = by_file (due_at (at.Sweep sweep.First) d) tt (Silent (due_at (at.Sweep sweep.First) d)) got may (λ told fit. (refl, refl, refl))
   sweep_silent (sweep.Next split) d got may = by_file (due_at (at.Sweep (sweep.Next split)) d) tt (Silent (due_at (at.Sweep (sweep.Next split)) d)) got may (λ told fit. (refl, refl, refl))
   sweep_silent (sweep.StatMess split n) d got may = by_file (due_at (at.Sweep (sweep.StatMess split n)) d) tt (Silent (due_at (at.Sweep (sweep.StatMess split n)) d)) got may (λ told fit. (refl, refl, refl))
-  sweep_silent (sweep.StatInfo split n) d got may = by_file (due_at (at.Sweep (sweep.StatInfo split n)) d) tt (Silent (due_at (at.Sweep (sweep.StatInfo split n)) d)) got may (λ told fit. (refl, refl, refl))
-  sweep_silent (sweep.StatTodo split n info) d got may = by_file (due_at (at.Sweep (sweep.StatTodo split n info)) d) tt (Silent (due_at (at.Sweep (sweep.StatTodo split n info)) d)) got may (λ told fit. (refl, refl, refl))
+  sweep_silent (sweep.StatTodo split n) d got may = by_file (due_at (at.Sweep (sweep.StatTodo split n)) d) tt (Silent (due_at (at.Sweep (sweep.StatTodo split n)) d)) got may (λ told fit. (refl, refl, refl))
+  sweep_silent (sweep.StatInfo split n todo) d got may = by_file (due_at (at.Sweep (sweep.StatInfo split n todo)) d) tt (Silent (due_at (at.Sweep (sweep.StatInfo split n todo)) d)) got may (λ told fit. (refl, refl, refl))
   sweep_silent (sweep.Give split n) d got may = (refl, refl, refl)
   sweep_silent (sweep.Take split n) d got may = (refl, refl, refl)
   sweep_silent sweep.Over d got may = absurd may

@@ -1,6 +1,7 @@
 -- What the files that the sender reads say, as functions of their bytes.
 use Rattle.std.specs.Prelude.{ℕ, ◌+◌, List, [], ◌∷◌, length, take, position, Bool, false, ◌&&◌, Option, Some, None, if◌then◌else◌, ◌==◌, nat_le}
 use Rattle.mail_bytes.specs.Decimal.{number_of}
+use Rattle.queue_paths.specs.Names.{split}
 
 -- An info file
 
@@ -37,3 +38,12 @@ from_one (Some n) = if nat_le 1 n then Some n else None
 -- the message number that it is: a decimal text of a u64 from 1
 abbrev pub message_number : List ℕ → Option ℕ
 message_number text = from_one (number_of text)
+
+-- the number, if its files lie in this directory of the 23
+abbrev pub lying_in : ℕ → Option ℕ → Option ℕ
+lying_in dir None = None
+lying_in dir (Some n) = if split n == dir then Some n else None
+
+-- the message number that a name in this directory is
+abbrev pub number_below : ℕ → List ℕ → Option ℕ
+number_below dir text = lying_in dir (message_number text)

@@ -47,8 +47,8 @@ abbrev pub sweep_step : SweepRow → Step
 sweep_step sweep.First = step.Search (dir.Mess 0)
 sweep_step (sweep.Next split) = step.Search (dir.Mess split)
 sweep_step (sweep.StatMess split n) = step.Stat (name.Mess n)
-sweep_step (sweep.StatInfo split n) = step.Stat (name.Info n)
-sweep_step (sweep.StatTodo split n info) = step.Stat (name.Todo n)
+sweep_step (sweep.StatTodo split n) = step.Stat (name.Todo n)
+sweep_step (sweep.StatInfo split n todo) = step.Stat (name.Info n)
 sweep_step (sweep.Give split n) = step.Remove n
 sweep_step (sweep.Take split n) = step.Take port.Clean
 sweep_step row = step.Wait

@@ -10,7 +10,7 @@ use Rattle.send_parts.specs.declared.reading.Reading.{Reading}
 use Rattle.send_parts.specs.declared.reading.Reading.TheVariants.{Opening, Shutting}
 use Rattle.send_parts.specs.declared.reply.Way.{Way}
 use Rattle.send_parts.specs.declared.reply.Way.TheVariants as way
-use Rattle.send_parts.specs.Files.{is_info, sender_in, message_number}
+use Rattle.send_parts.specs.Files.{is_info, number_below, sender_in}
 use Rattle.send_parts.specs.Readings.{read_on}
 use Rattle.send_parts.specs.Replies.{Said}
 use Rattle.send_parts.specs.declared.rows.StartRow.{StartRow}
@@ -96,7 +96,7 @@ abbrev pub remote_limit : List ℕ → Controls → ℕ
 remote_limit [] controls = 0
 remote_limit (byte ∷ rest) controls = min byte controls.concurrency_remote
 
--- The scan of the info files. A name that is no number is passed over.
+-- The scan of the info files. A name that is no number, or that of another directory, is passed over.
 
 abbrev pub scan_next : ℕ → Book → Book
 scan_next split b = record b { row = if nat_lt split 22 then start.Scan (split + 1) else start.Over; after = [] }
@@ -106,7 +106,7 @@ scan_row None split = start.Scan split
 scan_row (Some n) split = start.StatTodo split n
 
 abbrev pub scanned : Way → List ℕ → ℕ → Book → Book
-scanned way.Fine text split b = record b { row = scan_row (message_number text) split; after = take 255 text }
+scanned way.Fine text split b = record b { row = scan_row (number_below split text) split; after = take 255 text }
 scanned way.Over text split b = scan_next split b
 scanned w text split b = begins_at (start_failed w) b
 

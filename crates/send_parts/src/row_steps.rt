@@ -51,12 +51,20 @@ fn sweep_step(row: SweepRow) -> Step
         SweepRow::First => Step::Search(Dir::Mess(0)),
         SweepRow::Next { split } => Step::Search(Dir::Mess(split)),
         SweepRow::StatMess { n, .. } => Step::Stat(Name::Mess(n)),
-        SweepRow::StatInfo { n, .. } => Step::Stat(Name::Info(n)),
-        SweepRow::StatTodo { n, .. } => Step::Stat(Name::Todo(n)),
+        SweepRow::StatTodo { n, .. } => Step::Stat(looks(n).0),
+        SweepRow::StatInfo { n, .. } => Step::Stat(looks(n).1),
         SweepRow::Give { n, .. } => Step::Remove(n),
         SweepRow::Take { .. } => Step::Take(Port::Clean),
         SweepRow::Over | SweepRow::Lost => Step::Wait,
     }
+}
+
+/// What the sweep looks at of a message, in this order. A todo pass makes info before it takes todo away: if one ended between two
+/// looks in the other order, neither would see the message.
+fn looks(n: u64) -> (Name, Name)
+    ensures { result ≡ (Name.Todo n, Name.Info n) }
+{
+    (Name::Todo(n), Name::Info(n))
 }
 
 /// What is done at a row, and how much the reading at work has read. At a row of the todo pass, of a

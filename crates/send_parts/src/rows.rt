@@ -84,10 +84,10 @@ pub enum SweepRow {
     Next { split: u64 },
     /// Asks of what moment a message file is that isn't known.
     StatMess { split: u64, n: u64 },
-    /// Asks whether it has an info file.
-    StatInfo { split: u64, n: u64 },
-    /// Asks whether it has a todo file; whether it has an info file.
-    StatTodo { split: u64, n: u64, info: bool },
+    /// Asks whether it has a todo file.
+    StatTodo { split: u64, n: u64 },
+    /// Asks whether it has an info file; whether it has a todo file.
+    StatInfo { split: u64, n: u64, todo: bool },
     /// Gives the cleaner the command to remove it.
     Give { split: u64, n: u64 },
     /// Takes the cleaner's answer.

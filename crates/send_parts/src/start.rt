@@ -1,5 +1,6 @@
 // The rows of the sender's start.
 ghost use Rattle.std.specs.Prelude.{◌≡◌, ◌<◌, ◌++◌, min, set, slice_index_or, true, false, None, IsOk, OnOk, OnErr};
+ghost use Rattle.send_parts.specs.Files.{number_below};
 ghost use Rattle.send_parts.specs.Readings.{read_on};
 ghost use Rattle.send_parts.specs.Replies.{said_of};
 ghost use Rattle.send_parts.specs.Start.{act_start, by_way, control_read, file_after, filed, greeted_local, greeted_remote, info_read, info_row, judged_by, kept, next_file, remote_limit, remote_stated, scan_known, scan_next, scan_row, scanned, start_failed, start_takes_memory};
@@ -11,6 +12,7 @@ use crate::{
 use address_rules::{ControlError, ControlFile, Controls};
 use mail_bytes::{ByteText, Memory};
 use queue_limits::{BAD_CONTROL, MEMORY, NO_LOCAL, NO_REMOTE, NO_START};
+use queue_paths::split;
 use send_known::Known;
 use std::alloc::{AllocError, Global};
 use std::mem::replace;
@@ -253,7 +255,7 @@ fn scanned(book: &mut Book, split: u64, reply: &Reply<'_>)
 {
     match reply.way {
         Way::Fine => {
-            book.row = scan_row(message_number(reply.bytes), split);
+            book.row = scan_row(number_below(split, reply.bytes), split);
             book.after = hold(reply.bytes);
         }
         Way::Over => scan_next(book, split),
@@ -271,6 +273,16 @@ fn scan_next(book: &mut Book, split: u64)
     } else {
         StartRow::Over
     };
+}
+
+/// The message number that a name in this directory is: of another directory's none is taken.
+fn number_below(dir: u64, name: &[u8]) -> Option<u64>
+    ensures { result ≡ number_below dir name.now }
+{
+    match message_number(name) {
+        Some(n) if split(n) == dir => Some(n),
+        _ => None,
+    }
 }
 
 /// After a name of the scan.

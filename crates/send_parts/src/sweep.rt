@@ -27,8 +27,8 @@ pub fn act_sweep(book: &mut Book, row: SweepRow, now: u64, reply: &Reply<'_>) ->
         SweepRow::First => swept(book, 0, reply),
         SweepRow::Next { split } => swept(book, split, reply),
         SweepRow::StatMess { split, n } => mess_stated(way, split, n, reply.stat.moment, now),
-        SweepRow::StatInfo { split, n } => info_stated(way, split, n),
-        SweepRow::StatTodo { split, n, info } => todo_stated(way, split, n, info),
+        SweepRow::StatTodo { split, n } => todo_stated(way, split, n),
+        SweepRow::StatInfo { split, n, todo } => info_stated(way, split, n, todo),
         SweepRow::Give { split, n } => sweep_given(way, split, n),
         SweepRow::Take { split, .. } => sweep_taken(way, split),
         SweepRow::Over | SweepRow::Lost => row,
@@ -72,36 +72,36 @@ fn mess_stated(way: Way, split: u64, n: u64, moment: u64, now: u64) -> SweepRow
     ensures { result ≡ mess_stated way split n moment now }
 {
     match way {
-        Way::Fine if now.saturating_sub(moment) > PID_NAME_AGE => SweepRow::StatInfo { split, n },
-        _ => SweepRow::Next { split },
-    }
-}
-
-/// After the stat of its info file.
-fn info_stated(way: Way, split: u64, n: u64) -> SweepRow
-    ensures { result ≡ info_stated way split n }
-{
-    match way {
-        Way::Fine => SweepRow::StatTodo {
-            split,
-            n,
-            info: true,
-        },
-        Way::Absent => SweepRow::StatTodo {
-            split,
-            n,
-            info: false,
-        },
+        Way::Fine if now.saturating_sub(moment) > PID_NAME_AGE => SweepRow::StatTodo { split, n },
         _ => SweepRow::Next { split },
     }
 }
 
 /// After the stat of its todo file.
-fn todo_stated(way: Way, split: u64, n: u64, info: bool) -> SweepRow
-    ensures { result ≡ todo_stated way split n info }
+fn todo_stated(way: Way, split: u64, n: u64) -> SweepRow
+    ensures { result ≡ todo_stated way split n }
 {
     match way {
-        Way::Absent if !info => SweepRow::Give { split, n },
+        Way::Fine => SweepRow::StatInfo {
+            split,
+            n,
+            todo: true,
+        },
+        Way::Absent => SweepRow::StatInfo {
+            split,
+            n,
+            todo: false,
+        },
+        _ => SweepRow::Next { split },
+    }
+}
+
+/// After the stat of its info file.
+fn info_stated(way: Way, split: u64, n: u64, todo: bool) -> SweepRow
+    ensures { result ≡ info_stated way split n todo }
+{
+    match way {
+        Way::Absent if !todo => SweepRow::Give { split, n },
         _ => SweepRow::Next { split },
     }
 }

@@ -240,8 +240,8 @@ finish_still row n d other = λ got command n was. refl
 pub sweep_still : (row : SweepRow) (d : Desk) → ((split n : ℕ) → row ≡ sweep.Take split n → ⊥) → Still (due_at (at.Sweep row) d)
 sweep_still (sweep.Take split n) d other = absurd (other split n refl)
 sweep_still (sweep.StatMess split n) d other = stat_still (NameOf MessFile n) (λ told n was. refl)
-sweep_still (sweep.StatInfo split n) d other = stat_still (NameOf InfoFile n) (λ told n was. refl)
-sweep_still (sweep.StatTodo split n info) d other = stat_still (NameOf TodoFile n) (λ told n was. refl)
+sweep_still (sweep.StatTodo split n) d other = stat_still (NameOf TodoFile n) (λ told n was. refl)
+sweep_still (sweep.StatInfo split n todo) d other = stat_still (NameOf InfoFile n) (λ told n was. refl)
 sweep_still sweep.First d other = λ got command n was. refl
 sweep_still row d other = λ got command n was. refl
 
@@ -267,8 +267,8 @@ give_still Remote d = λ got command n was. refl
 
 abbrev UnsweptRow : SweepRow → List Known → Type 0
 UnsweptRow (sweep.StatMess split n) ks = is_known n ks ≡ false
-UnsweptRow (sweep.StatInfo split n) ks = is_known n ks ≡ false
-UnsweptRow (sweep.StatTodo split n info) ks = is_known n ks ≡ false
+UnsweptRow (sweep.StatTodo split n) ks = is_known n ks ≡ false
+UnsweptRow (sweep.StatInfo split n todo) ks = is_known n ks ≡ false
 UnsweptRow (sweep.Give split n) ks = is_known n ks ≡ false
 UnsweptRow (sweep.Take split n) ks = is_known n ks ≡ false
 UnsweptRow row ks = Unit {0}
@@ -310,7 +310,7 @@ module _ (b : Book) where
 
   mess_unswept : (w : Way) (split n moment now : ℕ) → is_known n ks ≡ false → UnsweptRow (mess_stated w split n moment now) ks
   mess_unswept way.Fine split n moment now h = by (nat_lt (moment + PID_NAME_AGE) now) where
-    by : (x : Bool) → UnsweptRow (if x then sweep.StatInfo split n else sweep.Next split) ks
+    by : (x : Bool) → UnsweptRow (if x then sweep.StatTodo split n else sweep.Next split) ks
     by true = h
     by false = tt
   mess_unswept way.Over split n moment now h = tt
@@ -318,20 +318,20 @@ module _ (b : Book) where
   mess_unswept way.Broken split n moment now h = tt
   mess_unswept way.NoMemory split n moment now h = tt
 
-  info_unswept : (w : Way) (split n : ℕ) → is_known n ks ≡ false → UnsweptRow (info_stated w split n) ks
-  info_unswept way.Fine split n h = h
-  info_unswept way.Over split n h = tt
-  info_unswept way.Absent split n h = h
-  info_unswept way.Broken split n h = tt
-  info_unswept way.NoMemory split n h = tt
+  todo_unswept : (w : Way) (split n : ℕ) → is_known n ks ≡ false → UnsweptRow (todo_stated w split n) ks
+  todo_unswept way.Fine split n h = h
+  todo_unswept way.Over split n h = tt
+  todo_unswept way.Absent split n h = h
+  todo_unswept way.Broken split n h = tt
+  todo_unswept way.NoMemory split n h = tt
 
-  todo_unswept : (w : Way) (split n : ℕ) (info : Bool) → is_known n ks ≡ false → UnsweptRow (todo_stated w split n info) ks
-  todo_unswept way.Fine split n info h = tt
-  todo_unswept way.Over split n info h = tt
-  todo_unswept way.Absent split n true h = tt
-  todo_unswept way.Absent split n false h = h
-  todo_unswept way.Broken split n info h = tt
-  todo_unswept way.NoMemory split n info h = tt
+  info_unswept : (w : Way) (split n : ℕ) (todo : Bool) → is_known n ks ≡ false → UnsweptRow (info_stated w split n todo) ks
+  info_unswept way.Fine split n todo h = tt
+  info_unswept way.Over split n todo h = tt
+  info_unswept way.Absent split n true h = tt
+  info_unswept way.Absent split n false h = h
+  info_unswept way.Broken split n todo h = tt
+  info_unswept way.NoMemory split n todo h = tt
 
   given_unswept : (w : Way) (split n : ℕ) → is_known n ks ≡ false → UnsweptRow (sweep_given w split n) ks
   given_unswept way.Fine split n h = h
@@ -351,8 +351,8 @@ module _ (b : Book) where
   to_unswept sweep.First now s h = swept_unswept s.way s.bytes 0
   to_unswept (sweep.Next split) now s h = swept_unswept s.way s.bytes split
   to_unswept (sweep.StatMess split n) now s h = mess_unswept s.way split n s.stat.moment now h
-  to_unswept (sweep.StatInfo split n) now s h = info_unswept s.way split n h
-  to_unswept (sweep.StatTodo split n info) now s h = todo_unswept s.way split n info h
+  to_unswept (sweep.StatTodo split n) now s h = todo_unswept s.way split n h
+  to_unswept (sweep.StatInfo split n todo) now s h = info_unswept s.way split n todo h
   to_unswept (sweep.Give split n) now s h = given_unswept s.way split n h
   to_unswept (sweep.Take split n) now s h = taken_unswept s.way split
   to_unswept sweep.Over now s h = tt
@@ -364,8 +364,8 @@ at_unswept sweep.Lost e h = tt
 at_unswept sweep.First e h = h
 at_unswept (sweep.Next split) e h = h
 at_unswept (sweep.StatMess split n) e h = h
-at_unswept (sweep.StatInfo split n) e h = h
-at_unswept (sweep.StatTodo split n info) e h = h
+at_unswept (sweep.StatTodo split n) e h = h
+at_unswept (sweep.StatInfo split n todo) e h = h
 at_unswept (sweep.Give split n) e h = h
 at_unswept (sweep.Take split n) e h = h
 

@@ -192,8 +192,8 @@ module _ (c : Channel) (n now : ℕ) (command : List ℕ) (clears : Bool) (f : O
 
   pub quiet_sweep : (row : SweepRow) (d : Desk) → ((split k : ℕ) → row ≡ sweep.Take split k → command ≡ remove_text k) → Quiet (due_at (at.Sweep row) d)
   quiet_sweep (sweep.StatMess split k) d gave = quiet_stat (NameOf MessFile k) (λ told. tt)
-  quiet_sweep (sweep.StatInfo split k) d gave = quiet_stat (NameOf InfoFile k) (λ told. tt)
-  quiet_sweep (sweep.StatTodo split k info) d gave = quiet_stat (NameOf TodoFile k) (λ told. tt)
+  quiet_sweep (sweep.StatTodo split k) d gave = quiet_stat (NameOf TodoFile k) (λ told. tt)
+  quiet_sweep (sweep.StatInfo split k todo) d gave = quiet_stat (NameOf InfoFile k) (λ told. tt)
   quiet_sweep (sweep.Take split k) d gave = quiet_removed k (gave split k refl)
   quiet_sweep sweep.First d gave = λ got. tt
   quiet_sweep row d gave = λ got. tt

@@ -42,7 +42,7 @@ use Rattle.send_parts.specs.declared.reply.Way.TheVariants as way
 use Rattle.send_parts.specs.declared.rows.Search.{Search}
 use Rattle.send_parts.specs.declared.rows.StartRow.{StartRow}
 use Rattle.send_parts.specs.declared.rows.StartRow.TheVariants as start
-use Rattle.send_parts.specs.Files.{is_info, message_number}
+use Rattle.send_parts.specs.Files.{is_info, message_number, number_below}
 use Rattle.send_parts.specs.Readings.{read_on}
 use Rattle.send_parts.specs.Replies.{Said, answered as replied, said}
 use Rattle.send_parts.specs.Rows.{is_again}
@@ -332,7 +332,7 @@ scan_row_look None split look = look
 scan_row_look (Some n) split look = look
 
 scanned_look : (w : Way) (text : List ℕ) (split : ℕ) (b : Book) → IsLook (scanned w text split b).row → ⊥
-scanned_look way.Fine text split b look = scan_row_look (message_number text) split look
+scanned_look way.Fine text split b look = scan_row_look (number_below split text) split look
 scanned_look way.Over text split b look = by (nat_lt split 22) look where
   by : (x : Bool) → IsLook (if x then start.Scan (split + 1) else start.Over) → ⊥
   by true look = look

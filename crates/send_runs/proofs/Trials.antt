@@ -170,8 +170,8 @@ module _ (P : MarkRow → Option Mark → Marked → Writing → Type 0) (f : Op
   swept_after sweep.First e d t none h = unread_trial (at.Sweep sweep.First) d t tt none h
   swept_after (sweep.Next split) e d t none h = unread_trial (at.Sweep (sweep.Next split)) d t tt none h
   swept_after (sweep.StatMess split n) e d t none h = unread_trial (at.Sweep (sweep.StatMess split n)) d t tt none h
-  swept_after (sweep.StatInfo split n) e d t none h = unread_trial (at.Sweep (sweep.StatInfo split n)) d t tt none h
-  swept_after (sweep.StatTodo split n info) e d t none h = unread_trial (at.Sweep (sweep.StatTodo split n info)) d t tt none h
+  swept_after (sweep.StatTodo split n) e d t none h = unread_trial (at.Sweep (sweep.StatTodo split n)) d t tt none h
+  swept_after (sweep.StatInfo split n todo) e d t none h = unread_trial (at.Sweep (sweep.StatInfo split n todo)) d t tt none h
   swept_after (sweep.Give split n) e d t none h = unread_trial (at.Sweep (sweep.Give split n)) d t tt none h
   swept_after (sweep.Take split n) e d t none h = unread_trial (at.Sweep (sweep.Take split n)) d t tt none h
 

@@ -479,8 +479,8 @@ swept_dues = joined (
     search (codes "mess/0") ∷
     search (codes "mess/1") ∷
     needs.File (call.Stat (codes "mess/1/1")) ∷
-    needs.File (call.Stat (codes "info/1/1")) ∷
     needs.File (call.Stat (codes "todo/1")) ∷
+    needs.File (call.Stat (codes "info/1/1")) ∷
     needs.Give port.Clean (codes "foop/1" ++ (0 ∷ [])) ∷
     needs.Take port.Clean ∷
     needs.File (call.NextName (codes "mess/1") (codes "1")) ∷ []) ∷

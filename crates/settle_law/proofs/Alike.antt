@@ -1,13 +1,15 @@
 -- States that are alike but for what the sender did, as before and after its searches of `todo`.
 use Rattle.std.proofs.Common.{◌≡◌, ◌≢◌, ⊎_elim, ℕ, List, [], ◌∷◌, ◌++◌, Bool, true, false, not, ◌&&◌, if◌then◌else◌, Option, Some, None, refl, sym, ap, ◌∙◌, subst}
 use Rattle.std.proofs.Math.Path.{fun_ext}
-use Rattle.std.proofs.lemmas.Bool.{and_parts}
+use Rattle.std.proofs.lemmas.Bool.{and_parts, false≢true}
 use Rattle.std.proofs.lemmas.Slice.Eq.{bytes_eq-Decides}
 use Rattle.std.specs.Prelude.{bytes_eq, codes, is_some, position}
 use Rattle.std.specs.List.{list_all, range_with_len}
 use Rattle.call_fs.specs.Disk.{Disk}
 use Rattle.call_fs.specs.Maps.{put_at}
+use Rattle.call_fs.specs.declared.calls.CallData.TheVariants.{NextName}
 use Rattle.call_fs.specs.declared.past.GotData.{GotData}
+use Rattle.call_fs.specs.declared.past.GotData.TheVariants.{Answered}
 use Rattle.call_fs.specs.declared.past.NeedData.{NeedData}
 use Rattle.call_fs.specs.declared.past.NeedData.TheVariants as needs
 use Rattle.call_fs.specs.declared.past.Own.{Own}
@@ -17,9 +19,9 @@ use Rattle.call_fs.specs.declared.program.Ready.{Ready}
 use Rattle.call_fs.specs.declared.program.TheConstants.{INPUT_READY}
 use Rattle.call_fs.proofs.Maps.{put_at_cases, put_at_other}
 use Rattle.world_events.specs.declared.event.Program.{Program}
-use Rattle.world_events.specs.declared.event.Program.TheVariants.{Injector, Cleaner, Sender, LocalSpawner, RemoteSpawner, Delivery}
+use Rattle.world_events.specs.declared.event.Program.TheVariants.{Injector, Cleaner, Sender}
 use Rattle.mail_world.specs.Generations.{CanNot, lives_in}
-use Rattle.mail_world.specs.History.{Actor, Life, State, acted, happens, next_of}
+use Rattle.mail_world.specs.History.{Actor, Life, State, acted, disk_after, happens, next_of}
 use Rattle.mail_world.specs.History.Event.{Start, Act, Child, Generation, Report, End, Stop, Moment, Halt}
 use Rattle.mail_world.specs.History.Life.{Alive, Over, Stopped}
 use Rattle.mail_world.specs.Pipework.{Pipework, Tenant, is_ready, pipework_after}
@@ -31,26 +33,29 @@ use Rattle.scenario.specs.Turns.{is_search_call, is_search_deed}
 
 pub record AreAlike (s t : State) : Type 0 where
   pub now : s.now ≡ t.now
+  pub disk : s.disk ≡ t.disk
   pub pipework : s.pipework ≡ t.pipework
   pub others : (a : List ℕ) → a ≢ codes "sender" → s.actors a ≡ t.actors a
   pub lives : (a : List ℕ) → lives_in (s.actors a) ≡ lives_in (t.actors a)
   pub gone : (a : List ℕ) → is_gone (s.actors a) ≡ is_gone (t.actors a)
 
 pub alike_itself : (s : State) → AreAlike s s
-alike_itself s = record { now = refl; pipework = refl; others = λ a far. refl; lives = λ a. refl; gone = λ a. refl }
+alike_itself s = record { now = refl; disk = refl; pipework = refl; others = λ a far. refl; lives = λ a. refl; gone = λ a. refl }
 
 pub alike_turned : (s t : State) → AreAlike s t → AreAlike t s
 alike_turned s t alike = record {
   now = sym alike.now;
+  disk = sym alike.disk;
   pipework = sym alike.pipework;
   others = λ a far. sym (alike.others a far);
   lives = λ a. sym (alike.lives a);
   gone = λ a. sym (alike.gone a);
 }
 
-alike_then : (s t u : State) → AreAlike s t → AreAlike t u → AreAlike s u
+pub alike_then : (s t u : State) → AreAlike s t → AreAlike t u → AreAlike s u
 alike_then s t u one more = record {
   now = one.now ∙ more.now;
+  disk = one.disk ∙ more.disk;
   pipework = one.pipework ∙ more.pipework;
   others = λ a far. one.others a far ∙ more.others a far;
   lives = λ a. one.lives a ∙ more.lives a;
@@ -74,6 +79,12 @@ search_pipes w a (needs.Command bytes) came wrote search = absurd (cc)
 search_pipes w a needs.Wait came wrote search = absurd (cc)
 search_pipes w a (needs.Ended status) came wrote search = absurd (cc)
 
+search_disk : (d : Disk) (read : ℕ) (due : NeedData) (came : GotData) (wrote : ℕ) → is_search_call due ≡ true → disk_after d read due came wrote ≡ d
+search_disk d read (needs.File (NextName dir from)) (Answered told) wrote search = refl
+search_disk d read (needs.File (NextName dir from)) came wrote search = refl
+search_disk d read (needs.File c) came wrote search = absurd (false≢true search)
+search_disk d read due came wrote search = absurd (false≢true search)
+
 lives_still : (program : Program) (past after_past : List Own) (life : Life) → lives_in (Some (record { program = program; past = past; life = life }))
     ≡ lives_in (Some (record { program = program; past = after_past; life = life }))
 lives_still program past after_past Alive = refl
@@ -86,6 +97,7 @@ acted_alike s own wrote (Some x) is search =
     let y : Option Actor = Some (record { program = x.program; past = own ∷ x.past; life = x.life }) in
     record {
       now = refl;
+      disk = sym (search_disk s.disk own.read own.due own.came wrote search);
       pipework = sym (search_pipes s.pipework (codes "sender") own.due own.came wrote search);
       others = λ a far. sym (put_at_other s.actors (codes "sender") y a far);
       lives = put_tells lives_in s.actors (codes "sender") y (ap lives_in is ∙ lives_still x.program x.past (own ∷ x.past) x.life);
@@ -150,9 +162,7 @@ module _ (s t : State) (alike : AreAlike s t) where
       let f : Pipework → Bool → Ready = λ w b.
       record { links = is_ready (w.pipes a port.Clean) ∷ is_ready (w.pipes a port.Lspawn) ∷ is_ready (w.pipes a port.Rspawn) ∷ false ∷ []; child = only_child b } in
       ap (λ (w : Pipework). f w (has_ended s (s.pipework.programs a 0))) alike.pipework ∙ ap (f t.pipework) (slot_alike a 0)
-  by_program a (LocalSpawner start) = or_child_alike a
-  by_program a (RemoteSpawner start) = or_child_alike a
-  by_program a (Delivery start args) = or_child_alike a
+  by_program a other = or_child_alike a
 
   by_actor : (a : List ℕ) (o : Option Actor) → found_at s a o ≡ found_at t a o
   by_actor a None = refl

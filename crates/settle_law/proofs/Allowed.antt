@@ -12,7 +12,7 @@ use Rattle.send_jobs.specs.declared.slots.Slots.{Slots}
 use Rattle.send_jobs.specs.Sending.{lane}
 use Rattle.send_runs.specs.Status.{limit_by}
 use Rattle.send_runs.proofs.Limits.{LimitsBy, Long, limits_kept}
-use Rattle.settle_law.specs.inside.Rests.{BeginsTurn}
+use Rattle.settle_law.specs.Rests.{BeginsTurn}
 use Rattle.settle_law.specs.inside.Slots.{SlotsAreAllowed}
 
 long_at : (a : Channel → Account) (k : Controls) (row : Row) (s : Slots) → BeginsTurn row → LimitsBy a k row s → Long (λ c. limit_by c (a c) k) s

@@ -1,5 +1,5 @@
 -- Where each report is of a success a rest has no message, if the facts hold of which a settled state comes.
-use Rattle.std.proofs.Common.{◌≡◌, ⊎_elim, ℕ, List, ◌∷◌, Bool, true, false, Option, Some, None, refl, sym, ap, ◌∙◌, subst, codes}
+use Rattle.std.proofs.Common.{◌≡◌, ⊎_elim, ℕ, List, ◌∷◌, ◌++◌, Bool, true, false, Option, Some, None, refl, sym, ap, ◌∙◌, subst, codes}
 use Rattle.std.specs.Prelude.{IsSome, is_some}
 use Rattle.std.proofs.lemmas.Bool.{and_from}
 use Rattle.std.proofs.lemmas.List.Elements.{All-contains}
@@ -20,8 +20,8 @@ use Rattle.retry_law.proofs.Jobs.{clear, jobs}
 use Rattle.retry_law.specs.Passes.{IsClear}
 use Rattle.retry_law.specs.Retries.{has_file}
 use Rattle.retry_law.specs.Tried.{tried_in}
-use Rattle.send_core.specs.Stands.{ends_idle}
-use Rattle.send_core.specs.Table.{Next, moved}
+use Rattle.send_core.specs.Stands.{is_search}
+use Rattle.send_core.specs.Table.{Next, row_now}
 use Rattle.send_jobs.specs.Jobs.{job_of}
 use Rattle.send_jobs.specs.Sending.{lane}
 use Rattle.send_known.specs.declared.channel.Channel.TheVariants.{Local, Remote}
@@ -40,16 +40,18 @@ use Rattle.scenario.specs.Deeds.{Deed, after, history_of}
 use Rattle.scenario.specs.Turns.{is_search_call}
 use Rattle.world_law.proofs.Ran.{have_run}
 use Rattle.settle_law.specs.Promised.{IsRest, RestsHold}
+use Rattle.settle_law.specs.inside.Rests.{IsWholeTurn}
 use Rattle.settle_law.specs.inside.Steps.{RestsAreEmpty}
 use Rattle.settle_law.specs.Settled.{AllGone, WaitsForRetry}
 use Rattle.settle_law.specs.Suffices.{HasRest, IsKnown, desk_of}
 use Rattle.settle_law.specs.inside.TriedStay.{tried_at}
 use Rattle.settle_law.specs.Well.{AllSucceed}
 use Rattle.settle_law.proofs.FreeChannels.{rests_free}
-use Rattle.settle_law.proofs.Holding as at_rest
-use Rattle.settle_law.proofs.Staying.{Keeps, ends_keep}
+use Rattle.settle_law.proofs.DuesAtRest.{run_before}
+use Rattle.settle_law.proofs.Searching.{Keeps, turn_keeps}
 use Rattle.settle_law.proofs.Succeeding.{reports_succeed}
 use Rattle.settle_law.proofs.Sufficing.{suffices}
+use Rattle.settle_law.proofs.TurnPasts as turned
 use Rattle.settle_law.proofs.TriedWork.{tried_are_at_work}
 
 -- a search unlinks nothing
@@ -64,31 +66,40 @@ has_so Remote k past both e = sym both.1 ∙ e
 none_some : {A : Type 0} (o : Option A) → o ≡ None → IsSome o → ⊥
 none_some {A = A} o none some = absurd (cc (sym (ap (λ (p : Option A). is_some p) none) ∙ some))
 
-module _ (controls : Controls) (d : Disk) (deed : Deed) (before : List Deed) (rest : IsRest controls d deed before) (all : AllSucceed (history_of (deed ∷ before))) where
+module _ (controls : Controls) (d : Disk) (later : List Deed) (first : Deed) (before : List Deed) (rest : IsRest controls d later first before) (all : AllSucceed (history_of (later ++ first ∷ before))) where
   abbrev x : Actor
-  x = at_rest.x controls d deed before rest
+  x = rest.turn.sender
 
   abbrev y : Actor
-  y = at_rest.y controls d deed before rest
+  y = turned.y d later first before rest.turn
 
   abbrev own : Own
-  own = rest.idle.own
+  own = rest.turn.searches.own
 
-  ended : (start : ℕ) × (x.program ≡ Sender start) × (ends_idle (desk_of x.past) own ≡ true)
-  ended = at_rest.ended controls d deed before rest
+  abbrev more : List Own
+  more = turned.more d later first before rest.turn
 
-  is_now : (after d (deed ∷ before)).actors (codes "sender") ≡ Some y
-  is_now = at_rest.is_now controls d deed before rest
+  whole : IsWholeTurn x.past own more
+  whole = turned.whole d later first before rest.turn
 
-  run : IsRunBy (Next None) (own ∷ x.past)
-  run = subst (λ (p : Program). IsRunBy (next_of p) y.past) ended.1 (have_run d (history_of (deed ∷ before)) rest.well.legal (codes "sender") y is_now)
+  sends : (start : ℕ) × (x.program ≡ Sender start) × (is_search (row_now (desk_of x.past) own.read own.ready) ≡ true)
+  sends = turned.sends d later first before rest.turn
 
-  keeps : Keeps (desk_of x.past) (moved (desk_of x.past) own)
-  keeps = ends_keep (desk_of x.past) own ended.2
+  is_now : (after d (later ++ first ∷ before)).actors (codes "sender") ≡ Some y
+  is_now = turned.is_now d later first before rest.turn
 
-  module _ (ready : Ready) (h : HasRest (after d (deed ∷ before)) y.past ready) where
+  run : IsRunBy (Next None) (more ++ own ∷ x.past)
+  run = subst (λ (p : Program). IsRunBy (next_of p) y.past) sends.1 (have_run d (history_of (later ++ first ∷ before)) rest.well.legal (codes "sender") y is_now)
+
+  ran : IsRunBy (Next None) (own ∷ x.past)
+  ran = run_before (own ∷ x.past) more run
+
+  keeps : Keeps (desk_of x.past) (desk_of y.past)
+  keeps = turn_keeps x.past own more whole
+
+  module _ (ready : Ready) (h : HasRest (after d (later ++ first ∷ before)) y.past ready) where
     clear_then : (c : Channel) → IsClear (lane c (desk_of y.past).slots)
-    clear_then c = record { given = (rests_free (desk_of y.past) (after d (deed ∷ before)).now ready c h.rests (h.slots c) (h.free c)).0; flies = h.free c; marks = h.rests.marks c }
+    clear_then c = record { given = (rests_free (desk_of y.past) (after d (later ++ first ∷ before)).now ready c h.rests (h.slots c) (h.free c)).0; flies = h.free c; marks = h.rests.marks c }
 
     clear_before : (c : Channel) → IsClear (lane c (desk_of x.past).slots)
     clear_before c = subst (λ (s : Slots). IsClear (lane c s)) keeps.slots (clear_then c)
@@ -100,17 +111,17 @@ module _ (controls : Controls) (d : Disk) (deed : Deed) (before : List Deed) (re
         by : (o : Option Job) → job_of n (lane c (desk_of x.past).slots).jobs ≡ o → job_of n (lane c (desk_of x.past).slots).jobs ≡ None
         by None e = e
         by (Some job) e =
-            let goes = (jobs None x.past own run c n).goes job (searches_keep c n (has_unlinked x.past) own.due rest.idle.search) e in
-            let none : pass_in c n x.past ≡ None = clear None x.past own run c (clear_before c) n in
+            let goes = (jobs None x.past own ran c n).goes job (searches_keep c n (has_unlinked x.past) own.due rest.turn.searches.search) e in
+            let none : pass_in c n x.past ≡ None = clear None x.past own ran c (clear_before c) n in
             absurd (cc (sym none ∙ goes.0))
 
     untried : (c : Channel) (n : ℕ) → tried_at y.past c n ≡ true → ⊥
     untried c n t =
         none_some (job_of n (lane c (desk_of y.past).slots).jobs) (no_job c n)
-        (tried_are_at_work controls d (history_of (deed ∷ before)) rest.well (codes "sender") y ended.0 is_now ended.1
-        (reports_succeed controls d (history_of (deed ∷ before)) rest.well all y ended.0 is_now ended.1) c n t)
+        (tried_are_at_work controls d (history_of (later ++ first ∷ before)) rest.well (codes "sender") y sends.0 is_now sends.1
+        (reports_succeed controls d (history_of (later ++ first ∷ before)) rest.well all y sends.0 is_now sends.1) c n t)
 
-    waits_not : (n : ℕ) → WaitsForRetry (after d (deed ∷ before)) y.past n → ⊥
+    waits_not : (n : ℕ) → WaitsForRetry (after d (later ++ first ∷ before)) y.past n → ⊥
     waits_not n w = by (has_file w.channel know.0) refl
       where
         know : (k : Known) × IsKnown y.past k × (k.n ≡ n)
@@ -123,7 +134,7 @@ module _ (controls : Controls) (d : Disk) (deed : Deed) (before : List Deed) (re
         by false e =
             let gone = h.gone know.0 w.channel know.1 e in
             let there = w.undone.there in
-            absurd (cc (sym (subst (λ (m : ℕ). (after d (deed ∷ before)).disk.names (path (Of (lane_part w.channel) m)) ≡ None) know.2 gone) ∙ there))
+            absurd (cc (sym (subst (λ (m : ℕ). (after d (later ++ first ∷ before)).disk.names (path (Of (lane_part w.channel) m)) ≡ None) know.2 gone) ∙ there))
         by true e =
             let has : has_in w.channel know.0.n y.past ≡ true =
             has_so w.channel know.0 y.past (All-contains (λ (j : Known). (j.local ≡ has_in Local j.n y.past) × (j.remote ≡ has_in Remote j.n y.past)) (desk_of y.past).book.messages.known know.0
@@ -131,13 +142,13 @@ module _ (controls : Controls) (d : Disk) (deed : Deed) (before : List Deed) (re
             untried w.channel n (and_from (is_some (tried_in w.channel n y.past)) (has_in w.channel n y.past) (ap (λ (o : Option ℕ). is_some o) tried.1)
             (subst (λ (m : ℕ). has_in w.channel m y.past ≡ true) know.2 has))
 
-    all_gone : AllGone (after d (deed ∷ before))
+    all_gone : AllGone (after d (later ++ first ∷ before))
     all_gone n = ⊎_elim
-        (λ (one : state_of (after d (deed ∷ before)).disk n ≡ S1). one)
-        (λ (w : WaitsForRetry (after d (deed ∷ before)) y.past n). absurd (waits_not n w))
-        (suffices (after d (deed ∷ before)) y.past ready h n)
+        (λ (one : state_of (after d (later ++ first ∷ before)).disk n ≡ S1). one)
+        (λ (w : WaitsForRetry (after d (later ++ first ∷ before)) y.past n). absurd (waits_not n w))
+        (suffices (after d (later ++ first ∷ before)) y.past ready h n)
 
 pub rests_are_empty_by : RestsHold → RestsAreEmpty
-rests_are_empty_by hold controls d deed before rest all =
-    let h = hold controls d deed before rest (at_rest.y controls d deed before rest) (at_rest.is_now controls d deed before rest) in
-    all_gone controls d deed before rest all h.0 h.1
+rests_are_empty_by hold controls d later first before rest all =
+    let h = hold controls d later first before rest (turned.y d later first before rest.turn) (turned.is_now d later first before rest.turn) in
+    all_gone controls d later first before rest all h.0 h.1

@@ -1,15 +1,9 @@
 -- What `settle` promises comes of what a rest leaves.
-use Rattle.std.proofs.Common.{◌≡◌, List, [], ◌∷◌, ◌++◌, codes, sym, subst, Option, Some, ℕ}
+use Rattle.std.proofs.Common.{◌≡◌, List, [], ◌∷◌, ◌++◌, codes, sym, subst}
 use Rattle.address_rules.specs.declared.controls.Controls.{Controls}
 use Rattle.call_fs.specs.Disk.{Disk}
-use Rattle.call_fs.specs.declared.past.Own.{Own}
-use Rattle.call_fs.proofs.Maps.{put_at_same}
-use Rattle.mail_world.specs.History.{Actor, State, acted, happens}
-use Rattle.mail_world.specs.History.Event.{Act}
-use Rattle.mail_world.specs.History.Life.{Alive}
 use Rattle.script_words.specs.declared.letter.Letter.{Letter}
 use Rattle.scenario.specs.Deeds.{Deed, after, history_of}
-use Rattle.scenario.specs.Deeds.Deed.{Came}
 use Rattle.scenario.specs.Steps.Refusal.{Rounds, Steps}
 use Rattle.scenario.specs.Turns.{IsSettled, Round, events_in}
 use Rattle.settle_law.specs.Ends.{StopsSo}
@@ -21,13 +15,16 @@ use Rattle.settle_law.specs.Well.{AllSucceed, GoesWell}
 use Rattle.settle_law.proofs.IdleRounds.{idle_rounds_rest}
 use Rattle.settle_law.proofs.Stopping.{not_refused, settle_stops}
 use Rattle.settle_law.proofs.Sufficing.{suffices}
+use Rattle.settle_law.proofs.TurnPasts as turned
+use Rattle.settle_law.proofs.WholeTurns.{rests_begin}
 
--- a rest, as the newest of all deeds so far
+-- a rest, with the newest of all deeds so far
 record Rest (controls : Controls) (d : Disk) (deeds : List Deed) : Type 0 where
-  deed : Deed
+  later : List Deed
+  first : Deed
   before : List Deed
-  are : deeds ≡ deed ∷ before
-  rest : IsRest controls d deed before
+  are : deeds ≡ later ++ first ∷ before
+  rest : IsRest controls d later first before
 
 module _ (controls : Controls) (d : Disk) (h : List Deed) (letter : Letter) (rounds : List Round) (so : HasSettled controls d h letter rounds) where
   rest_of : StopsSo d h letter rounds [] → Rest controls d (events_in letter rounds ++ h)
@@ -36,15 +33,16 @@ module _ (controls : Controls) (d : Disk) (h : List Deed) (letter : Letter) (rou
   rest_of (Rests none round before are last deed older newest ends finds) =
       let others = subst (λ (l : List Round). OthersWait (after d (events_in letter l ++ h))) (sym are)
       (idle_rounds_rest d h so.plan letter round before (subst (λ (l : List Round). IsSettled d h so.plan letter l []) are so.settles) last) in
+      let well = subst (λ (l : List Deed). GoesWell controls d (history_of l)) newest so.well in
       record {
-        deed = deed;
+        later = [];
+        first = deed;
         before = older;
         are = newest;
         rest = record {
           empty = so.empty;
-          well = subst (λ (l : List Deed). GoesWell controls d (history_of l)) newest so.well;
-          idle = ends;
-          finds = finds;
+          well = well;
+          turn = rests_begin controls d deed older well so.empty ends finds;
           others = subst (λ (l : List Deed). OthersWait (after d l)) newest others;
         };
       }
@@ -55,35 +53,19 @@ module _ (controls : Controls) (d : Disk) (h : List Deed) (letter : Letter) (rou
 pub settled : RestsAreSettled → SettlesEnd
 settled are controls d h letter rounds so =
     let it = last_rest controls d h letter rounds so in
-    subst (λ (l : List Deed). Settled (after d l)) (sym it.are) (are controls d it.deed it.before it.rest)
+    subst (λ (l : List Deed). Settled (after d l)) (sym it.are) (are controls d it.later it.first it.before it.rest)
 
 pub gone : RestsAreEmpty → SuccessesEnd
 gone are controls d h letter rounds so all =
     let it = last_rest controls d h letter rounds so in
     subst (λ (l : List Deed). AllGone (after d l)) (sym it.are)
-    (are controls d it.deed it.before it.rest (subst (λ (l : List Deed). AllSucceed (history_of l)) it.are all))
+    (are controls d it.later it.first it.before it.rest (subst (λ (l : List Deed). AllSucceed (history_of l)) it.are all))
 
--- A sender that has searched lives
-
-record Lives (s : State) : Type 0 where
-  sender : Actor
-  is : s.actors (codes "sender") ≡ Some sender
-  alive : sender.life ≡ Alive
-
-lives_on : (s : State) (own : Own) (wrote : ℕ) (x : Actor) → s.actors (codes "sender") ≡ Some x → x.life ≡ Alive → Lives (happens s (Act (codes "sender") own wrote))
-lives_on s own wrote x is alive =
-    let y : Actor = record { program = x.program; past = own ∷ x.past; life = x.life } in
-    let now : Lives (acted s (codes "sender") own wrote (Some x)) = record { sender = y; is = put_at_same s.actors (codes "sender") (Some y); alive = alive } in
-    subst (λ (o : Option Actor). Lives (acted s (codes "sender") own wrote o)) (sym is) now
-
-rest_lives : (controls : Controls) (d : Disk) (own : Own) (wrote : ℕ) (before : List Deed) → GoesWell controls d (Act (codes "sender") own wrote ∷ history_of before)
-    → Lives (after d (Came (Act (codes "sender") own wrote) ∷ before))
-rest_lives controls d own wrote before well = let reads = well.legal.1.reads in lives_on (after d before) own wrote well.legal.1.actor reads.is reads.alive
+-- The sender lives still
 
 pub hold : RestsHold → RestsAreSettled
-hold facts controls d deed before rest =
-    let idle = rest.idle in
-    let well = subst (λ (e : Deed). GoesWell controls d (history_of (e ∷ before))) idle.is rest.well in
-    let lives : Lives (after d (deed ∷ before)) = subst (λ (e : Deed). Lives (after d (e ∷ before))) (sym idle.is) (rest_lives controls d idle.own idle.wrote before well) in
-    let it = facts controls d deed before rest lives.sender lives.is in
-    record { sender = lives.sender; is = lives.is; alive = lives.alive; settled = suffices (after d (deed ∷ before)) lives.sender.past it.0 it.1 }
+hold facts controls d later first before rest =
+    let y = turned.y d later first before rest.turn in
+    let is = turned.is_now d later first before rest.turn in
+    let it = facts controls d later first before rest y is in
+    record { sender = y; is = is; alive = turned.alive d later first before rest.turn controls rest.well; settled = suffices (after d (later ++ first ∷ before)) y.past it.0 it.1 }

@@ -31,7 +31,7 @@ use Rattle.send_core.specs.declared.desk.Desk.{Desk}
 use Rattle.send_parts.specs.declared.row.Row.{Row}
 use Rattle.send_known.specs.Known.{sender_of}
 use Rattle.world_events.specs.declared.event.Program.{Program}
-use Rattle.world_events.specs.declared.event.Program.TheVariants.{Injector, Cleaner, Sender, LocalSpawner, RemoteSpawner, Delivery}
+use Rattle.world_events.specs.declared.event.Program.TheVariants.{Sender, LocalSpawner, Delivery}
 use Rattle.world_pipes.specs.Pipework.{Pipe, Pipework, Slot, Tenant, closed, fresh, given, is_member, is_writer, mouth, pipes_after, slot_of, writer}
 use Rattle.world_pipes.specs.Pipework.Tenant.{Remote, Runs}
 use Rattle.mail_world.specs.History.{Actor, Allowed, Event, Legal, Life, MayBear, State, acted, after, bears, finished, happens, newborn, next_of, slot_by}
@@ -97,11 +97,9 @@ sender_feeds start past own asked pid life run due got now found =
 starts_feeds : (program : Program) (past : List Own) (own : Own) (other : Program) (asked : ChildData) (pid : ℕ) (life : Life) → Bears program other → IsRunBy (next_of program) (own ∷ past)
     → own.due ≡ needs.Start asked → own.came ≡ came.Started pid → FeedsNow (record { program = program; past = own ∷ past; life = life }) (slot_of asked)
 starts_feeds (Sender start) past own other asked pid life bears run due got = sender_feeds start past own asked pid life run due got
-starts_feeds (Injector args) past own other asked pid life bears run due got = absurd bears
-starts_feeds (Cleaner start) past own other asked pid life bears run due got = absurd bears
 starts_feeds (LocalSpawner start) past own other asked pid life bears run due got = feeds_after (LocalSpawner start) past own other asked pid life bears (λ e. e) run due got
-starts_feeds (RemoteSpawner start) past own other asked pid life bears run due got = absurd bears
 starts_feeds (Delivery start args) past own other asked pid life bears run due got = feeds_after (Delivery start args) past own other asked pid life bears (λ e. e) run due got
+starts_feeds program past own other asked pid life bears run due got = absurd bears
 
 -- An event of an actor
 

@@ -13,15 +13,17 @@ use Rattle.call_fs.specs.declared.calls.FsError.TheVariants as why
 use Rattle.call_fs.specs.declared.past.NeedData.{NeedData}
 use Rattle.call_fs.specs.declared.past.NeedData.TheVariants as needs
 use Rattle.queue_paths.proofs.Paths.{parse-path}
-use Rattle.queue_paths.specs.Names.{Name, parse, path}
+use Rattle.queue_paths.specs.Names.{Name, Part, parse, path}
 use Rattle.queue_paths.specs.Names.Name.{Of}
-use Rattle.queue_paths.specs.Names.Part.{Info, Todo}
+use Rattle.queue_paths.specs.Names.Part.{Info}
+use Rattle.queue_paths.specs.Parts.{is_todo, in_todo, parts_of}
+use Rattle.queue_paths.proofs.Parts.{todo_out}
 use Rattle.settle_law.specs.inside.Met.{IsFiled}
 
 -- it takes no todo file away, and makes an info file only where the todo file is there
 abbrev pub Keeps : Disk → ℕ → NeedData → Type 0
-Keeps d n (needs.File (call.Unlink name)) = path (Of Todo n) ≢ name
-Keeps d n (needs.File (call.CreateExcl name)) = path (Of Info n) ≡ name → IsSome (d.names (path (Of Todo n)))
+Keeps d n (needs.File (call.Unlink name)) = (part : Part) → is_todo part ≡ true → path (Of part n) ≢ name
+Keeps d n (needs.File (call.CreateExcl name)) = path (Of Info n) ≡ name → IsSome (in_todo (parts_of d.names n))
 Keeps d n (needs.File (call.Link old new)) = ⊥
 Keeps d n due = Unit {0}
 
@@ -36,13 +38,16 @@ texts_apart x y far same = far (some_name (sym (parse-path x) ∙ ap parse same 
   some_name e = cc
 
 module _ (d : Disk) (n read : ℕ) where
-  made : (name : List ℕ) (fd k : ℕ) → (path (Of Info n) ≡ name → IsSome (d.names (path (Of Todo n)))) → IsFiled (with_new d read name fd k) n → IsFiled d n
+  made : (name : List ℕ) (fd k : ℕ) → (path (Of Info n) ≡ name → IsSome (in_todo (parts_of d.names n))) → IsFiled (with_new d read name fd k) n → IsFiled d n
   made name fd k keeps filed = (none, there) where
-    none : d.names (path (Of Todo n)) ≡ None
-    none = ⊎_elim
-        (λ (c : (path (Of Todo n) ≡ name) × (put_at d.names name (Some k) (path (Of Todo n)) ≡ Some k)). absurd (let bad : ◌≡◌ {A = Option ℕ} (Some k) None = sym c.1 ∙ filed.0 in cc))
-        (λ (c : (path (Of Todo n) ≢ name) × (put_at d.names name (Some k) (path (Of Todo n)) ≡ d.names (path (Of Todo n)))). sym c.1 ∙ filed.0)
-        (put_at_cases d.names name (Some k) (path (Of Todo n)))
+    was : (part : Part) → is_todo part ≡ true → put_at d.names name (Some k) (path (Of part n)) ≡ None → d.names (path (Of part n)) ≡ None
+    was part is gone = ⊎_elim
+        (λ (c : (path (Of part n) ≡ name) × (put_at d.names name (Some k) (path (Of part n)) ≡ Some k)). absurd (let bad : ◌≡◌ {A = Option ℕ} (Some k) None = sym c.1 ∙ gone in cc))
+        (λ (c : (path (Of part n) ≢ name) × (put_at d.names name (Some k) (path (Of part n)) ≡ d.names (path (Of part n)))). sym c.1 ∙ gone)
+        (put_at_cases d.names name (Some k) (path (Of part n)))
+
+    none : in_todo (parts_of d.names n) ≡ None
+    none = todo_out (parts_of (put_at d.names name (Some k)) n) (parts_of d.names n) was filed.0
 
     there : is_some (d.names (path (Of Info n))) ≡ true
     there = ⊎_elim
@@ -50,13 +55,16 @@ module _ (d : Disk) (n read : ℕ) where
         (λ (c : (path (Of Info n) ≢ name) × (put_at d.names name (Some k) (path (Of Info n)) ≡ d.names (path (Of Info n)))). sym (ap is_some c.1) ∙ filed.1)
         (put_at_cases d.names name (Some k) (path (Of Info n)))
 
-  removed : (name : List ℕ) → path (Of Todo n) ≢ name → IsFiled (with_name d name None) n → IsFiled d n
+  removed : (name : List ℕ) → ((part : Part) → is_todo part ≡ true → path (Of part n) ≢ name) → IsFiled (with_name d name None) n → IsFiled d n
   removed name far filed = (none, there) where
-    none : d.names (path (Of Todo n)) ≡ None
-    none = ⊎_elim
-        (λ (c : (path (Of Todo n) ≡ name) × (put_at d.names name None (path (Of Todo n)) ≡ None)). absurd (far c.0))
-        (λ (c : (path (Of Todo n) ≢ name) × (put_at d.names name None (path (Of Todo n)) ≡ d.names (path (Of Todo n)))). sym c.1 ∙ filed.0)
-        (put_at_cases d.names name None (path (Of Todo n)))
+    was : (part : Part) → is_todo part ≡ true → put_at d.names name None (path (Of part n)) ≡ None → d.names (path (Of part n)) ≡ None
+    was part is gone = ⊎_elim
+        (λ (c : (path (Of part n) ≡ name) × (put_at d.names name None (path (Of part n)) ≡ None)). absurd (far part is c.0))
+        (λ (c : (path (Of part n) ≢ name) × (put_at d.names name None (path (Of part n)) ≡ d.names (path (Of part n)))). sym c.1 ∙ gone)
+        (put_at_cases d.names name None (path (Of part n)))
+
+    none : in_todo (parts_of d.names n) ≡ None
+    none = todo_out (parts_of (put_at d.names name None) n) (parts_of d.names n) was filed.0
 
     there : is_some (d.names (path (Of Info n))) ≡ true
     there = ⊎_elim

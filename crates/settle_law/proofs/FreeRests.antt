@@ -1,19 +1,13 @@
 -- Nothing is in flight at a rest.
-use Rattle.std.proofs.Common.{◌≡◌, ℕ, ◌+◌, ◌==◌, List, [], ◌∷◌, length, Bool, true, false, not, if◌then◌else◌, Option, Some, None, refl, sym, ap, ◌∙◌, subst, arith, codes}
+use Rattle.std.proofs.Common.{◌≡◌, ℕ, ◌+◌, ◌==◌, List, [], ◌∷◌, ◌++◌, length, Bool, true, false, not, if◌then◌else◌, Option, Some, None, refl, sym, ap, ◌∙◌, subst, arith, codes}
 use Rattle.std.specs.Prelude.{◌&&◌, cond, slice_get, slice_index_or}
-use Rattle.std.specs.List.{list_all}
 use Rattle.std.proofs.lemmas.Bool.{and_parts, eqb-true, false≢true}
 use Rattle.std.proofs.lemmas.List.{append-nil}
 use Rattle.address_rules.specs.declared.controls.Controls.{Controls}
 use Rattle.call_fs.specs.Disk.{Disk}
-use Rattle.call_fs.proofs.Maps.{put_at_other}
-use Rattle.call_fs.specs.declared.calls.CallData.TheVariants.{NextName}
 use Rattle.call_fs.specs.declared.past.ChildData.{ChildData}
-use Rattle.call_fs.specs.declared.past.NeedData.{NeedData}
-use Rattle.call_fs.specs.declared.past.NeedData.TheVariants as needs
 use Rattle.call_fs.specs.declared.past.Own.{Own}
 use Rattle.call_fs.specs.Past.{IsRunBy}
-use Rattle.call_fs.specs.declared.program.Port.{Port}
 use Rattle.call_fs.specs.declared.program.Port.TheVariants as port
 use Rattle.call_fs.specs.declared.program.Ready.{Ready}
 use Rattle.local_spawn.specs.declared.row.Row.{Row as LocalRow}
@@ -23,7 +17,8 @@ use Rattle.program_law.specs.Post.Posts.{owed_at, told_of}
 use Rattle.remote_spawn.specs.Table.{place_after as remote_after, program_of as remote_program}
 use Rattle.send_core.specs.Agrees.{has_ended}
 use Rattle.send_core.specs.Past.{account, news, reports_in}
-use Rattle.send_core.specs.Table.{holds, link_of}
+use Rattle.send_core.specs.Stands.{is_search}
+use Rattle.send_core.specs.Table.{holds, link_of, row_now}
 use Rattle.send_parts.specs.declared.row.Row.{Row as SendRow}
 use Rattle.send_parts.specs.declared.row.Row.TheVariants as sends_at
 use Rattle.send_jobs.specs.declared.attempts.Attempt.{Attempt}
@@ -45,38 +40,37 @@ use Rattle.spawner_parts.specs.Counts.{asked, runs, times}
 use Rattle.spawner_parts.specs.Known.{At, Kept, Rests, Tells}
 use Rattle.spawner_parts.specs.Table.{any_runs, arrive, due_at, ended_by, is_asked, is_open, none_runs, resting, turning}
 use Rattle.spawner_parts.proofs.Tallies.{idle_slot, or_false}
-use Rattle.world_pipes.specs.Pipework.{Pipe, is_ready, pipes_after}
+use Rattle.world_pipes.specs.Pipework.{Pipe, Pipework, is_ready}
 use Rattle.world_events.specs.declared.event.Program.{Program}
 use Rattle.world_events.specs.declared.event.Program.TheVariants.{LocalSpawner, RemoteSpawner, Sender}
-use Rattle.mail_world.specs.Generations.{CanNot, idled_by}
-use Rattle.mail_world.specs.History.{Actor, Event, IsSender, State, acted, next_of}
-use Rattle.mail_world.specs.History.Event.{Act}
+use Rattle.mail_world.specs.Generations.{CanNot}
+use Rattle.mail_world.specs.History.{Actor, IsSender, State, next_of}
 use Rattle.mail_world.specs.History.Life.{Alive}
-use Rattle.mail_world.specs.History.{after as after_events}
 use Rattle.mail_world.specs.Readiness.{found_at, found_by, lies_ready}
 use Rattle.scenario.specs.Deeds.{Deed, after, history_of}
 use Rattle.world_law.specs.Spawned.{IsSpawner, spawner_name, stands_after}
 use Rattle.world_law.specs.Standing.{goes_on}
 use Rattle.world_law.proofs.PostPipes.{not_spawner}
 use Rattle.world_law.proofs.Ran.{have_run}
-use Rattle.world_law.proofs.Tenants.{some_actor}
-use Rattle.settle_law.specs.Ends.{FindsAll}
 use Rattle.settle_law.specs.inside.Free.{RestsFree}
 use Rattle.settle_law.specs.inside.InHand.{InHand, coming, count}
 use Rattle.settle_law.specs.inside.Living.Servant.{Spawns}
-use Rattle.settle_law.specs.Promised.{OthersWait}
-use Rattle.settle_law.specs.inside.Rests.{BeginsTurn}
+use Rattle.settle_law.specs.inside.Rests.{IsWholeTurn}
+use Rattle.settle_law.specs.Promised.{IsRest}
+use Rattle.settle_law.specs.Rests.{BeginsTurn}
 use Rattle.settle_law.specs.Suffices.{desk_of}
-use Rattle.settle_law.specs.Well.{GoesWell, goes_well}
+use Rattle.settle_law.specs.Well.{GoesWell}
+use Rattle.settle_law.proofs.Alike.{AreAlike}
 use Rattle.settle_law.proofs.Carried.{told_news}
 use Rattle.settle_law.proofs.Flying.{flights_are_in_hand}
+use Rattle.settle_law.proofs.IdleTurns.{idle}
 use Rattle.settle_law.proofs.Living.{servants_live}
 use Rattle.settle_law.proofs.PipeEvents.{spawned_run}
 use Rattle.settle_law.proofs.QuietSpawners.{others_run_none}
 use Rattle.settle_law.proofs.Spawns.{next_on, tells_on}
 use Rattle.settle_law.proofs.Splits.{all_plain}
 use Rattle.settle_law.proofs.Unfinished.{none_waits}
-use Rattle.settle_law.proofs.Unqueued.{Searched, searched}
+use Rattle.settle_law.proofs.TurnPasts as turned
 
 -- Pipes
 
@@ -229,68 +223,59 @@ linked : (c : Channel) (s : State) (start : ℕ) → holds (slice_get (found_by 
 linked Local s start = refl
 linked Remote s start = refl
 
--- a search leaves the pipes
-pipes_left : (s : State) (own : Own) (wrote : ℕ) (dir from : List ℕ) (o : Option Actor) → own.due ≡ needs.File (NextName dir from) → (a : List ℕ) (p : Port) → (acted s (codes "sender") own wrote o).pipework.pipes a p ≡ s.pipework.pipes a p
-pipes_left s own wrote dir from None due a p = refl
-pipes_left s own wrote dir from (Some x) due a p = ap (λ (n : NeedData). pipes_after s.pipework (codes "sender") n own.came wrote a p) due
-
-module _ (controls : Controls) (d : Disk) (own : Own) (wrote : ℕ) (h : List Event) (well : GoesWell controls d (Act (codes "sender") own wrote ∷ h)) (finds : FindsAll (after_events d h) own)
-    (others : OthersWait (after_events d (Act (codes "sender") own wrote ∷ h))) (idled : idled_by ((after_events d h).actors (codes "sender")) own ≡ true) (x : Actor)
-    (is : (after_events d h).actors (codes "sender") ≡ Some x) (begins : BeginsTurn (desk_of x.past).row) where
+module _ (controls : Controls) (d : Disk) (later : List Deed) (first : Deed) (before : List Deed) (rest : IsRest controls d later first before) where
   abbrev s : State
-  s = after_events d h
+  s = after d before
 
   abbrev now : State
-  now = after_events d (Act (codes "sender") own wrote ∷ h)
+  now = after d (later ++ first ∷ before)
 
-  due : next_of x.program x.past own.read own.ready ≡ own.due
-  due = let may = well.legal.1 in subst (λ (y : Actor). next_of y.program y.past own.read own.ready ≡ own.due) (some_actor may.actor x (sym may.reads.is ∙ is)) may.due
+  abbrev x : Actor
+  x = rest.turn.sender
 
-  it : Searched x.program x.past own
-  it = searched x.program x.past own begins due (ap (λ (o : Option Actor). idled_by o own) (sym is) ∙ idled)
+  abbrev own : Own
+  own = rest.turn.searches.own
 
-  earlier : GoesWell controls d h
-  earlier = record {
-    are = well.are;
-    local = well.local;
-    remote = well.remote;
-    legal = well.legal.0;
-    well = (and_parts (goes_well (Act (codes "sender") own wrote)) (list_all goes_well h) well.well).1;
-  }
+  whole : IsWholeTurn x.past own (turned.more d later first before rest.turn)
+  whole = turned.whole d later first before rest.turn
 
-  ready_is : own.ready ≡ found_by s (codes "sender") (Sender it.start)
-  ready_is = finds.found ∙ ap (λ (o : Option Actor). found_at s (codes "sender") o) is ∙ ap (λ (p : Program). found_by s (codes "sender") p) it.program
+  sends : (start : ℕ) × (x.program ≡ Sender start) × (is_search (row_now (desk_of x.past) own.read own.ready) ≡ true)
+  sends = turned.sends d later first before rest.turn
+
+  alike : AreAlike s now
+  alike = turned.alike d later first before rest.turn
+
+  earlier : GoesWell controls d (history_of before)
+  earlier = turned.well_before d later first before rest.turn controls rest.well
+
+  ready_is : own.ready ≡ found_by s (codes "sender") (Sender sends.0)
+  ready_is = rest.turn.searches.finds.found ∙ ap (λ (o : Option Actor). found_at s (codes "sender") o) rest.turn.is ∙ ap (λ (p : Program). found_by s (codes "sender") p) sends.1
 
   -- no report lies there
   told_none : (c : Channel) → (s.pipework.pipes (codes "sender") (port_of c)).bytes ≡ []
   told_none c = nothing_lies (s.pipework.pipes (codes "sender") (port_of c))
-      (sym (linked c s it.start) ∙ ap (λ (r : Ready). holds (slice_get r.links (link_of c))) (sym ready_is) ∙ it.rests.links c)
+      (sym (linked c s sends.0) ∙ ap (λ (r : Ready). holds (slice_get r.links (link_of c))) (sym ready_is) ∙ (idle x.past own (turned.more d later first before rest.turn) whole).rests.links c)
 
   module _ (c : Channel) (y : Actor) (there : s.actors (spawner_name c) ≡ Some y) (alive : y.life ≡ Alive) (serves : IsSpawner c y.program) where
     still : now.actors (spawner_name c) ≡ Some y
-    still = by (s.actors (codes "sender")) is
-      where
-        by : (o : Option Actor) → o ≡ Some x → (acted s (codes "sender") own wrote o).actors (spawner_name c) ≡ Some y
-        by None e = absurd (cc)
-        by (Some z) e = put_at_other s.actors (codes "sender") (Some (record { program = z.program; past = own ∷ z.past; life = z.life })) (spawner_name c) (λ same. not_spawner c (sym same)) ∙ there
+    still = sym (alike.others (spawner_name c) (λ same. not_spawner c (sym same))) ∙ there
 
     none : none_runs (stands_after c y.past).running ≡ true
-    none = others_run_none controls d (Act (codes "sender") own wrote ∷ h) well others c y still alive serves
+    none = others_run_none controls d (history_of (later ++ first ∷ before)) rest.well rest.others c y still alive serves
 
     run : IsRunBy (next_on c) y.past
-    run = spawned_run c y.program serves y.past (have_run d h earlier.legal (spawner_name c) y there)
+    run = spawned_run c y.program serves y.past (have_run d (history_of before) earlier.legal (spawner_name c) y there)
 
     can : CanNot now (spawner_name c) (next_of y.program y.past now.now (found_by now (spawner_name c) y.program))
     can = subst (λ (r : Ready). CanNot now (spawner_name c) (next_of y.program y.past now.now r)) (ap (λ (o : Option Actor). found_at now (spawner_name c) o) still)
-        (others.waits (spawner_name c) y still alive (λ same. not_spawner c (sym same)))
+        (rest.others.waits (spawner_name c) y still alive (λ same. not_spawner c (sym same)))
 
     waits : Waits now (spawner_name c) (stands_after c y.past)
     waits = spawner_waits now c (spawner_name c) y.program y.past now.now serves run none can
 
     -- nor does a request
     asks_none : (s.pipework.pipes (spawner_name c) port.Input).bytes ≡ []
-    asks_none = nothing_lies (s.pipework.pipes (spawner_name c) port.Input)
-        (ap is_ready (sym (pipes_left s own wrote (codes "todo") [] (s.actors (codes "sender")) it.due (spawner_name c) port.Input)) ∙ waits.empty)
+    asks_none = nothing_lies (s.pipework.pipes (spawner_name c) port.Input) (ap (λ (w : Pipework). is_ready (w.pipes (spawner_name c) port.Input)) alike.pipework ∙ waits.empty)
 
     goes : goes_on (stands_after c y.past).row ≡ true
     goes = ap goes_on waits.row
@@ -301,22 +286,16 @@ module _ (controls : Controls) (d : Disk) (own : Own) (wrote : ℕ) (h : List Ev
         let p = stands_after c y.past in
         let o = (account c x.past).heard in
         let all : InHand p (s.pipework.pipes (spawner_name c) port.Input).bytes (coming o (s.pipework.pipes (codes "sender") (port_of c)).bytes) slot many =
-        flights_are_in_hand controls d h earlier c x y it.start is it.program (begins_on (desk_of x.past).row begins) there serves goes waits.takes slot in
+        flights_are_in_hand controls d (history_of before) earlier c x y sends.0 rest.turn.is sends.1 (begins_on (desk_of x.past).row whole.begins) there serves goes waits.takes slot in
         let none_left : InHand p [] (coming o []) slot many =
         subst (λ (t : List ℕ). InHand p [] (coming o t) slot many) (told_none c) (subst (λ (t : List ℕ). InHand p t (coming o (s.pipework.pipes (codes "sender") (port_of c)).bytes) slot many) asks_none all) in
         none_flies (attempt_in (lane c (desk_of x.past).slots).slots slot) (none_in_hand p y.past (tells_on c y.past run) none waits.row waits.takes o slot many none_left)
 
   -- the spawners live, since the sender does
-  living : x.life ≡ Alive
-  living = let may = well.legal.1 in ap (λ (y : Actor). y.life) (sym (some_actor may.actor x (sym may.reads.is ∙ is))) ∙ may.reads.alive
-
   all_free : (c : Channel) (slot : ℕ) → attempt_in (lane c (desk_of x.past).slots).slots slot ≡ None
   all_free c slot =
-      let served = servants_live controls d h earlier (Spawns c) x is living (subst IsSender (sym it.program) tt) in
+      let served = servants_live controls d (history_of before) earlier (Spawns c) x rest.turn.is (turned.alive d later first before rest.turn controls rest.well) (subst IsSender (sym sends.1) tt) in
       free c served.actor served.is served.alive served.serves slot
 
 pub rests_free : RestsFree
-rests_free controls d deed before rest x is begins c slot =
-    let well = subst (λ (e : Deed). GoesWell controls d (history_of (e ∷ before))) rest.idle.is rest.well in
-    let others = subst (λ (e : Deed). OthersWait (after d (e ∷ before))) rest.idle.is rest.others in
-    all_free controls d rest.idle.own rest.idle.wrote (history_of before) well rest.finds others rest.idle.idle x is begins c slot
+rests_free controls d later first before rest c slot = all_free controls d later first before rest c slot

@@ -1,7 +1,6 @@
--- The search that ends an idle turn goes from the start of `todo`.
-use Rattle.std.proofs.Common.{◌≡◌, ℕ, List, [], ◌∷◌, Bool, true, false, not, ◌&&◌, if◌then◌else◌, Option, Some, None, refl, ap, ◌∙◌, subst, codes}
+-- The first search of an idle turn goes from the start of `todo`.
+use Rattle.std.proofs.Common.{◌≡◌, ℕ, List, [], ◌∷◌, Bool, true, false, if◌then◌else◌, Option, Some, None, refl, ap, ◌∙◌, subst, codes}
 use Rattle.std.specs.Prelude.{is_some, slice_get}
-use Rattle.std.proofs.lemmas.Bool.{and_parts}
 use Rattle.call_fs.specs.declared.calls.CallData.TheVariants.{NextName}
 use Rattle.call_fs.specs.declared.past.NeedData.TheVariants as needs
 use Rattle.call_fs.specs.declared.past.Own.{Own}
@@ -12,23 +11,18 @@ use Rattle.send_parts.specs.declared.row.Point.TheVariants as point
 use Rattle.send_parts.specs.declared.row.Row.{Row}
 use Rattle.send_parts.specs.declared.row.Row.TheVariants as at
 use Rattle.send_core.specs.Desk.{due_on, next_idle, sweep_due}
-use Rattle.send_core.specs.Stands.{ends_idle, is_between, is_search}
-use Rattle.send_core.specs.Table.{arrive, beginning, due_at, finishing_by, from_begin, from_local, from_remote, from_reports, from_sweep, from_take, going_on, holds, link_of, marking, marking_by, moved, moved_by, or_else, passing, row_now, sweeping, taking}
-use Rattle.send_core.specs.Turn.{todo_named, todo_none}
+use Rattle.send_core.specs.Stands.{is_search}
+use Rattle.send_core.specs.Table.{arrive, beginning, due_at, finishing_by, from_begin, from_local, from_remote, from_reports, from_sweep, from_take, going_on, holds, link_of, marking, marking_by, or_else, passing, row_now, sweeping, taking}
 use Rattle.send_jobs.specs.declared.attempts.Mark.{Mark}
 use Rattle.send_known.specs.declared.channel.Channel.{Channel}
 use Rattle.send_known.specs.declared.channel.Channel.TheVariants.{Local, Remote}
 use Rattle.send_jobs.specs.Lanes.{next}
 use Rattle.send_jobs.specs.Sending.{lane}
 use Rattle.send_jobs.specs.Slots.{lowest}
-use Rattle.send_parts.specs.declared.reply.Way.{Way}
-use Rattle.send_parts.specs.declared.reply.Way.TheVariants as way
 use Rattle.send_parts.specs.declared.rows.Search.TheVariants as search
 use Rattle.send_parts.specs.declared.rows.SweepRow.TheVariants as sweep
-use Rattle.send_parts.specs.Files.{message_number}
-use Rattle.send_parts.specs.Replies.{said}
-use Rattle.settle_law.specs.inside.Rests.{BeginsTurn}
-use Rattle.settle_law.proofs.IdleTurns.{Leads, found_not}
+use Rattle.settle_law.specs.Rests.{BeginsTurn}
+use Rattle.settle_law.proofs.IdleTurns.{Leads}
 
 -- Where nothing else is to be done the turn comes to its search.
 
@@ -110,26 +104,12 @@ row_left d (at.Finish row n) now ready h e = absurd h
 row_left d (at.Sweep row) now ready h e = absurd h
 row_left d (at.Ended status) now ready h e = absurd h
 
--- If a number was left the search begins again from the start, and ends no turn.
+-- So it goes from the start, if no number was left.
 
-none_left : (again : Bool) (left : List ℕ) (d : Desk) (now : ℕ) → is_between (todo_none again left now d).row ≡ true → again ≡ false → left ≡ []
-none_left true left d now e first = absurd (cc)
-none_left false [] d now e first = refl
-none_left false (b ∷ bs) d now e first = absurd (cc)
+pub begins_search : (d : Desk) (event : Own) → BeginsTurn d.row → is_search (row_now d event.read event.ready) ≡ true → row_now d event.read event.ready ≡ at.FindTodo search.AfterLeft
+begins_search d event begins leads = row_left d d.row event.read event.ready begins leads
 
-way_left : (w : Way) (text : List ℕ) (now : ℕ) (d : Desk) → is_between (todo_named w text search.AfterLeft now d).row ≡ true → d.last_left ≡ []
-way_left way.Fine text now d e = absurd (found_not (message_number text) text search.AfterLeft d e)
-way_left way.Over text now d e = none_left false d.last_left d now e refl
-way_left way.Absent text now d e = none_left false d.last_left d now e refl
-way_left way.Broken text now d e = none_left false d.last_left d now e refl
-way_left way.NoMemory text now d e = none_left false d.last_left d now e refl
-
-pub from_start : (d : Desk) (event : Own) → BeginsTurn d.row → ends_idle d event ≡ true → due_at (row_now d event.read event.ready) d ≡ needs.File (NextName (codes "todo") [])
-from_start d event begins ends =
-    let row = row_now d event.read event.ready in
-    let parts = and_parts (is_search row) (not d.busy && is_between (moved d event).row) ends in
-    let between = (and_parts (not d.busy) (is_between (moved d event).row) parts.1).1 in
-    let is = row_left d d.row event.read event.ready begins parts.0 in
-    let left = way_left (said event.came).way (said event.came).bytes event.read d
-    (subst (λ (r : Row). is_between (moved_by r event.read event.came d).row ≡ true) is between) in
-    ap (λ (r : Row). due_at r d) is ∙ ap (λ (l : List ℕ). needs.File (NextName (codes "todo") l)) left
+pub from_start : (d : Desk) (event : Own) → BeginsTurn d.row → is_search (row_now d event.read event.ready) ≡ true → d.last_left ≡ []
+    → due_at (row_now d event.read event.ready) d ≡ needs.File (NextName (codes "todo") [])
+from_start d event begins leads left =
+    ap (λ (r : Row). due_at r d) (begins_search d event begins leads) ∙ ap (λ (l : List ℕ). needs.File (NextName (codes "todo") l)) left

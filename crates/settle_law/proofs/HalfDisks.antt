@@ -18,6 +18,8 @@ use Rattle.queue_paths.proofs.Paths.{parse-path}
 use Rattle.queue_paths.specs.Names.Name.{Of}
 use Rattle.queue_paths.specs.Names.Part.{Info, Mess, Todo}
 use Rattle.queue_paths.specs.Names.{Name, parse, path}
+use Rattle.queue_paths.specs.Parts.{in_todo, parts_of}
+use Rattle.queue_paths.proofs.Parts.{todo_alone, todo_missing}
 use Rattle.mail_world.specs.History.{ComesOf, State, disk_after}
 use Rattle.settle_law.specs.inside.HalfWay.{IsHalfWay}
 
@@ -142,24 +144,27 @@ UnlinksTodo n due = ⊥
 pub record IsUndone (d : Disk) (n : ℕ) (due : NeedData) (got : GotData) : Type 0 where
   pub undoes : Undoes n due
   pub fine : is_refusal got ≡ false
-  pub todo : UnlinksTodo n due ⊎ (d.names (path (Of Todo n)) ≡ None)
+  pub todo : UnlinksTodo n due ⊎ (in_todo (parts_of d.names n) ≡ None)
 
 module _ (d : Disk) (read : ℕ) (c : CallData) (told : Told) (wrote n : ℕ) (fits : Fits d c told.answer wrote) (half : IsHalfWay (effect d read c told.answer wrote) n) where
   abbrev Undone : Type 0
   Undone = IsUndone d n (needs.File c) (came.Answered told)
 
-  no_todo : Is (Takes c (Of Todo n)) told.answer ⊎ (d.names (path (Of Todo n)) ≡ None)
-  no_todo = was_none d (Of Todo n) read c told.answer wrote fits half.no_todo
+  no_todo : Is (Takes c (Of Todo n)) told.answer ⊎ (in_todo (parts_of d.names n) ≡ None)
+  no_todo = ⊎_elim
+      (λ (takes : Is (Takes c (Of Todo n)) told.answer). inl takes)
+      (λ (none : d.names (path (Of Todo n)) ≡ None). inr (todo_alone (parts_of d.names n) ∙ none))
+      (was_none d (Of Todo n) read c told.answer wrote fits (todo_missing (parts_of (effect d read c told.answer wrote).names n) half.no_todo Todo refl))
 
-  todo_so : UnlinksTodo n (needs.File c) ⊎ (d.names (path (Of Todo n)) ≡ None)
-  todo_so = ⊎_elim (λ (takes : Is (Takes c (Of Todo n)) told.answer). inl takes.0) (λ (none : d.names (path (Of Todo n)) ≡ None). inr none) no_todo
+  todo_so : UnlinksTodo n (needs.File c) ⊎ (in_todo (parts_of d.names n) ≡ None)
+  todo_so = ⊎_elim (λ (takes : Is (Takes c (Of Todo n)) told.answer). inl takes.0) (λ (none : in_todo (parts_of d.names n) ≡ None). inr none) no_todo
 
   was_half : Undone ⊎ IsHalfWay d n
   was_half = ⊎_elim
       (λ (brings : Is (Brings c (Of Mess n)) told.answer). inl (record { undoes = brings_undoes c n brings.0; fine = brings.1; todo = todo_so }))
       (λ (mess : d.names (path (Of Mess n)) ≢ None). ⊎_elim
       (λ (takes : Is (Takes c (Of Todo n)) told.answer). inl (record { undoes = takes_undoes c n (inl takes.0); fine = takes.1; todo = inl takes.0 }))
-      (λ (none : d.names (path (Of Todo n)) ≡ None). ⊎_elim
+      (λ (none : in_todo (parts_of d.names n) ≡ None). ⊎_elim
       (λ (takes : Is (Takes c (Of Info n)) told.answer). inl (record { undoes = takes_undoes c n (inr takes.0); fine = takes.1; todo = inr none }))
       (λ (no_info : d.names (path (Of Info n)) ≡ None). inr (record { mess = mess; no_todo = none; no_info = no_info }))
       (was_none d (Of Info n) read c told.answer wrote fits half.no_info))

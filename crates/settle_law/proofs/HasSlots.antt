@@ -25,7 +25,7 @@ use Rattle.mail_world.specs.History.{Event, after, next_of}
 use Rattle.mail_world.specs.Untouched.{queue}
 use Rattle.world_law.proofs.Histories.{always, sender_fares}
 use Rattle.world_law.proofs.Ran.{have_run}
-use Rattle.settle_law.specs.inside.Rests.{BeginsTurn}
+use Rattle.settle_law.specs.Rests.{BeginsTurn}
 use Rattle.settle_law.specs.inside.Slots.{RestsHaveSlots}
 use Rattle.settle_law.specs.Suffices.{desk_of}
 use Rattle.settle_law.specs.Well.{GoesWell}

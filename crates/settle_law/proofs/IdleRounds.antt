@@ -1,5 +1,5 @@
 -- After an idle round nobody but the sender has anything to do.
-use Rattle.std.proofs.Common.{◌≡◌, ◌≢◌, ◌⊎◌, ℕ, List, [], ◌∷◌, ◌++◌, inl, inr, true, false, Some, None, bytes_eq, codes, nat_lt, refl, sym, ap, ◌∙◌, subst, append_assoc, arith}
+use Rattle.std.proofs.Common.{◌≡◌, ◌≢◌, ◌==◌, ◌⊎◌, ℕ, List, [], ◌∷◌, ◌++◌, inl, inr, true, false, Some, None, bytes_eq, codes, refl, sym, ap, ◌∙◌, subst, append_assoc, arith}
 use Rattle.std.specs.List.{count_by, list_all}
 use Rattle.std.proofs.lemmas.Bool.{and_parts, false≢true}
 use Rattle.std.proofs.lemmas.List.Folds.{list_all-append}
@@ -135,6 +135,6 @@ idle_rounds_rest d h plan letter round before so idle =
     let g = events_in letter before ++ h in
     let is = so.are.1.is in
     let searches = (and_parts (are_searches (round_events letter round)) (has_idled d g (round_events letter round)) idle).0 in
-    let all = (and_parts (list_all is_search_deed (round_events letter round)) (nat_lt (count_by is_first_deed (round_events letter round)) 2) searches).0 in
+    let all = (and_parts (list_all is_search_deed (round_events letter round)) (count_by is_first_deed (round_events letter round) == 1) searches).0 in
     subst (λ (l : List Deed). OthersWait (after d l)) (sym (append_assoc (round_events letter round) (events_in letter before) h))
     (round_rests d g (plan_through plan (events_in letter before)) letter round.parts round.slots is.turn is.reports (prints_none d h letter round before so.stops) all)

@@ -1,8 +1,9 @@
 -- The end of an idle turn of a sender, by its table.
-use Rattle.std.proofs.Common.{◌≡◌, ◌≢◌, ℕ, zero, suc, ◌<◌, List, [], ◌∷◌, inl, inr, Bool, true, false, not, ◌&&◌, ◌||◌, if◌then◌else◌, Option, Some, None, refl, arith}
+use Rattle.std.proofs.Common.{◌≡◌, ◌≢◌, ℕ, zero, suc, ◌<◌, List, [], ◌∷◌, ◌++◌, inl, inr, Bool, true, false, not, ◌&&◌, ◌||◌, if◌then◌else◌, Option, Some, None, refl, sym, ap, ◌∙◌, subst, arith}
 use Rattle.std.specs.Prelude.{All, slice_index_or, nat_le, is_some, slice_get}
 use Rattle.std.proofs.lemmas.Bool.{and_parts, leb-false}
 use Rattle.call_fs.specs.declared.past.GotData.{GotData}
+use Rattle.call_fs.specs.declared.past.Own.{Own}
 use Rattle.call_fs.specs.declared.program.Ready.{Ready}
 use Rattle.retry_schedule.proofs.Entries.{AllPairs-head}
 use Rattle.retry_schedule.specs.Due.{IsBefore, IsInOrder, first_due}
@@ -11,12 +12,14 @@ use Rattle.send_parts.specs.declared.row.Point.TheVariants as point
 use Rattle.send_parts.specs.declared.row.Row.{Row}
 use Rattle.send_parts.specs.declared.row.Row.TheVariants as at
 use Rattle.send_core.specs.Desk.{due_on, next_idle, past_todo, stands_at, sweep_due, turn_over}
-use Rattle.send_core.specs.Stands.{is_between, is_search}
+use Rattle.send_core.specs.Stands.{ends_idle, is_between, is_search}
 use Rattle.send_core.specs.Table.{arrive, beginning, finishing_by, from_begin, from_local, from_remote, from_reports, from_sweep, from_take, going_on, holds, link_of, marking, marking_by, moved, moved_by, or_else, passing, row_now, sweeping, taking}
 use Rattle.send_core.specs.Turn.{todo_found, todo_named, todo_none}
 use Rattle.send_jobs.specs.declared.attempts.Mark.{Mark}
 use Rattle.send_known.specs.declared.channel.Channel.{Channel}
 use Rattle.send_known.specs.declared.channel.Channel.TheVariants.{Local, Remote}
+use Rattle.send_known.specs.declared.messages.Messages.{Messages}
+use Rattle.send_known.specs.Known.{first_idle}
 use Rattle.send_jobs.specs.Lanes.{next}
 use Rattle.send_jobs.specs.Sending.{lane}
 use Rattle.send_jobs.specs.Slots.{lowest}
@@ -28,8 +31,11 @@ use Rattle.send_parts.specs.declared.rows.SweepRow.TheVariants as sweep
 use Rattle.send_parts.specs.Files.{message_number}
 use Rattle.send_parts.specs.Replies.{said}
 use Rattle.send_parts.specs.Rows.{is_again}
-use Rattle.settle_law.specs.inside.Rests.{BeginsTurn, IdleTurnsRest}
-use Rattle.settle_law.specs.Rests.{PassRests}
+use Rattle.scenario.specs.Chains.{EachFollows}
+use Rattle.settle_law.specs.inside.Rests.{IdleTurnsRest, SearchesOn, ends_turn, newest_of}
+use Rattle.settle_law.specs.Rests.{BeginsTurn, PassRests}
+use Rattle.settle_law.specs.Suffices.{desk_of}
+use Rattle.settle_law.proofs.Searching.{all_keep, search_keeps}
 
 -- What comes before a search wasn't there.
 
@@ -163,7 +169,7 @@ none_over true left d now e = over d now e
 none_over false [] d now e = over d now e
 none_over false (b ∷ bs) d now e = absurd (cc)
 
-pub found_not : (o : Option ℕ) (text : List ℕ) (s : Search) (d : Desk) → is_between (todo_found o text s d).row ≡ true → ⊥
+found_not : (o : Option ℕ) (text : List ℕ) (s : Search) (d : Desk) → is_between (todo_found o text s d).row ≡ true → ⊥
 found_not None text s d e = absurd (cc)
 found_not (Some n) text s d e = absurd (cc)
 
@@ -190,13 +196,33 @@ after_row (at.Finish row n) d now came l e = absurd (cc)
 after_row (at.Sweep row) d now came l e = absurd (cc)
 after_row (at.Ended status) d now came l e = absurd (cc)
 
-pub idle : IdleTurnsRest
-idle d event h e =
+ends_over : (d : Desk) (event : Own) → ends_idle d event ≡ true → After d event.read event.came
+ends_over d event e =
     let row = row_now d event.read event.ready in
     let parts = and_parts (is_search row) (not d.busy && is_between (moved d event).row) e in
     let ends = and_parts (not d.busy) (is_between (moved d event).row) parts.1 in
-    let b = before_row d d.row event.read event.ready h parts.0 in
-    let a = after_row row d event.read event.came parts.0 ends.1 in
+    after_row row d event.read event.came parts.0 ends.1
+
+-- by what it kept before the turn, at the moment of the first search
+turn_after : (past : List Own) (first : Own) (later : List Own) → EachFollows (SearchesOn (first ∷ past) first.read) later → is_search (row_now (desk_of past) first.read first.ready) ≡ true
+    → ends_turn past first later ≡ true → After (desk_of past) first.read (newest_of first later).came
+turn_after past first [] all search e = ends_over (desk_of past) first e
+turn_after past first (newest ∷ older) all search e =
+    let a = ends_over (desk_of (older ++ first ∷ past)) newest e in
+    let one = search_keeps (desk_of past) first search in
+    let more = all_keep (first ∷ past) first.read older all.0 in
+    record {
+      finished = subst (λ (now : ℕ). next_idle now (desk_of past) ≡ None) all.1.1
+          (ap (λ (m : Messages). first_idle newest.read m.known) (sym (more.messages ∙ one.messages)) ∙ a.finished);
+      swept = subst (λ (now : ℕ). sweep_due now (desk_of past).swept ≡ false) all.1.1
+          (ap (λ (o : Option ℕ). sweep_due newest.read o) (sym (more.swept ∙ one.swept)) ∙ a.swept);
+      no_name = a.no_name;
+    }
+
+pub idle : IdleTurnsRest
+idle past first later turn =
+    let b = before_row (desk_of past) (desk_of past).row first.read first.ready turn.begins turn.searches in
+    let a = turn_after past first later turn.goes_on turn.searches turn.ends in
     record {
       rests = record { links = b.links; marks = b.marks; passes = b.passes; finished = a.finished; swept = a.swept };
       no_name = a.no_name;

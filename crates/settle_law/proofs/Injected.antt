@@ -25,7 +25,7 @@ use Rattle.send_core.specs.Table.{place_after as sender_after, row_now}
 use Rattle.send_jobs.specs.Bookings.{Booking}
 use Rattle.send_jobs.specs.Bookings.Booking.{Dropped, Noted, ReadNotes, Reported, Returned}
 use Rattle.world_events.specs.declared.event.Program.{Program}
-use Rattle.world_events.specs.declared.event.Program.TheVariants.{Injector, Cleaner, Sender, LocalSpawner, RemoteSpawner, Delivery}
+use Rattle.world_events.specs.declared.event.Program.TheVariants.{Injector, Sender}
 use Rattle.mail_world.specs.History.{Actor, Allowed, Event, Life, State, acted, booked_by, books_after, bouncer_of, finished, happens, next_of, told_by}
 use Rattle.mail_world.specs.History.Event.{Start, Act, Child, Generation, Report, End, Stop, Moment, Halt}
 use Rattle.mail_world.specs.History.Life.{Over, Stopped}
@@ -74,13 +74,9 @@ module _ (P : ℕ → Arguments → Type 0) where
   booked_all_of child (e ∷ es) b S = booked_all_of child es (booked_on child e b) (booked_on_of child e b S)
 
   told_of : (child : Option Bouncer) (b : Books) (program : Program) (past : List Own) (read : ℕ) (ready : Ready) (came : GotData) → OfAll b → OfAll (told_by child b program past read ready came)
-  told_of child b (Injector args) past read ready came S = S
-  told_of child b (Cleaner start) past read ready came S = S
   told_of child b (Sender start) past read ready came S =
       let d = sender_after None past in booked_all_of child (booked_at (row_now d read ready) came d) b S
-  told_of child b (LocalSpawner start) past read ready came S = S
-  told_of child b (RemoteSpawner start) past read ready came S = S
-  told_of child b (Delivery start args) past read ready came S = S
+  told_of child b other past read ready came S = S
 
   -- what an injector links
 
@@ -108,11 +104,7 @@ module _ (P : ℕ → Arguments → Type 0) where
   module _ (program : Program) (past : List Own) (read : ℕ) (ready : Ready) (links : Links program past read ready) where
     by_program_of : (b : Books) (a : List ℕ) (c : CallData) (told : Answer) (p : Program) → program ≡ p → next_of program past read ready ≡ needs.File c → OfAll b → OfAll (booked_by b a p c told)
     by_program_of b a c told (Injector args) is next S = booked_of b a args c told (λ old new n link name. links args old new n is (next ∙ ap (λ (d : CallData). needs.File d) link) name) S
-    by_program_of b a c told (Cleaner start) is next S = S
-    by_program_of b a c told (Sender start) is next S = S
-    by_program_of b a c told (LocalSpawner start) is next S = S
-    by_program_of b a c told (RemoteSpawner start) is next S = S
-    by_program_of b a c told (Delivery start args) is next S = S
+    by_program_of b a c told other is next S = S
 
     books_of : (child : Option Bouncer) (b : Books) (a : List ℕ) (due : NeedData) (came : GotData) → next_of program past read ready ≡ due → OfAll b
         → OfAll (books_after child b a program past read ready due came)

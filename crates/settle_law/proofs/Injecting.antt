@@ -3,6 +3,7 @@ use Rattle.std.proofs.Common.{◌≡◌, ◌≢◌, ⊎_elim, ℕ, List, ◌∷�
 use Rattle.std.specs.Prelude.{IsSome, length, nat_le, nat_lt, ◌+◌}
 use Rattle.std.proofs.lemmas.Bool.{false≢true}
 use Rattle.call_fs.proofs.Maps.{put_at_same}
+use Rattle.call_fs.specs.Maps.{put_at}
 use Rattle.call_fs.specs.Apply.{Fits, effect}
 use Rattle.call_fs.specs.Disk.{Disk, HasDir}
 use Rattle.call_fs.specs.declared.calls.Answer.TheVariants as answer
@@ -25,6 +26,8 @@ use Rattle.queue_inject.specs.Texts.{Text}
 use Rattle.queue_paths.specs.Names.Name.{Of, Pid}
 use Rattle.queue_paths.specs.Names.Part.{Intd, Mess, Todo}
 use Rattle.queue_paths.specs.Names.{path}
+use Rattle.queue_paths.specs.Parts.{parts_of}
+use Rattle.queue_paths.proofs.Parts.{todo_missing}
 use Rattle.world_events.specs.declared.event.Program.TheVariants.{Injector}
 use Rattle.mail_world.specs.History.{ComesOf, State, disk_after, next_of}
 use Rattle.world_law.specs.Standing.{number_at}
@@ -94,8 +97,10 @@ pub record MayLink (d : Disk) (n : ℕ) : Type 0 where
 -- the link of the todo file is made, or fails: the number is no half-way one then
 link_none : (d : Disk) (read wrote m : ℕ) (told : Answer) → MayLink d m → is_well_answered told ≡ true → Fits d (call.Link (path (Of Intd m)) (path (Of Todo m))) told wrote
     → IsHalfWay (effect d read (call.Link (path (Of Intd m)) (path (Of Todo m))) told wrote) m → ⊥
-link_none d read wrote m answer.Done may well fits half = may.intd (sym (put_at_same d.names (path (Of Todo m)) (d.names (path (Of Intd m)))) ∙ half.no_todo)
-link_none d read wrote m (answer.Refused why.Exists) may well fits half = none_there (d.names (path (Of Todo m))) half.no_todo fits.2
+link_none d read wrote m answer.Done may well fits half = may.intd
+    (sym (put_at_same d.names (path (Of Todo m)) (d.names (path (Of Intd m))))
+    ∙ todo_missing (parts_of (put_at d.names (path (Of Todo m)) (d.names (path (Of Intd m)))) m) half.no_todo Todo refl)
+link_none d read wrote m (answer.Refused why.Exists) may well fits half = none_there (d.names (path (Of Todo m))) (todo_missing (parts_of d.names m) half.no_todo Todo refl) fits.2
 link_none d read wrote m (answer.Refused why.NotThere) may well fits half = ⊎_elim (λ (none : d.names (path (Of Intd m)) ≡ None). may.intd none) (λ (none : HasDir d (path (Of Todo m)) → ⊥). none may.dir) fits
 link_none d read wrote m (answer.Refused why.Fault) may well fits half = false≢true well
 link_none d read wrote m (answer.Refused why.Memory) may well fits half = false≢true well

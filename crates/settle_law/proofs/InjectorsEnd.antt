@@ -22,10 +22,11 @@ use Rattle.queue_inject.specs.Table.{after_came, due_by, has_input, in_time, is_
 use Rattle.queue_law.proofs.Looks.{found, not_found}
 use Rattle.queue_law.specs.Books.{Injection}
 use Rattle.queue_law.specs.Injectors.{InjectorFares, Relies, Settles}
-use Rattle.queue_law.specs.Numbers.{Queue}
+use Rattle.queue_law.specs.Numbers.{Queue, about}
 use Rattle.queue_paths.specs.Dirs.{queue_dirs}
 use Rattle.queue_paths.specs.Names.Name.{Of, Pid}
 use Rattle.queue_paths.specs.Names.Part.{Intd, Mess, Todo}
+use Rattle.queue_paths.proofs.Parts.{intd_missing, todo_missing}
 use Rattle.program_law.specs.Sender.Control.{AreControls}
 use Rattle.world_events.specs.declared.event.Program.{Program}
 use Rattle.world_events.specs.declared.event.Program.TheVariants.{Injector}
@@ -100,7 +101,7 @@ module _ (controls : Controls) (s : State) (I : Inv controls s) (A : IsApt s) (a
   }
   finds_by (at.CreateIntd n) R S small = (
     record {
-      free = not_found q.disk.names q.disk.files (Of Intd n) R.rest.bare.no_intd;
+      free = not_found q.disk.names q.disk.files (Of Intd n) (intd_missing (about q n).parts R.rest.bare.no_intd Intd refl);
       dir = intd_dir s.disk n A.dirs (A.small n _ R.rest.bare.begins.lives);
     },
     S,
@@ -109,7 +110,7 @@ module _ (controls : Controls) (s : State) (I : Inv controls s) (A : IsApt s) (a
   finds_by (at.LinkTodo n) R S small = record {
     number = R.number;
     there = (found q.disk.names q.disk.files (Of Intd n) (record { number = R.number; file = R.holds.rest.file }) R.holds.rest.intd).0;
-    free = not_found q.disk.names q.disk.files (Of Todo n) R.holds.rest.begins.no_todo;
+    free = not_found q.disk.names q.disk.files (Of Todo n) (todo_missing (about q n).parts R.holds.rest.begins.no_todo Todo refl);
     dir = todo_dir s.disk n A.dirs (A.small n _ R.holds.rest.begins.lives);
   }
   finds_by r R S small = tt

@@ -31,7 +31,7 @@ use Rattle.settle_law.proofs.InfoFiles.{has_info, info_in, info_is, same_look}
 use Rattle.settle_law.proofs.LivingSenders.{LeftLater, all_held}
 use Rattle.settle_law.proofs.OwnInfos.{own_tells}
 use Rattle.settle_law.specs.inside.Births.{KnownAreBorn}
-use Rattle.settle_law.specs.inside.Rests.{BeginsTurn}
+use Rattle.settle_law.specs.Rests.{BeginsTurn}
 use Rattle.settle_law.specs.Suffices.{desk_of}
 
 -- what a sender knows, and what becomes known next, has the birth that its info file says

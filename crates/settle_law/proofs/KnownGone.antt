@@ -17,7 +17,7 @@ use Rattle.mail_world.specs.History.{after}
 use Rattle.mail_world.specs.Untouched.{queue}
 use Rattle.world_law.proofs.Histories.{always, sender_fares}
 use Rattle.settle_law.specs.inside.Gone.{KnownAreGone}
-use Rattle.settle_law.specs.inside.Rests.{BeginsTurn}
+use Rattle.settle_law.specs.Rests.{BeginsTurn}
 use Rattle.settle_law.specs.Suffices.{desk_of}
 
 -- where a turn begins no message is left

@@ -1,5 +1,5 @@
 -- Known messages that were tried, and have their file, still have a record that reads `T`, where nothing fails.
-use Rattle.std.proofs.Common.{◌≡◌, ◌<◌, ℕ, List, [], ◌∷◌, length, Bool, true, false, Option, Some, None, refl, sym, ap, ◌∙◌, subst}
+use Rattle.std.proofs.Common.{◌≡◌, ◌<◌, ℕ, List, [], ◌∷◌, ◌++◌, length, Bool, true, false, Option, Some, None, refl, sym, ap, ◌∙◌, subst}
 use Rattle.std.specs.Prelude.{Contains, is_some}
 use Rattle.std.proofs.lemmas.Bool.{and_from}
 use Rattle.std.proofs.lemmas.List.Elements.{All-contains}
@@ -9,18 +9,16 @@ use Rattle.call_fs.specs.declared.past.NeedData.TheVariants as needs
 use Rattle.call_fs.specs.declared.past.Own.{Own}
 use Rattle.envelope_records.specs.declared.channel.Record.{Record}
 use Rattle.program_law.proofs.Sender.NoteDue.{note_starts}
-use Rattle.program_law.proofs.Sender.Others.{lane_later}
 use Rattle.program_law.specs.Channel.Tied.First.{Unwritten}
 use Rattle.program_law.specs.Sender.Views.{first_at, records_at}
 use Rattle.queue_law.proofs.Looks.{found}
-use Rattle.queue_law.specs.Numbers.{Entry, find}
+use Rattle.queue_law.specs.Numbers.{Entry, find, is_later}
 use Rattle.queue_law.specs.Routes.{lane_part}
 use Rattle.queue_paths.specs.Names.Name.{Of}
 use Rattle.retry_law.proofs.Jobs.{clear, jobs}
 use Rattle.retry_law.proofs.KnownNow.{known_now}
 use Rattle.retry_law.specs.Retries.{has_file}
 use Rattle.retry_law.specs.Tried.{tried_in}
-use Rattle.send_core.specs.Stands.{ends_idle}
 use Rattle.send_core.specs.Table.{Next, due_at, place_after, row_now}
 use Rattle.send_core.specs.declared.desk.Desk.{Desk}
 use Rattle.send_parts.specs.declared.row.MarkRow.TheVariants as mark
@@ -49,15 +47,16 @@ use Rattle.world_events.specs.declared.event.Program.TheVariants.{Sender}
 use Rattle.world_events.specs.declared.event.Program.{Program}
 use Rattle.mail_world.specs.History.{MayBear, State, after, next_of}
 use Rattle.world_law.proofs.Ran.{have_run}
-use Rattle.settle_law.proofs.DuesAtRest.{clear_at, keeps, unlinks_none}
+use Rattle.settle_law.proofs.DuesAtRest.{clear_at, run_before, unlinks_none}
 use Rattle.settle_law.proofs.LaneTexts.{files_on}
 use Rattle.settle_law.proofs.LeftSteps.{MarkNeeds, RowNeeds, StartNeeds, acts_hold, arrives_hold, fewer_tried, lane_keeps}
 use Rattle.settle_law.proofs.Lefts.{lefts_keep}
 use Rattle.settle_law.proofs.LivingSenders.{LeftLater, all_held}
+use Rattle.settle_law.proofs.Searching.{turn_keeps}
 use Rattle.settle_law.proofs.TriedFiles.{event_tried}
 use Rattle.settle_law.proofs.TriedKnown.{known_tried, known_tried_stay}
 use Rattle.settle_law.specs.inside.Lefts.{HoldsTried, KeepsTried, StillReads}
-use Rattle.settle_law.specs.inside.Rests.{BeginsTurn}
+use Rattle.settle_law.specs.inside.Rests.{IsWholeTurn}
 use Rattle.settle_law.specs.Settled.{HasUndone}
 use Rattle.settle_law.specs.Suffices.{IsKnown, desk_of}
 use Rattle.settle_law.specs.inside.TriedStay.{tried_at}
@@ -73,6 +72,10 @@ none_tried e = (tt, keeps_none) where
   keeps_none : (ch : Channel) → KeepsTried (known_tried [] ch) (files_on e ch) Unwritten (lane ch (place_after None []).slots)
   keeps_none Local = (lefts_keep.starts (files_on e Local) 0, λ n t none. absurd (cc))
   keeps_none Remote = (lefts_keep.starts (files_on e Remote) 0, λ n t none. absurd (cc))
+
+lane_later : (ch : Channel) → is_later (lane_part ch) ≡ true
+lane_later Local = refl
+lane_later Remote = refl
 
 others_tried : (d e : Disk) (past : List Own) → LeftLater d e → Tried d past → Tried e past
 others_tried d e past left h =
@@ -165,27 +168,28 @@ has_one turns past run c k known has = by c has where
   by Local e = sym files.0 ∙ e
   by Remote e = sym files.1 ∙ e
 
-module _ (past : List Own) (event : Own) (run : IsRunBy (Next None) (event ∷ past)) where
-  -- no job is on a message
-  no_work : BeginsTurn (desk_of past).row → ends_idle (desk_of past) event ≡ true → ((c : Channel) → 0 < length (lane c (desk_of past).slots).slots)
-      → ((c : Channel) (slot : ℕ) → attempt_in (lane c (desk_of past).slots).slots slot ≡ None) → (c : Channel) (k : Known) → job_of k.n (lane c (desk_of past).slots).jobs ≡ None
-  no_work begins ends slots free c k =
-      let none : pass_in c k.n past ≡ None = clear None past event run c (clear_at past event run begins ends slots free c) k.n in
-      no_job (job_of k.n (lane c (desk_of past).slots).jobs)
-      (λ job there. no_pass (pass_in c k.n past) job.begun none ((jobs None past event run c k.n).goes job (unlinks_none past event run begins ends c k.n) there).0)
+-- no job is on a message before a whole idle turn
+no_work : (past : List Own) (first : Own) (later : List Own) → IsRunBy (Next None) (later ++ first ∷ past) → IsWholeTurn past first later
+    → ((c : Channel) → 0 < length (lane c (desk_of past).slots).slots) → ((c : Channel) (slot : ℕ) → attempt_in (lane c (desk_of past).slots).slots slot ≡ None)
+    → (c : Channel) (k : Known) → job_of k.n (lane c (desk_of past).slots).jobs ≡ None
+no_work past first later run turn slots free c k =
+    let one : IsRunBy (Next None) (first ∷ past) = run_before (first ∷ past) later run in
+    let none : pass_in c k.n past ≡ None = clear None past first one c (clear_at past first later run turn slots free c) k.n in
+    no_job (job_of k.n (lane c (desk_of past).slots).jobs)
+    (λ job there. no_pass (pass_in c k.n past) job.begun none ((jobs None past first one c k.n).goes job (unlinks_none past first one turn.searches c k.n) there).0)
 
-  -- it is told of
-  told : (c : Channel) (k : Known) (begun : ℕ) → IsKnown (event ∷ past) k → has_file c k ≡ true → tried_in c k.n (event ∷ past) ≡ Some begun → known_tried (event ∷ past) c k.n ≡ true
-  told c k begun known has tried =
-      and_from (tried_at (event ∷ past) c k.n) (known_in (event ∷ past) k.n)
-      (and_from (is_some (tried_in c k.n (event ∷ past))) (has_in c k.n (event ∷ past)) (ap (λ (o : Option ℕ). is_some o) tried) (has_one None (event ∷ past) run c k known has))
-      (known_now None (event ∷ past) run k known)
+-- one that was tried is told of
+told : (past : List Own) → IsRunBy (Next None) past → (c : Channel) (k : Known) (begun : ℕ) → IsKnown past k → has_file c k ≡ true → tried_in c k.n past ≡ Some begun → known_tried past c k.n ≡ true
+told past run c k begun known has tried =
+    and_from (tried_at past c k.n) (known_in past k.n)
+    (and_from (is_some (tried_in c k.n past)) (has_in c k.n past) (ap (λ (o : Option ℕ). is_some o) tried) (has_one None past run c k known has))
+    (known_now None past run k known)
 
 pub known_are_undone : KnownAreUndone
-known_are_undone controls d h g a x began is alive program event past same begins ends slots free c k begun known has tried =
-    undone_of (after d h).disk c k.n ((now.1 c).1 k.n
-    (told past event ran c k begun (subst (λ (p : List Own). IsKnown p k) same known) has (subst (λ (p : List Own). tried_in c k.n p ≡ Some begun) same tried))
-    (subst (λ (s : Slots). job_of k.n (lane c s).jobs ≡ None) (sym (keeps past event ran begins ends).slots) (no_work past event ran begins ends slots free c k)))
+known_are_undone controls d h g a x began is alive program past first later same turn slots free c k begun known has tried =
+    undone_of (after d h).disk c k.n ((held.1 c).1 k.n (told x.past run c k begun known has tried)
+    (subst (λ (p : List Own). job_of k.n (lane c (desk_of p).slots).jobs ≡ None) (sym same)
+    (subst (λ (s : Slots). job_of k.n (lane c s).jobs ≡ None) (sym (turn_keeps past first later turn).slots) (no_work past first later ran turn slots free c k))))
   where
     run : IsRunBy (Next None) x.past
     run = subst (λ (p : Program). IsRunBy (next_of p) x.past) program (have_run d h g.legal a x is)
@@ -196,8 +200,5 @@ known_are_undone controls d h g a x began is alive program event past same begin
         (λ s a own b program may began is run h. child_tried s a own b program may began is run h)
         others_tried d g.are h g.legal g.well a x is began program alive run
 
-    ran : IsRunBy (Next None) (event ∷ past)
+    ran : IsRunBy (Next None) (later ++ first ∷ past)
     ran = subst (IsRunBy (Next None)) same run
-
-    now : Tried (after d h).disk (event ∷ past)
-    now = subst (Tried (after d h).disk) same held

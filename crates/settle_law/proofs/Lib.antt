@@ -1,19 +1,23 @@
 -- the end of an idle turn
 pub mod IdleTurns
+-- what a search leaves as it was
+pub mod Searching
 -- channels on which nothing is in flight
 pub mod FreeChannels
 -- spawners that wait
 pub mod Waiting
 -- a search of `todo` without a name
 pub mod Queued
--- a search that ends an idle turn goes from the start
+-- the first search of an idle turn goes from the start
 pub mod FromStart
 -- directories stay
 pub mod Dirs
 -- the numbers of messages where nothing fails
 pub mod SmallNumbers
--- no message waits to be preprocessed
+-- messages that wait to be preprocessed
 pub mod Unqueued
+-- no message waits to be preprocessed at a rest
+pub mod NoneQueued
 -- of which facts a settled state comes
 pub mod Sufficing
 -- how `settle` ends
@@ -63,6 +67,10 @@ pub mod ShortRoutes
 pub mod ShortRequests
 -- names in `todo` are numbers
 pub mod Strays
+-- a search that ended an idle turn was the whole turn
+pub mod WholeTurns
+-- a whole idle turn in a play, by the sender's past
+pub mod TurnPasts
 -- who serves a sender lives as long as it
 pub mod Living
 -- bytes that begin with no whole request
@@ -89,6 +97,8 @@ pub mod KnownGone
 pub mod SenderRows
 -- when info files were last written
 pub mod InfoFiles
+-- what an injector, a cleaner and those that only read leave of the files that preprocessing makes
+pub mod LaterLeft
 -- events of others leave info files
 pub mod OthersInfos
 -- what an event of a sender tells of info files

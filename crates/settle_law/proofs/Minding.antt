@@ -42,6 +42,9 @@ use Rattle.queue_paths.specs.Dirs.{queue_dirs}
 use Rattle.queue_paths.specs.Names.{Name, path}
 use Rattle.queue_paths.specs.Names.Name.{Of}
 use Rattle.queue_paths.specs.Names.Part.{Info, Intd, Mess, Todo}
+use Rattle.queue_paths.specs.Parts.{in_todo, parts_of}
+use Rattle.queue_paths.proofs.Parts.{todo_same}
+use Rattle.queue_law.proofs.Waits.{todo_named}
 use Rattle.remote_spawn.specs.Table.{place_after as remote_after, program_of as remote_asks}
 use Rattle.send_core.specs.Table.{arrive, due_at, moved_by, row_now}
 use Rattle.send_core.specs.declared.desk.Desk.{Desk}
@@ -229,7 +232,7 @@ module _ (controls : Controls) (s : State) (H : Holds controls s) (a : List ℕ)
       (λ other e. both other (sym e ∙ is))
       (λ n half.
       let same : (z : Name) → t.disk.names (path z) ≡ s.disk.names (path z) = delivery_names since args x.past there own.due own.came (due_of (Delivery since args) is) may.came in
-      record { mess = λ none. half.mess (same (Of Mess n) ∙ none); no_todo = sym (same (Of Todo n)) ∙ half.no_todo; no_info = sym (same (Of Info n)) ∙ half.no_info })
+      record { mess = λ none. half.mess (same (Of Mess n) ∙ none); no_todo = todo_same (parts_of t.disk.names n) (parts_of s.disk.names n) (λ part is. sym (same (Of part n))) ∙ half.no_todo; no_info = sym (same (Of Info n)) ∙ half.no_info })
     where
       both : (other : Arguments) → Injector other ≡ Delivery since args → ⊥
       both other e = cc
@@ -428,13 +431,13 @@ module _ (controls : Controls) (s : State) (H : Holds controls s) (a : List ℕ)
         by : (r : PassRow) → d.pass.row ≡ r → TodoStands controls s.now q a r d.pass → IsClearing r → ⊥
         by (todo.Clear target.Info) e st clearing =
             let queued = (st.stands.rests (subst HoldsTodo (sym e) tt)).rest in
-            let todo_is : s.disk.names (path (Of Todo n)) ≡ Some queued.todo.number =
-            ap (λ (k : ℕ). s.disk.names (path (Of Todo k))) (sym same) ∙ (found s.disk.names s.disk.files (Of Todo d.pass.n) queued.todo queued.todo_there).0 in
+            let todo_is : in_todo (parts_of s.disk.names n) ≡ Some queued.todo.number =
+            ap (λ (k : ℕ). in_todo (parts_of s.disk.names k)) (sym same) ∙ todo_named s.disk.names s.disk.files d.pass.n queued.todo queued.todo_there in
             let due_is : own.due ≡ needs.File (call.Unlink (path (Of Info d.pass.n))) =
             sym sender_due ∙ ap (λ (r : Row). due_at r d) at_it ∙ ap (λ (r : PassRow). pass_table.due_at r d.pass) e in
             ⊎_elim
             (λ (unlinks : UnlinksTodo n own.due). apart (Of Info d.pass.n) (Of Todo n) (λ e. cc) (subst (UnlinksTodo n) due_is unlinks))
-            (λ (none : s.disk.names (path (Of Todo n)) ≡ None). none_some queued.todo.number (sym none ∙ todo_is))
+            (λ (none : in_todo (parts_of s.disk.names n) ≡ None). none_some queued.todo.number (sym none ∙ todo_is))
             u.todo
         by r e st clearing = absurd clearing
 

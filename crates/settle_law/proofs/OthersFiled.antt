@@ -1,6 +1,6 @@
 -- An event of an actor that is no sender leaves each message that is preprocessed after it as it was, or the sender waits for the cleaner's answer
 -- to its todo pass.
-use Rattle.std.proofs.Common.{◌≡◌, ◌≢◌, ◌⊎◌, inl, inr, ⊎_elim, ℕ, List, Option, Some, None, refl, sym, ap, ◌∙◌, subst, arith}
+use Rattle.std.proofs.Common.{◌≡◌, ◌≢◌, ◌⊎◌, inl, inr, ⊎_elim, ℕ, true, List, Option, Some, None, refl, sym, ap, ◌∙◌, subst, arith}
 use Rattle.std.specs.Prelude.{IsSome, codes, is_some}
 use Rattle.std.proofs.lemmas.Bool.Decides.{eqb_tells}
 use Rattle.address_rules.specs.declared.controls.Controls.{Controls}
@@ -18,7 +18,6 @@ use Rattle.local_parts.specs.declared.arguments.LocalArgs.{LocalArgs}
 use Rattle.local_spawn.specs.Table.{place_after as local_after}
 use Rattle.program_law.proofs.Delivery.Events.{deliveries_keep}
 use Rattle.program_law.proofs.Sender.Gone.{file_call}
-use Rattle.program_law.proofs.Sender.Spares.{others_spare}
 use Rattle.program_law.specs.Errand.Errands.{Errand, Link, at_work, most, work_at}
 use Rattle.program_law.specs.Errand.Errands.Awaits.{Answer as Waits, Nothing}
 use Rattle.program_law.specs.Sender.Waits.{awaits, awaits_at, awaits_in}
@@ -33,16 +32,19 @@ use Rattle.queue_law.proofs.Cleaners.{cleaners_keep}
 use Rattle.queue_law.proofs.Foreigners.{foreigners_keep}
 use Rattle.queue_law.proofs.Frame.{about_same}
 use Rattle.queue_law.proofs.Injectors.{injector_calls}
-use Rattle.queue_law.proofs.Looks.{find_none, find_some, found, not_found}
+use Rattle.queue_law.proofs.Looks.{find_some, found}
 use Rattle.queue_law.proofs.Sends.{reads_keep}
 use Rattle.queue_law.specs.Cleaners.{StandsAt, number_at}
 use Rattle.queue_law.specs.Numbers.{About, Queue, about, entry, look}
 use Rattle.queue_law.specs.Ready.{IsSpent}
 use Rattle.queue_law.specs.Senders.{called_queue}
 use Rattle.queue_law.specs.Steps.{queue_after}
-use Rattle.queue_paths.specs.Names.{path}
+use Rattle.queue_paths.specs.Names.{Part, path}
 use Rattle.queue_paths.specs.Names.Name.{Of}
-use Rattle.queue_paths.specs.Names.Part.{Info, Intd, Todo as TodoFile}
+use Rattle.queue_paths.specs.Names.Part.{Info, Intd}
+use Rattle.queue_paths.specs.Parts.{is_todo, in_todo}
+use Rattle.queue_paths.proofs.Parts.{todo_apart}
+use Rattle.queue_law.proofs.Waits.{todo_unnamed, todo_absent}
 use Rattle.remote_spawn.specs.Table.{place_after as remote_after, program_of as remote_asks}
 use Rattle.send_core.specs.declared.desk.Desk.{Desk}
 use Rattle.send_parts.specs.declared.row.Row.{Row}
@@ -63,6 +65,7 @@ use Rattle.world_law.proofs.Spawners.{arrive_holds, only_reads}
 use Rattle.world_law.specs.Crew.{awaits_by, awaits_in as world_awaits, link_in, place_in}
 use Rattle.world_law.specs.Fares.{DeliveryFares}
 use Rattle.world_law.specs.Inv.{Inv}
+use Rattle.settle_law.proofs.LaterLeft.{by_row, by_sorted}
 use Rattle.settle_law.proofs.FiledCalls.{Keeps, call_keeps, some_of, texts_apart}
 use Rattle.settle_law.specs.inside.Met.{Comes, IsFiled}
 use Rattle.settle_law.specs.Suffices.{desk_of}
@@ -123,7 +126,7 @@ module _ (controls : Controls) (s : State) (I : Inv controls s) (a : List ℕ) (
 
   filed_by : (r : Queue) (n : ℕ) → about r n ≡ about q n → IsFiled r.disk n → IsFiled s.disk n
   filed_by r n same filed = (
-    not_found s.disk.names s.disk.files (Of TodoFile n) (sym (ap (λ (w : About). w.parts TodoFile) same) ∙ find_none r.disk.names r.disk.files (Of TodoFile n) filed.0),
+    todo_unnamed s.disk.names s.disk.files n (sym (ap (λ (w : About). in_todo w.parts) same) ∙ todo_absent r.disk.names r.disk.files n filed.0),
     ap is_some (info_back r n (ap (λ (w : About). w.parts Info) same) filed.1).1,
   )
 
@@ -132,8 +135,8 @@ module _ (controls : Controls) (s : State) (I : Inv controls s) (a : List ℕ) (
   spent_none : {A : Type 0} (m n : ℕ) → n ≡ m → IsSpent (about q m) → look q (Of Info n) ≢ None → A
   spent_none m n same spent there = absurd (there (ap (λ (k : ℕ). look q (Of Info k)) same ∙ spent.unsorted Info refl))
 
-  intd_far : (m n : ℕ) → path (Of TodoFile n) ≢ path (Of Intd m)
-  intd_far m n = texts_apart (Of TodoFile n) (Of Intd m) (λ e. absurd (cc))
+  intd_far : (m n : ℕ) (part : Part) → is_todo part ≡ true → path (Of part n) ≢ path (Of Intd m)
+  intd_far m n part is = texts_apart (Of part n) (Of Intd m) (todo_apart part n (Of Intd m) is refl)
 
   cleaner_by : (row : CleanRow) (p : Place) (name : List ℕ) (c : CallData) (told : Answer) → StandsAt controls s.now q row p → clean_due_at row name own.read ≡ needs.File c
       → ((n : ℕ) → number_at row ≢ Some n → about (called_queue q a own.read c told wrote q.role) n ≡ about q n) → ((n : ℕ) → work_at row ≡ Some (Todo n) → at_work row ≡ 1 → Awaited n)
@@ -179,7 +182,7 @@ module _ (controls : Controls) (s : State) (I : Inv controls s) (a : List ℕ) (
   injector_left : (args : Arguments) (past : List Own) → Runs (Injector args) past → (due : NeedData) (got : GotData) → next_of (Injector args) past own.read own.ready ≡ due → ComesOf s a due got wrote → Left due got
   injector_left args past may (needs.File c) (came.Answered told) next comes n filed =
       let w = injector_calls controls s.now q a args past own.read own.ready c told wrote I.sound (I.fares a (actor (Injector args) past) may.is) may.no_earlier may.no_stall next comes.0 in
-      let there = info_back (queue_after q a args own.read c told.answer wrote w.role) n ((others_spare.injectors controls s.now q a args past own.read own.ready c told wrote w).later Info n refl) filed.1 in
+      let there = info_back (queue_after q a args own.read c told.answer wrote w.role) n (by_sorted q (queue_after q a args own.read c told.answer wrote w.role) w.sorted w.unsorted Info n refl) filed.1 in
       inl (filed_by (queue_after q a args own.read c told.answer wrote w.role) n (w.sorted n (Info, refl, has_look n there)) filed)
   injector_left args past may due got next comes n filed = inl filed
 
@@ -188,7 +191,7 @@ module _ (controls : Controls) (s : State) (I : Inv controls s) (a : List ℕ) (
       let p : Place = clean_after past in
       let st = I.fares a (actor (Cleaner since) past) may.is in
       let leads = cleaners_keep controls s.now q a past own.read own.ready c told wrote I.sound st may.no_later next comes.0 in
-      let later = (others_spare.cleaners controls s.now q a past own.read own.ready c told wrote I.sound st may.no_later next comes.0).later Info n refl in
+      let later = by_row q a own.read wrote told.answer p.row p.name c next comes.0 leads.abouts Info n refl in
       let there = info_back (called_queue q a own.read c told.answer wrote q.role) n later filed.1 in
       cleaner_by p.row p p.name c told.answer st next leads.abouts (awaited since past may) n (has_look n there) filed
   cleaner_left since past may due got next comes n filed = inl filed

@@ -10,11 +10,15 @@ use Rattle.call_fs.specs.declared.past.Own.{Own}
 use Rattle.local_parts.specs.declared.arguments.LocalArgs.{LocalArgs}
 use Rattle.local_spawn.specs.Table.{place_after as local_after}
 use Rattle.program_law.proofs.Delivery.Events.{deliveries_keep}
-use Rattle.program_law.proofs.Sender.Spares.{others_spare}
+use Rattle.queue_clean.specs.Table.{Place, place_after as clean_after}
 use Rattle.queue_inject.specs.declared.injection.Arguments.{Arguments}
+use Rattle.queue_law.proofs.Cleaners.{cleaners_keep}
+use Rattle.queue_law.proofs.Foreigners.{foreigners_keep}
 use Rattle.queue_law.proofs.Injectors.{injector_calls}
 use Rattle.queue_law.proofs.Sends.{reads_keep}
 use Rattle.queue_law.specs.Numbers.{Queue, find, is_later}
+use Rattle.queue_law.specs.Senders.{called_queue}
+use Rattle.queue_law.specs.Steps.{queue_after}
 use Rattle.queue_paths.specs.Names.Name.{Of}
 use Rattle.queue_paths.specs.Names.Part.{Info}
 use Rattle.queue_paths.specs.Names.{Part}
@@ -30,6 +34,7 @@ use Rattle.world_law.proofs.Locals.{local_reads}
 use Rattle.world_law.proofs.Spawners.{arrive_holds, only_reads}
 use Rattle.world_law.specs.Fares.{DeliveryFares}
 use Rattle.world_law.specs.Inv.{Inv}
+use Rattle.settle_law.proofs.LaterLeft.{by_about, by_row, by_sorted}
 
 module _ (controls : Controls) (s : State) (I : Inv controls s) (a : List ℕ) (own : Own) (wrote : ℕ) where
   abbrev q : Queue
@@ -47,19 +52,21 @@ module _ (controls : Controls) (s : State) (I : Inv controls s) (a : List ℕ) (
   injector_left : (args : Arguments) (past : List Own) → Runs (Injector args) past → (due : NeedData) (got : GotData) → next_of (Injector args) past own.read own.ready ≡ due → ComesOf s a due got wrote → Left due got
   injector_left args past may (needs.File c) (came.Answered told) next comes part n later =
       let w = injector_calls controls s.now q a args past own.read own.ready c told wrote I.sound (I.fares a (actor (Injector args) past) may.is) may.no_earlier may.no_stall next comes.0 in
-      (others_spare.injectors controls s.now q a args past own.read own.ready c told wrote w).later part n later
+      by_sorted q (queue_after q a args own.read c told.answer wrote w.role) w.sorted w.unsorted part n later
   injector_left args past may due got next comes part n later = refl
 
   cleaner_left : (since : ℕ) (past : List Own) → Runs (Cleaner since) past → (due : NeedData) (got : GotData) → next_of (Cleaner since) past own.read own.ready ≡ due → ComesOf s a due got wrote → Left due got
   cleaner_left since past may (needs.File c) (came.Answered told) next comes part n later =
-      (others_spare.cleaners controls s.now q a past own.read own.ready c told wrote I.sound (I.fares a (actor (Cleaner since) past) may.is) may.no_later next comes.0).later part n later
+      let p : Place = clean_after past in
+      let leads = cleaners_keep controls s.now q a past own.read own.ready c told wrote I.sound (I.fares a (actor (Cleaner since) past) may.is) may.no_later next comes.0 in
+      by_row q a own.read wrote told.answer p.row p.name c next comes.0 leads.abouts part n later
   cleaner_left since past may due got next comes part n later = refl
 
   local_left : (since : ℕ) (past : List Own) → Runs (LocalSpawner since) past → (due : NeedData) (got : GotData) → next_of (LocalSpawner since) past own.read own.ready ≡ due → ComesOf s a due got wrote → Left due got
   local_left since past may (needs.File c) (came.Answered told) next comes part n later =
       let reads = local_reads q a (local_after past) own.ready c (I.fares a (actor (LocalSpawner since) past) may.is) next in
       let w = reads_keep controls s.now q a I.sound own.read c told.answer wrote reads comes.0 in
-      (others_spare.reads s.now a q _ w.elsewhere).later part n later
+      w.elsewhere.looks (Of part n) (λ e. absurd (cc))
   local_left since past may due got next comes part n later = refl
 
   remote_left : (since : ℕ) (past : List Own) → Runs (RemoteSpawner since) past → (due : NeedData) (got : GotData) → next_of (RemoteSpawner since) past own.read own.ready ≡ due → ComesOf s a due got wrote → Left due got
@@ -67,7 +74,7 @@ module _ (controls : Controls) (s : State) (I : Inv controls s) (a : List ℕ) (
       let p = remote_after past in
       let holds = arrive_holds q a p.row p own.ready (I.fares a (actor (RemoteSpawner since) past) may.is) in
       let w = reads_keep controls s.now q a I.sound own.read c told.answer wrote (only_reads q a (remote_asks p.request) (remote_now p own.ready) p c holds next) comes.0 in
-      (others_spare.reads s.now a q _ w.elsewhere).later part n later
+      w.elsewhere.looks (Of part n) (λ e. absurd (cc))
   remote_left since past may due got next comes part n later = refl
 
   delivery_left : (since : ℕ) (args : LocalArgs) (past : List Own) → Runs (Delivery since args) past → (due : NeedData) (got : GotData) → next_of (Delivery since args) past own.read own.ready ≡ due → ComesOf s a due got wrote
@@ -75,7 +82,7 @@ module _ (controls : Controls) (s : State) (I : Inv controls s) (a : List ℕ) (
   delivery_left since args past may (needs.File c) (came.Answered told) next comes part n later =
       let F : DeliveryFares q a args past Alive = I.fares a (actor (Delivery since args) past) may.is in
       let l = deliveries_keep.calls q a args past own.read own.ready c told wrote I.sound.suits F.rests (next, may_come s a (needs.File c) (came.Answered told) wrote comes) comes.0 comes.1 in
-      (others_spare.foreigners a q _ l.1.foreign).later part n later
+      by_about q (called_queue q a own.read c told.answer wrote l.0) (foreigners_keep.abouts a q (called_queue q a own.read c told.answer wrote l.0) l.1.foreign) part n later
   delivery_left since args past may due got next comes part n later = refl
 
   by_program : (program : Program) (past : List Own) → (IsSender program → ⊥) → Runs program past → next_of program past own.read own.ready ≡ own.due → ComesOf s a own.due own.came wrote → Left own.due own.came

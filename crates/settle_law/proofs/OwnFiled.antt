@@ -30,13 +30,16 @@ use Rattle.mail_bytes.specs.Decimal.{digits}
 use Rattle.program_law.proofs.Sender.Senders.{sorted_of}
 use Rattle.program_law.specs.Sender.InTodo.{TodoStands}
 use Rattle.program_law.specs.Sender.Stands.{StandsAt}
-use Rattle.queue_law.proofs.Looks.{find_none, find_some, found, not_found}
+use Rattle.queue_law.proofs.Looks.{find_some, not_found}
 use Rattle.queue_law.specs.Numbers.{Entry, IsPreprocessed, Queue, about, entry, look}
 use Rattle.queue_law.specs.Passes.{PassStands}
 use Rattle.queue_paths.specs.Names.Name.{Of}
 use Rattle.queue_paths.specs.Names.Part.{Bounce, Info, Local as LocalFile, Remote as RemoteFile, Todo as TodoFile}
 use Rattle.queue_paths.specs.Names.{Name, Part, parse, path, split}
 use Rattle.queue_paths.proofs.Paths.{parse-path}
+use Rattle.queue_paths.specs.Parts.{is_todo, in_todo, parts_of}
+use Rattle.queue_paths.proofs.Parts.{is_todo_name, todo_apart, todo_missing}
+use Rattle.queue_law.proofs.Waits.{todo_named, todo_absent}
 use Rattle.queue_states.proofs.Listed.{same-text}
 use Rattle.queue_states.proofs.MessageFiles.{is_part}
 use Rattle.send_core.specs.Table.{due_at, place_after, row_now}
@@ -115,8 +118,11 @@ module _ (controls : Controls) (s : State) (I : Inv controls s) (a : List ℕ) (
     abbrev Kept : NeedData → Type 0
     Kept need = Keeps s.disk n need
 
-    made_apart : (part : Part) (k : ℕ) → (◌≡◌ {A = Name} (Of Info n) (Of part k) → ⊥) → path (Of Info n) ≡ path (Of part k) → IsSome (s.disk.names (path (Of TodoFile n)))
+    made_apart : (part : Part) (k : ℕ) → (◌≡◌ {A = Name} (Of Info n) (Of part k) → ⊥) → path (Of Info n) ≡ path (Of part k) → IsSome (in_todo (parts_of s.disk.names n))
     made_apart part k far same = absurd (texts_apart (Of Info n) (Of part k) far same)
+
+    far_from : (x : Name) → is_todo_name x ≡ false → (part : Part) → is_todo part ≡ true → path (Of part n) ≢ path x
+    far_from x far part is = texts_apart (Of part n) x (todo_apart part n x is far)
 
     start_keeps : (r : StartRow) → Kept (due_at (at.Start r) d)
     start_keeps (start.Control file Opening) = tt
@@ -138,18 +144,18 @@ module _ (controls : Controls) (s : State) (I : Inv controls s) (a : List ℕ) (
     mark_keeps r m = tt
 
     -- a pass makes the info file of its number, whose todo file is there
-    info_made : (p : Pass) → p.row ≡ todo.Create target.Info → PassStands controls s.now q a p.n p.row → path (Of Info n) ≡ path (Of Info p.n) → IsSome (s.disk.names (path (Of TodoFile n)))
+    info_made : (p : Pass) → p.row ≡ todo.Create target.Info → PassStands controls s.now q a p.n p.row → path (Of Info n) ≡ path (Of Info p.n) → IsSome (in_todo (parts_of s.disk.names n))
     info_made p at st same =
         let here_st : PassStands controls s.now q a p.n (todo.Create target.Info) = subst (λ (r : PassRow). PassStands controls s.now q a p.n r) at st in
         let queued = (here_st.rests tt).rest in
-        let there = found s.disk.names s.disk.files (Of TodoFile p.n) queued.todo queued.todo_there in
+        let there = todo_named s.disk.names s.disk.files p.n queued.todo queued.todo_there in
         let one : p.n ≡ n = (let names : ◌≡◌ {A = Option Name} (Some (Of Info n)) (Some (Of Info p.n)) = sym (parse-path (Of Info n)) ∙ ap parse same ∙ parse-path (Of Info p.n) in cc) in
-        ap is_some (ap (λ (k : ℕ). s.disk.names (path (Of TodoFile k))) (sym one) ∙ there.0)
+        ap is_some (ap (λ (k : ℕ). in_todo (parts_of s.disk.names k)) (sym one) ∙ there)
 
     pass_keeps : (r : PassRow) (p : Pass) → p.row ≡ r → TodoStands controls s.now q a r p → Kept (pass_table.due_at r p)
-    pass_keeps (todo.Clear target.Info) p at st = texts_apart (Of TodoFile n) (Of Info p.n) (λ e. absurd (cc))
-    pass_keeps (todo.Clear target.Local) p at st = texts_apart (Of TodoFile n) (Of LocalFile p.n) (λ e. absurd (cc))
-    pass_keeps (todo.Clear target.Remote) p at st = texts_apart (Of TodoFile n) (Of RemoteFile p.n) (λ e. absurd (cc))
+    pass_keeps (todo.Clear target.Info) p at st = far_from (Of Info p.n) refl
+    pass_keeps (todo.Clear target.Local) p at st = far_from (Of LocalFile p.n) refl
+    pass_keeps (todo.Clear target.Remote) p at st = far_from (Of RemoteFile p.n) refl
     pass_keeps (todo.Create target.Info) p at st = info_made p at st.stands
     pass_keeps (todo.Create target.Local) p at st = made_apart LocalFile p.n (λ e. cc)
     pass_keeps (todo.Create target.Remote) p at st = made_apart RemoteFile p.n (λ e. cc)
@@ -157,13 +163,13 @@ module _ (controls : Controls) (s : State) (I : Inv controls s) (a : List ℕ) (
     pass_keeps r p at st = tt
 
     return_keeps : (r : ReturnRow) (x : Returning) → Kept (return_due_at r x)
-    return_keeps back.Unlink x = texts_apart (Of TodoFile n) (Of Bounce x.n) (λ e. absurd (cc))
-    return_keeps back.Discard x = texts_apart (Of TodoFile n) (Of Bounce x.n) (λ e. absurd (cc))
+    return_keeps back.Unlink x = far_from (Of Bounce x.n) refl
+    return_keeps back.Discard x = far_from (Of Bounce x.n) refl
     return_keeps r x = tt
 
     finish_keeps : (r : FinishRow) (k : ℕ) → Kept (due_at (at.Finish r k) d)
     finish_keeps finish.Return k = return_keeps d.bounce.row d.bounce
-    finish_keeps finish.UnlinkInfo k = texts_apart (Of TodoFile n) (Of Info k) (λ e. absurd (cc))
+    finish_keeps finish.UnlinkInfo k = far_from (Of Info k) refl
     finish_keeps r k = tt
 
     sweep_keeps : (r : SweepRow) → Kept (due_at (at.Sweep r) d)
@@ -173,8 +179,8 @@ module _ (controls : Controls) (s : State) (I : Inv controls s) (a : List ℕ) (
     row_keeps : (r : Row) → At r → Kept (due_at r d)
     row_keeps (at.Start r) st = start_keeps r
     row_keeps (at.Mark r m) st = mark_keeps r m
-    row_keeps (at.UnlinkFile Local k p) st = texts_apart (Of TodoFile n) (Of LocalFile k) (λ e. absurd (cc))
-    row_keeps (at.UnlinkFile Remote k p) st = texts_apart (Of TodoFile n) (Of RemoteFile k) (λ e. absurd (cc))
+    row_keeps (at.UnlinkFile Local k p) st = far_from (Of LocalFile k) refl
+    row_keeps (at.UnlinkFile Remote k p) st = far_from (Of RemoteFile k) refl
     row_keeps (at.ReadFile c k begun Opening) st = tt
     row_keeps (at.ReadFile c k begun (Going fd)) st = tt
     row_keeps (at.ReadFile c k begun (Closing fd)) st = tt
@@ -217,7 +223,7 @@ module _ (controls : Controls) (s : State) (I : Inv controls s) (a : List ℕ) (
 
     -- no file has the name
     none_there : (i : ℕ) → s.disk.names (path (Of TodoFile n)) ≡ Some i → ⊥
-    none_there i there = let bad : ◌≡◌ {A = Option ℕ} None (Some i) = sym filed.0 ∙ there in cc
+    none_there i there = let bad : ◌≡◌ {A = Option ℕ} None (Some i) = sym (todo_missing (parts_of s.disk.names n) filed.0 TodoFile refl) ∙ there in cc
 
     todo_shows : (told : Answer) (bytes : List ℕ) → Fits s.disk (call.Stat (path (Of TodoFile n))) told wrote → (answered told bytes).way ≢ way.Fine
     todo_shows (answer.Stat stat) bytes fits fine = none_there stat.number fits.number
@@ -243,7 +249,7 @@ module _ (controls : Controls) (s : State) (I : Inv controls s) (a : List ℕ) (
     open_shows told bytes fits missing = fits
 
     preprocessed : IsPreprocessed controls (about q n)
-    preprocessed = sorted_of controls (about q n) (I.sound.fine n) (find_none s.disk.names s.disk.files (Of TodoFile n) filed.0) (entry s.disk.files info.0) (find_some s.disk.names s.disk.files (Of Info n) info.0 info.1)
+    preprocessed = sorted_of controls (about q n) (I.sound.fine n) (todo_absent s.disk.names s.disk.files n filed.0) (entry s.disk.files info.0) (find_some s.disk.names s.disk.files (Of Info n) info.0 info.1)
 
     same_entry : (o : Option Entry) (x y : Entry) → o ≡ Some x → o ≡ Some y → x ≡ y
     same_entry o x y e f = cc

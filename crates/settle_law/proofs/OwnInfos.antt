@@ -37,8 +37,9 @@ use Rattle.queue_law.specs.Passes.{PassStands}
 use Rattle.queue_law.specs.Routes.{lane_part}
 use Rattle.queue_paths.proofs.Paths.{parse-path}
 use Rattle.queue_paths.specs.Names.Name.{Of}
-use Rattle.queue_paths.specs.Names.Part.{Bounce, Info, Local as LocalFile, Remote as RemoteFile, Todo as TodoFile}
+use Rattle.queue_paths.specs.Names.Part.{Bounce, Info, Local as LocalFile, Remote as RemoteFile}
 use Rattle.queue_paths.specs.Names.{Name, Part, parse, path}
+use Rattle.queue_paths.specs.Parts.{in_todo}
 use Rattle.retry_law.proofs.Comings.{arrives_coming}
 use Rattle.retry_law.specs.Infos.{TellsInfos, coming, has_written, looked_at, pass_tells, tells, written as born, written_at}
 use Rattle.send_core.specs.Births.{Birth}
@@ -206,7 +207,7 @@ module _ (controls : Controls) (s : State) (I : Inv controls s) (a : List ℕ) (
     passes_another p r same st fd done e number =
         let st_at = holds_at (todo.Append target.Info fd done) p (same ∙ e) st in
         let queued = (st_at.rests tt).rest in
-        let none = ap (λ (k : ℕ). (about q k).parts TodoFile) number ∙ w.no_todo in
+        let none = ap (λ (k : ℕ). in_todo (about q k).parts) number ∙ w.no_todo in
         absurd (cc (sym none ∙ queued.todo_there))
 
     pass_spares : (r : PassRow) (p : Pass) → p.row ≡ r → TodoStands controls s.now q a r p → Spares s.disk n (pass_table.due_at r p)

@@ -27,8 +27,9 @@ use Rattle.queue_law.specs.Passes.{PassStands}
 use Rattle.queue_law.specs.Routes.{lane_part}
 use Rattle.queue_paths.proofs.Paths.{path_injective}
 use Rattle.queue_paths.specs.Names.Name.{Of}
-use Rattle.queue_paths.specs.Names.Part.{Bounce, Info, Local as LocalFile, Remote as RemoteFile, Todo as TodoFile}
+use Rattle.queue_paths.specs.Names.Part.{Bounce, Info, Local as LocalFile, Remote as RemoteFile}
 use Rattle.queue_paths.specs.Names.{Name, Part, path}
+use Rattle.queue_paths.specs.Parts.{in_todo}
 use Rattle.send_core.specs.Table.{due_at, place_after, row_now}
 use Rattle.send_core.specs.declared.desk.Desk.{Desk}
 use Rattle.send_parts.specs.declared.row.MarkRow.TheVariants as mark
@@ -166,7 +167,7 @@ module _ (controls : Controls) (s : State) (I : Inv controls s) (a : List ℕ) (
     passes_another : (r : PassRow) (p : Pass) → HoldsTodo r → PassStands controls s.now q a p.n r → p.n ≢ n
     passes_another r p holds st number =
         let queued = (st.rests holds).rest in
-        let none = ap (λ (k : ℕ). (about q k).parts TodoFile) number ∙ settled.no_todo in
+        let none = ap (λ (k : ℕ). in_todo (about q k).parts) number ∙ settled.no_todo in
         absurd (cc (sym none ∙ queued.todo_there))
 
     pass_left : (r : PassRow) (p : Pass) → p.row ≡ r → TodoStands controls s.now q a r p → Left (pass_table.due_at r p)

@@ -10,9 +10,10 @@ use Rattle.queue_law.specs.Numbers.{Phase, Role, about}
 use Rattle.queue_law.specs.Numbers.Phase.{Finished, Free, Queued, Sorted}
 use Rattle.queue_paths.specs.Names.{path}
 use Rattle.queue_paths.specs.Names.Name.{Of}
-use Rattle.queue_paths.specs.Names.Part.{Bounce, Info, Intd, Local as LocalFile, Mess, Remote as RemoteFile, Todo}
+use Rattle.queue_paths.specs.Names.Part.{Bounce, Info, Local as LocalFile, Mess, Remote as RemoteFile}
+use Rattle.queue_paths.specs.Parts.{in_todo, parts_of}
 use Rattle.queue_states.specs.declared.state.State.TheVariants.{S5}
-use Rattle.queue_states.specs.States.{is_there, state_by, state_of}
+use Rattle.queue_states.specs.States.{is_there, state_by, state_of, is_in_intd, is_in_todo}
 use Rattle.send_core.specs.Table.{Next}
 use Rattle.send_core.specs.declared.desk.Desk.{Desk}
 use Rattle.send_parts.specs.declared.row.Row.{Row}
@@ -32,7 +33,7 @@ use Rattle.settle_law.proofs.MetAlways.{all_met}
 use Rattle.settle_law.proofs.Passed.{passes_go_on}
 use Rattle.settle_law.proofs.SmallNumbers.{numbers_are_small}
 use Rattle.settle_law.specs.inside.Met.{Comes, IsFiled, PreprocessedAreKnown}
-use Rattle.settle_law.specs.inside.Rests.{BeginsTurn}
+use Rattle.settle_law.specs.Rests.{BeginsTurn}
 use Rattle.settle_law.specs.Suffices.{desk_of}
 
 -- It has an info file and no todo file
@@ -51,8 +52,8 @@ none_of (Some i) e = absurd (cc)
 
 filed_of : (d : Disk) (n : ℕ) → state_of d n ≡ S5 → IsFiled d n
 filed_of d n e =
-    let w = files_of (is_there d Mess n) (is_there d Intd n) (is_there d Todo n) (is_there d Info n) (is_there d LocalFile n) (is_there d RemoteFile n) (is_there d Bounce n) e in
-    (none_of (d.names (path (Of Todo n))) w.0, w.1)
+    let w = files_of (is_there d Mess n) (is_in_intd d n) (is_in_todo d n) (is_there d Info n) (is_there d LocalFile n) (is_there d RemoteFile n) (is_there d Bounce n) e in
+    (none_of (in_todo (parts_of d.names n)) w.0, w.1)
 
 -- It is the message of an injection
 

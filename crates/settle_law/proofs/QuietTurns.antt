@@ -56,7 +56,7 @@ use Rattle.todo_pass.specs.declared.row.Row.TheVariants as todo
 use Rattle.todo_pass.specs.Rows.{is_done}
 use Rattle.todo_pass.specs.Table.{Pass, answer_row}
 use Rattle.settle_law.specs.inside.Begins.{GoesOn, SearchesBegin}
-use Rattle.settle_law.specs.inside.Rests.{BeginsTurn}
+use Rattle.settle_law.specs.Rests.{BeginsTurn}
 use Rattle.settle_law.specs.Suffices.{desk_of}
 
 -- from the start a turn searches only if a number was left

@@ -10,7 +10,7 @@ use Rattle.call_fs.specs.declared.past.Own.{Own}
 use Rattle.call_fs.specs.declared.program.Port.TheVariants as port
 use Rattle.world_events.specs.Children.{Counts}
 use Rattle.world_events.specs.declared.event.Program.{Program}
-use Rattle.world_events.specs.declared.event.Program.TheVariants.{Injector, Cleaner, Sender, LocalSpawner, RemoteSpawner, Delivery}
+use Rattle.world_events.specs.declared.event.Program.TheVariants.{Injector}
 use Rattle.world_pipes.specs.Pipes.{end_of, offered}
 use Rattle.mail_world.specs.Generations.{CanNot}
 use Rattle.mail_world.specs.History.{Actor, Life, State, next_of, program_of}
@@ -74,12 +74,8 @@ does_none s n a due (Some came) why e = absurd (cc)
 
 to_some : (o : Option Program) (c a : List ℕ) (own : Own) (bytes : List ℕ) (why : Refusal) → GivesTo o c a own bytes (Is why) → ⊥
 to_some (Some (Injector args)) c a own bytes why h = let e = h.3 in absurd (cc)
-to_some (Some (Cleaner start)) c a own bytes why h = absurd (cc)
-to_some (Some (Sender start)) c a own bytes why h = absurd (cc)
-to_some (Some (LocalSpawner start)) c a own bytes why h = absurd (cc)
-to_some (Some (RemoteSpawner start)) c a own bytes why h = absurd (cc)
-to_some (Some (Delivery start args)) c a own bytes why h = absurd (cc)
 to_some None c a own bytes why h = absurd (cc)
+to_some (Some other) c a own bytes why h = absurd (cc)
 
 gives_some : (s : State) (a : List ℕ) (own : Own) (bytes : List ℕ) (o : Option Tenant) (why : Refusal) → Gives s a own bytes o (Is why) → ⊥
 gives_some s a own bytes None why h = absurd (cc)

@@ -3,7 +3,7 @@ use Rattle.std.proofs.Common.{◌≡◌, ◌≢◌, ◌⊎◌, inl, inr, ⊎_eli
 use Rattle.std.specs.Ordering.{nat_cmp}
 use Rattle.std.specs.Cmp.Lexicographic.{slice_cmp}
 use Rattle.std.specs.declared.cmp.Ordering.TheVariants.{Less}
-use Rattle.std.proofs.lemmas.Bool.{cases_lt, le-leb, lt-ltb}
+use Rattle.std.proofs.lemmas.Bool.{cases_lt, eq-eqb, le-leb, lt-ltb}
 use Rattle.std.proofs.lemmas.List.{take_all}
 use Rattle.address_rules.specs.Files.{Fault, first_fault, place}
 use Rattle.address_rules.specs.declared.control_file.ControlFile.{ControlFile}
@@ -22,7 +22,7 @@ use Rattle.send_parts.specs.declared.reply.Way.{Way}
 use Rattle.send_parts.specs.declared.reply.Way.TheVariants as way
 use Rattle.send_parts.specs.declared.rows.StartRow.{StartRow}
 use Rattle.send_parts.specs.declared.rows.StartRow.TheVariants as start
-use Rattle.send_parts.specs.Files.{from_one, is_info, message_number}
+use Rattle.send_parts.specs.Files.{from_one, is_info, lying_in, message_number, number_below}
 use Rattle.send_parts.specs.Readings.{read_on}
 use Rattle.send_parts.specs.Replies.{Said}
 use Rattle.send_parts.specs.Start.{act_start, by_way, control_read, file_after, greeted_local, greeted_remote, info_read, info_row, judged_by, next_file, remote_stated, scan_next, scan_row, scanned, start_failed}
@@ -77,12 +77,16 @@ module _ (n : ℕ) (low : 1 ≤ n) (high : n < 2 ^ 64) where
   row_ahead None dir last h = h
   row_ahead (Some m) dir last h = inr h
 
-  named_comes : (text : List ℕ) (dir : ℕ) → dir ≡ split n → IsUpTo text n → ScanComes (scan_row (message_number text) dir) (take 255 text) n
+  -- its number is taken in its directory
+  number_here : (dir : ℕ) → dir ≡ split n → number_below dir (digits n) ≡ Some n
+  number_here dir same = ap (lying_in dir) (number_read n low high) ∙ ap (λ (b : Bool). if b then Some n else None) (eq-eqb (split n) dir (sym same))
+
+  named_comes : (text : List ℕ) (dir : ℕ) → dir ≡ split n → IsUpTo text n → ScanComes (scan_row (number_below dir text) dir) (take 255 text) n
   named_comes text dir same h = ⊎_elim
       (λ (this : text ≡ digits n).
-      subst (λ (o : Option ℕ). ScanComes (scan_row o dir) (take 255 text) n) (sym (ap message_number this ∙ number_read n low high)) (inl refl))
+      subst (λ (o : Option ℕ). ScanComes (scan_row o dir) (take 255 text) n) (sym (ap (number_below dir) this ∙ number_here dir same)) (inl refl))
       (λ (less : slice_cmp nat_cmp text (digits n) ≡ Less).
-      row_ahead (message_number text) dir (take 255 text) (inr (same, ap (λ (t : List ℕ). slice_cmp nat_cmp t (digits n)) (take_all 255 text h.0) ∙ less)))
+      row_ahead (number_below dir text) dir (take 255 text) (inr (same, ap (λ (t : List ℕ). slice_cmp nat_cmp t (digits n)) (take_all 255 text h.0) ∙ less)))
       h.1
 
   next_comes : (dir : ℕ) (b : Book) → dir < split n → Then (scan_next dir b)
@@ -93,7 +97,7 @@ module _ (n : ℕ) (low : 1 ≤ n) (high : n < 2 ^ 64) where
   scan_comes : (w : Way) (text : List ℕ) (dir : ℕ) (b : Book)
       → (dir ≡ split n → slice_cmp nat_cmp b.after (digits n) ≡ Less → (w ≡ way.Fine → IsUpTo text n) × (w ≢ way.Over)) → LiesAhead dir b.after n → Then (scanned w text dir b)
   scan_comes way.Fine text dir b shows h = ⊎_elim
-      (λ (below : dir < split n). row_ahead (message_number text) dir (take 255 text) (inl below))
+      (λ (below : dir < split n). row_ahead (number_below dir text) dir (take 255 text) (inl below))
       (λ (here : (dir ≡ split n) × (slice_cmp nat_cmp b.after (digits n) ≡ Less)). named_comes text dir here.0 ((shows here.0 here.1).0 refl))
       h
   scan_comes way.Over text dir b shows h = ⊎_elim

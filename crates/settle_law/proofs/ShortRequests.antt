@@ -16,10 +16,11 @@ use Rattle.queue_law.specs.Books.{Injection}
 use Rattle.queue_law.specs.Numbers.{Entry, Role, look}
 use Rattle.queue_law.specs.Routes.{lane_part, sender_of}
 use Rattle.queue_law.proofs.Looks.{found}
-use Rattle.queue_paths.specs.Names.{path, split_text}
+use Rattle.queue_paths.specs.Names.{split_text}
 use Rattle.queue_paths.specs.Names.Name.{Of}
-use Rattle.queue_paths.specs.Names.Part.{Mess, Intd, Todo, Info, Local as LocalPart, Remote as RemotePart, Bounce}
-use Rattle.queue_states.specs.States.{is_there, state_of}
+use Rattle.queue_paths.specs.Names.Part.{Mess, Info, Local as LocalPart, Remote as RemotePart, Bounce}
+use Rattle.queue_paths.specs.Parts.{in_todo, parts_of}
+use Rattle.queue_states.specs.States.{is_there, state_of, is_in_intd, is_in_todo}
 use Rattle.queue_states.specs.declared.state.State.TheVariants.{S5}
 use Rattle.program_law.specs.Post.Posts.{HasPlainFields}
 use Rattle.program_law.specs.Sender.Asking.{IsRequestFor}
@@ -91,11 +92,11 @@ module _ (controls : Controls) (d : Disk) (h : List Event) (has : AreControls co
   abbrev a : Attempt
   a = w.attempt
 
-  no_todo : s.disk.names (path (Of Todo a.n)) ≡ None
+  no_todo : in_todo (parts_of s.disk.names a.n) ≡ None
   no_todo =
       let stays : state_of s.disk a.n ≡ S5 = ((hands_always_stand controls d h has legal (codes "sender") x is alive began sends).to_come c a (first_left (lane c (desk_of x.past).slots).left a w.next_is)).stays in
-      none_there (s.disk.names (path (Of Todo a.n)))
-      (in_s5 (is_there s.disk Mess a.n) (is_there s.disk Intd a.n) (is_there s.disk Todo a.n) (is_there s.disk Info a.n) (is_there s.disk LocalPart a.n) (is_there s.disk RemotePart a.n)
+      none_there (in_todo (parts_of s.disk.names a.n))
+      (in_s5 (is_there s.disk Mess a.n) (is_in_intd s.disk a.n) (is_in_todo s.disk a.n) (is_there s.disk Info a.n) (is_there s.disk LocalPart a.n) (is_there s.disk RemotePart a.n)
       (is_there s.disk Bounce a.n) stays).0
 
   file : (y : Entry) × (look (queue s role) (Of (lane_part c) a.n) ≡ Some y) × (records_of y.file.bytes ≡ Some w.reads.records)

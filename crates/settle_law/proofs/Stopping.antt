@@ -1,5 +1,5 @@
 -- How `settle` ends.
-use Rattle.std.proofs.Common.{◌≡◌, ◌⊎◌, ℕ, suc, ◌+◌, List, [], ◌∷◌, ◌++◌, length, inl, inr, Bool, true, false, not, ◌&&◌, ◌||◌, if◌then◌else◌, Some, bytes_eq, codes, nat_lt, refl, sym, ap, ◌∙◌, subst, append_assoc}
+use Rattle.std.proofs.Common.{◌≡◌, ◌==◌, ◌⊎◌, ℕ, suc, ◌+◌, List, [], ◌∷◌, ◌++◌, length, inl, inr, Bool, true, false, not, ◌&&◌, ◌||◌, if◌then◌else◌, Some, bytes_eq, codes, nat_lt, refl, sym, ap, ◌∙◌, subst, append_assoc}
 use Rattle.std.specs.List.{count_by, list_all, list_any}
 use Rattle.std.proofs.lemmas.Bool.{and_parts}
 use Rattle.std.proofs.lemmas.Slice.Eq.{bytes_eq-Decides}
@@ -172,7 +172,7 @@ rests_so d h plan letter round before text none are idle =
     let g = events_in letter before ++ h in
     let events = round_events letter round in
     let parts = and_parts (are_searches events) (has_idled d g events) idle in
-    let all = (and_parts (list_all is_search_deed events) (nat_lt (count_by is_first_deed events) 2) parts.0).0 in
+    let all = (and_parts (list_all is_search_deed events) (count_by is_first_deed events == 1) parts.0).0 in
     let newest = newest_ends d events g all parts.1 in
     let finds : FindsAll (after d newest.older) newest.ends.own =
     subst (λ (l : List Deed). FindsAll (after d l) newest.ends.own) (sym newest.older_is)

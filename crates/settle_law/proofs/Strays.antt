@@ -27,6 +27,8 @@ use Rattle.queue_law.specs.Cleaners.{IsOnePart}
 use Rattle.queue_paths.specs.Names.{Name, path}
 use Rattle.queue_paths.specs.Names.Name.{Of, Pid}
 use Rattle.queue_paths.specs.Names.Part.{Bounce, Info, Intd, Local, Mess, Remote, Todo}
+use Rattle.queue_paths.specs.Parts.{parts_of}
+use Rattle.queue_paths.proofs.Parts.{todo_alone}
 use Rattle.retry_law.specs.Left.{GivesStray, NoneLeft}
 use Rattle.retry_law.proofs.Left.{no_number_left, strays_were_given}
 use Rattle.send_parts.specs.declared.row.Row.{Row}
@@ -36,21 +38,20 @@ use Rattle.send_core.specs.Table.{Next}
 use Rattle.send_parts.specs.declared.rows.Search.TheVariants as search
 use Rattle.send_parts.specs.Files.{from_one, message_number}
 use Rattle.world_events.specs.declared.event.Program.{Program}
-use Rattle.world_events.specs.declared.event.Program.TheVariants.{Injector, Cleaner, Sender, LocalSpawner, RemoteSpawner, Delivery}
+use Rattle.world_events.specs.declared.event.Program.TheVariants.{Cleaner, Sender, Delivery}
 use Rattle.mail_world.specs.Generations.{idled_by, idled_in}
 use Rattle.mail_world.specs.History.{Actor, Allowed, ComesOf, Event, Legal, Life, MayBear, State, acted, after, finished, happens, newborn, next_of}
 use Rattle.mail_world.specs.History.Event.{Start, Act, Child, Generation, Report, End, Stop, Moment, Halt}
 use Rattle.mail_world.specs.History.Life.{Over}
 use Rattle.mail_world.specs.Untouched.{doer, is_halt}
-use Rattle.scenario.specs.Deeds.{Deed, history_of}
 use Rattle.world_law.specs.Leaves.{LeavesOutside}
 use Rattle.world_law.proofs.Histories.{always}
 use Rattle.world_law.proofs.Leaves.{events_leave}
 use Rattle.world_law.proofs.Ran.{have_run}
 use Rattle.world_law.proofs.Tenants.{some_actor}
 use Rattle.settle_law.specs.inside.Begins.{GoesOn}
-use Rattle.settle_law.specs.inside.Rests.{BeginsTurn}
-use Rattle.settle_law.specs.inside.Strays.{RestsBegin, TodoHasNumbers}
+use Rattle.settle_law.specs.Rests.{BeginsTurn}
+use Rattle.settle_law.specs.inside.Strays.{TodoHasNumbers}
 use Rattle.settle_law.specs.Well.{TodoIsEmpty, todo_name, GoesWell, goes_well}
 use Rattle.settle_law.specs.Suffices.{desk_of}
 use Rattle.settle_law.proofs.QuietTurns.{searches_begin}
@@ -165,7 +166,7 @@ module _ (controls : Controls) (d : Disk) (has : AreControls controls d) (empty 
       let I = always controls d h has legal in
       let n = value part in
       let name : path (Of Todo n) ≡ todo_name part = path_is n part is in
-      let lives = living_by controls s n file I.role (I.sound.fine n) (ap s.disk.names name ∙ there) in
+      let lives = living_by controls s n file I.role (I.sound.fine n) (todo_alone (parts_of s.disk.names n) ∙ ap s.disk.names name ∙ there) in
       let low = numbers_are_small d h legal well n lives.0 lives.1 in
       no_number part n none (ap message_number (sym is) ∙ numbered n low.0 low.1))
 
@@ -251,15 +252,17 @@ gave_none controls d (e ∷ h) has empty legal well =
     let parts = and_parts (goes_well e) (list_all goes_well h) well in
     event_gave e (after d h) (none_there controls d has empty h legal.0 parts.1) (gave_none controls d h has empty legal.0 parts.1) legal.1 parts.0
 
+-- nor does the newest event
+pub none_given : (controls : Controls) (d : Disk) (own : Own) (wrote : ℕ) (h : List Event) → GoesWell controls d (Act (codes "sender") own wrote ∷ h) → TodoIsEmpty d → GivesStray own → ⊥
+none_given controls d own wrote h well empty g =
+    let parts = and_parts (goes_well (Act (codes "sender") own wrote)) (list_all goes_well h) well.well in
+    gave_there (after d h) (none_there controls d well.are empty h well.legal.0 parts.1) (codes "sender") own wrote well.legal.1.came g
+
 -- So the sender began a turn
 
 pub program_idles : (program : Program) (past : List Own) (own : Own) → idled_in program past own ≡ true → (start : ℕ) × (program ≡ Sender start) × (ends_idle (desk_of past) own ≡ true)
 program_idles (Sender start) past own idle = (start, refl, idle)
-program_idles (Injector args) past own idle = absurd (cc)
-program_idles (Cleaner start) past own idle = absurd (cc)
-program_idles (LocalSpawner start) past own idle = absurd (cc)
-program_idles (RemoteSpawner start) past own idle = absurd (cc)
-program_idles (Delivery start args) past own idle = absurd (cc)
+program_idles other past own idle = absurd (cc)
 
 begins_on : (past : List Own) → IsRunBy (Next None) past → NoneLeft None past → NoneGiven past → (row : Row) → (desk_of past).row ≡ row → GoesOn row (desk_of past).last_left → BeginsTurn row
 begins_on past run none given (at.FindTodo search.FromStart) is goes = absurd (goes (no_number_left None past none))
@@ -271,7 +274,7 @@ begins_on past run none given row is goes = absurd goes
 
 module _ (controls : Controls) (d : Disk) (own : Own) (wrote : ℕ) (h : List Event) (well : GoesWell controls d (Act (codes "sender") own wrote ∷ h)) (empty : TodoIsEmpty d)
     (idle : idled_by ((after d h).actors (codes "sender")) own ≡ true) (x : Actor) (is : (after d h).actors (codes "sender") ≡ Some x) (none : NoneLeft None x.past) where
-  begins : BeginsTurn (desk_of x.past).row
+  pub begins : BeginsTurn (desk_of x.past).row
   begins =
       let it = program_idles x.program x.past own (ap (λ (o : Option Actor). idled_by o own) (sym is) ∙ idle) in
       let run : IsRunBy (Next None) x.past = subst (λ (p : Program). IsRunBy (next_of p) x.past) it.1 (have_run d h well.legal.0 (codes "sender") x is) in
@@ -281,8 +284,3 @@ module _ (controls : Controls) (d : Disk) (own : Own) (wrote : ℕ) (h : List Ev
       (λ (goes : GoesOn (desk_of x.past).row (desk_of x.past).last_left).
       begins_on x.past run none (gave_none controls d h well.are empty well.legal.0 parts.1 (codes "sender") x is) (desk_of x.past).row refl goes)
       (searches_begin x.past run own it.2)
-
-pub rests_begin : RestsBegin
-rests_begin controls d deed before well empty idle x is none =
-    let goes = subst (λ (e : Deed). GoesWell controls d (history_of (e ∷ before))) idle.is well in
-    begins controls d idle.own idle.wrote (history_of before) goes empty idle.idle x is none

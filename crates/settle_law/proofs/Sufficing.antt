@@ -8,10 +8,10 @@ use Rattle.call_fs.specs.declared.past.Own.{Own}
 use Rattle.call_fs.specs.declared.program.Ready.{Ready}
 use Rattle.queue_paths.specs.Names.{path}
 use Rattle.queue_paths.specs.Names.Name.{Of}
-use Rattle.queue_paths.specs.Names.Part.{Bounce, Info, Intd, Local as LocalFile, Mess, Remote as RemoteFile, Todo}
+use Rattle.queue_paths.specs.Names.Part.{Bounce, Info, Local as LocalFile, Mess, Remote as RemoteFile}
 use Rattle.queue_states.specs.declared.state.State.{State as Named}
 use Rattle.queue_states.specs.declared.state.State.TheVariants.{S1, S2, S3, S4, S5, Other}
-use Rattle.queue_states.specs.States.{is_there, state_by, state_of}
+use Rattle.queue_states.specs.States.{is_there, state_by, state_of, is_in_intd, is_in_todo}
 use Rattle.retry_schedule.specs.Retry.{next_retry}
 use Rattle.send_known.specs.declared.channel.Channel.{Channel}
 use Rattle.send_known.specs.declared.channel.Channel.TheVariants.{Local, Remote}
@@ -54,7 +54,7 @@ some_of (Some i) e = (i, refl)
 
 info_of : (d : Disk) (n : ℕ) → state_of d n ≡ S5 → (i : ℕ) × (d.names (path (Of Info n)) ≡ Some i)
 info_of d n e = some_of (d.names (path (Of Info n)))
-    (has_info (is_there d Mess n) (is_there d Intd n) (is_there d Todo n) (is_there d Info n) (is_there d LocalFile n) (is_there d RemoteFile n) (is_there d Bounce n) e)
+    (has_info (is_there d Mess n) (is_in_intd d n) (is_in_todo d n) (is_there d Info n) (is_there d LocalFile n) (is_there d RemoteFile n) (is_there d Bounce n) e)
 
 module _ (s : State) (past : List Own) (ready : Ready) (h : HasRest s past ready) where
   -- all that is due is due later

@@ -11,7 +11,7 @@ use Rattle.mail_world.specs.Readiness.{found_in}
 use Rattle.script_words.specs.declared.letter.Letter.{Letter}
 use Rattle.scenario.specs.Deeds.{Deed, after, history_of}
 use Rattle.scenario.specs.Turns.{IsSettled, Round, events_in}
-use Rattle.settle_law.specs.Ends.{EndsIdle, FindsAll}
+use Rattle.settle_law.specs.Ends.{IsIdleTurn}
 use Rattle.settle_law.specs.Settled.{AllGone, Settled}
 use Rattle.settle_law.specs.Well.{TodoIsEmpty, AllSucceed, GoesWell}
 use Rattle.settle_law.specs.Suffices.{HasRest}
@@ -43,15 +43,15 @@ pub record OthersWait (s : State) : Type 0 where
   pub waits : (a : List ℕ) (x : Actor) → s.actors a ≡ Some x → x.life ≡ Alive → a ≢ codes "sender" → CanNot s a (next_of x.program x.past s.now (found_in s a))
   pub reported : lowest_unreported 0 s ≡ None
 
--- The first disk had no name in `todo`, all went well, the newest deed ended an idle turn of the sender, which found all that was ready then, and nobody else has anything to do.
-pub record IsRest (controls : Controls) (d : Disk) (deed : Deed) (before : List Deed) : Type 0 where
+-- The first disk had no name in `todo`, all went well, the newest deeds are a whole idle turn of the sender: its first search, and the later ones, the
+-- newest first. And nobody else has anything to do.
+pub record IsRest (controls : Controls) (d : Disk) (later : List Deed) (first : Deed) (before : List Deed) : Type 0 where
   pub empty : TodoIsEmpty d
-  pub well : GoesWell controls d (history_of (deed ∷ before))
-  pub idle : EndsIdle d deed before
-  pub finds : FindsAll (after d before) idle.own
-  pub others : OthersWait (after d (deed ∷ before))
+  pub well : GoesWell controls d (history_of (later ++ first ∷ before))
+  pub turn : IsIdleTurn d later first before
+  pub others : OthersWait (after d (later ++ first ∷ before))
 
 -- At each such rest the facts hold of which a settled state comes, by what the sender keeps then.
 abbrev pub RestsHold : Type 0
-RestsHold = (controls : Controls) (d : Disk) (deed : Deed) (before : List Deed) → IsRest controls d deed before → (x : Actor)
-    → (after d (deed ∷ before)).actors (codes "sender") ≡ Some x → (ready : Ready) × HasRest (after d (deed ∷ before)) x.past ready
+RestsHold = (controls : Controls) (d : Disk) (later : List Deed) (first : Deed) (before : List Deed) → IsRest controls d later first before → (x : Actor)
+    → (after d (later ++ first ∷ before)).actors (codes "sender") ≡ Some x → (ready : Ready) × HasRest (after d (later ++ first ∷ before)) x.past ready

@@ -10,8 +10,8 @@
 //!   `successes_end`, by `HasSettled` (`specs/Promised.antt`).
 //! - A state is settled if each message is gone, or is preprocessed and waits for its next retry on each channel on which a record of it reads
 //!   `T`, and on one at least: `Settled` (`specs/Settled.antt`).
-//! - At each such rest the facts hold of which a settled state comes, by what the sender keeps then: `rests_hold`, by `HasRest`
-//!   (`specs/Suffices.antt`).
+//! - At each such rest, a whole idle turn of the sender with as many searches as it has (`IsIdleTurn`, `specs/Ends.antt`), the facts hold of which a
+//!   settled state comes, by what the sender keeps then: `rests_hold`, by `HasRest` (`specs/Suffices.antt`).
 //!
 //! The steps of the proof are contracts too (`src/steps.rt`), for no other crate; their words stand in `specs/inside`.
 #![tactic(auto)]

@@ -27,7 +27,7 @@ ghost use Rattle.settle_law.specs.inside.Undone.{KnownAreUndone};
 ghost use Rattle.settle_law.specs.inside.Texts.{TodoTextsAreRead};
 ghost use Rattle.settle_law.specs.inside.Waiting.{SpawnersWait};
 
-/// At an event of the sender that is an idle turn by itself nothing was to be done.
+/// Before the first search of a whole idle turn of the sender nothing was to be done.
 pub(crate) fn idle_turns_rest()
     ensures { IdleTurnsRest }
 {}
@@ -67,7 +67,7 @@ pub(crate) fn slots_are_allowed()
     ensures { SlotsAreAllowed }
 {}
 
-/// After that event nothing is to be done either, by what the sender keeps then.
+/// After the turn nothing is to be done either, by what the sender keeps then.
 pub(crate) fn rests_stay()
     ensures { RestsStay }
 {}
@@ -77,7 +77,7 @@ pub(crate) fn numbers_are_small()
     ensures { NumbersAreSmall }
 {}
 
-/// At a rest no message waits to be preprocessed, if the sender began a turn with the search that ended it.
+/// At a rest no message waits to be preprocessed.
 pub(crate) fn rests_unqueued()
     ensures { RestsUnqueued }
 {}
@@ -97,7 +97,7 @@ pub(crate) fn todo_has_numbers()
     ensures { TodoHasNumbers }
 {}
 
-/// So the sender began a turn with the search that ended an idle one, if no todo pass was left.
+/// So a search that ended an idle turn of the sender was the whole turn.
 pub(crate) fn rests_begin()
     ensures { RestsBegin }
 {}
@@ -137,7 +137,7 @@ pub(crate) fn others_end()
     ensures { OthersEnd }
 {}
 
-/// At a rest nothing is in flight, if the sender began a turn with the search that ended it.
+/// At a rest nothing is in flight before the sender's first search.
 pub(crate) fn rests_free()
     ensures { RestsFree }
 {}
@@ -148,8 +148,8 @@ pub(crate) fn searches_begin()
     ensures { SearchesBegin }
 {}
 
-/// After an event that is an idle turn by itself, with a slot on each channel and nothing in flight, a known message is due at the next retry
-/// after its last pass, or at once if it had none.
+/// After a whole idle turn, with a slot on each channel and nothing in flight, a known message is due at the next retry after its last pass, or at
+/// once if it had none.
 pub(crate) fn rests_are_due()
     ensures { RestsAreDue }
 {}

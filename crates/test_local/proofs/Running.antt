@@ -1,13 +1,16 @@
 -- A drop that runs over a disk.
 use Rattle.std.proofs.Common.{◌≡◌, ℕ, List, [], ◌∷◌, Option, Some, None, refl, sym, ap, ◌∙◌, subst}
 use Rattle.call_fs.specs.declared.calls.Answer.{Answer}
+use Rattle.call_fs.specs.declared.calls.Answer.TheVariants as answer
 use Rattle.call_fs.specs.declared.calls.CallData.{CallData}
+use Rattle.call_fs.specs.declared.calls.CallData.TheVariants as call
 use Rattle.call_fs.specs.declared.past.GotData.{GotData}
 use Rattle.call_fs.specs.declared.past.NeedData.{NeedData}
 use Rattle.call_fs.specs.declared.past.NeedData.TheVariants.{File}
 use Rattle.call_fs.specs.declared.past.Own.{Own}
 use Rattle.call_fs.specs.declared.program.Ready.{Ready}
 use Rattle.call_fs.specs.Apply.{Apply, MayCall}
+use Rattle.call_fs.specs.Columns.{IsAnswerTo}
 use Rattle.call_fs.specs.Disk.{Disk}
 use Rattle.call_fs.specs.declared.modes.Mode.{Mode}
 use Rattle.call_fs.specs.Past.{Backs, Uses, UsesHeld, held, held_by, held_after}
@@ -47,6 +50,21 @@ backed None (Some e) h now c a backs told = absurd told
 backed (Some d) None h now c a backs told = absurd told
 backed (Some d) (Some e) h now c a backs told = backs_call d e now c a h told backs
 
+-- a call that gives a name to a file, or takes one away, opens nothing and closes nothing
+abbrev pub IsOfNames : CallData → Type 0
+IsOfNames (call.Link old new) = Unit {0}
+IsOfNames (call.Unlink name) = Unit {0}
+IsOfNames c = ⊥
+
+none_opened : (h : ℕ → Option Mode) (c : CallData) (a : Answer) → IsOfNames c → IsAnswerTo c a → held_after h c a ≡ h
+none_opened h (call.Link old new) answer.Done names fit = refl
+none_opened h (call.Link old new) (answer.Refused why) names fit = refl
+none_opened h (call.Link old new) a names fit = absurd fit
+none_opened h (call.Unlink name) answer.Done names fit = refl
+none_opened h (call.Unlink name) (answer.Refused why) names fit = refl
+none_opened h (call.Unlink name) a names fit = absurd fit
+none_opened h c a names fit = absurd names
+
 -- after a call
 pub called : (m n : MaildirDrop) (o e : Option Disk) (read now : ℕ) (ready : Ready) (c : CallData) (a : Answer) (bytes : List ℕ) (r : IsRunning m o) → due_now m ≡ File c
     → MayCome (due_now m) (GotData.Answered (record { answer = a; bytes = bytes })) → Meets o e (λ before after. Apply before now c a after)
@@ -60,6 +78,17 @@ called m n o e read now ready c a bytes r due may told stands =
       run = (r.run, (sym (due_is m r.args r.past read ready r.stands), may));
       backs = subst (λ x. OnTold e (λ d. Backs d (held_by (held r.past) x got))) (sym due) (backed o e (held r.past) now c a r.backs told);
     }
+
+-- after a call of another, who moves or takes names
+pub left_by : (m : MaildirDrop) (o e : Option Disk) (now : ℕ) (c : CallData) (a : Answer) → IsOfNames c → IsAnswerTo c a → IsRunning m o
+    → Meets o e (λ before after. Apply before now c a after) → IsRunning m e
+left_by m o e now c a names fit r told = record {
+  args = r.args;
+  past = r.past;
+  stands = r.stands;
+  run = r.run;
+  backs = subst (λ h. OnTold e (λ d. Backs d h)) (none_opened (held r.past) c a names fit) (backed o e (held r.past) now c a r.backs told);
+}
 
 -- before the first step
 pub begins : (m : MaildirDrop) (o : Option Disk) (args : Arguments) → Stands m args [] → IsRunning m o

@@ -16,14 +16,17 @@ struct Table {
     removed: u64,
 }
 
-/// The next of the messages from 1 on.
+/// The numbers of the messages are the multiples of this, so all their files lie in directories of the number 0.
+const APART: u64 = 23;
+
+/// The next of the messages after this name.
 fn next_of(crowd: u64, after: &[u8]) -> Answer {
     let n = undec(after).unwrap_or(0);
-    if n >= crowd {
+    if n / APART >= crowd {
         return Answer::NoName;
     }
     let mut digits = [0; 20];
-    let len = dec(n + 1, &mut digits);
+    let len = dec(n.saturating_add(APART), &mut digits);
     let mut name = NameBuf::new();
     match name.extend(&digits[..len]) {
         Ok(()) => Answer::Name(name),

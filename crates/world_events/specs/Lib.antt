@@ -20,6 +20,8 @@ pub mod Places
 pub mod Starts
 -- what that order is
 pub mod Order
+-- searches for a message to preprocess
+pub mod Searches
 -- the input of children, which is given after their starts
 pub mod Inputs
 -- the children that actors start, and how many there are

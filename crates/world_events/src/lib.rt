@@ -27,6 +27,7 @@
 //! - Any machine is asked what it does next, and its call is made: its event is the call that was due with what the
 //!   disk answered, by the plan of the disk if that tells: `ask` (by `due_by`, `IsStated`, `IsMade`,
 //!   `IsPlannedCame`), `own_at`.
+//! - Which events are searches for a message to preprocess, and which begin one: `is_search`, `is_first`.
 //! - Of whoever can tell whether it lives, the next one in the order of starts, and whether the remote spawner of a
 //!   crew lives: `next_living` (by `IsNextStart`), `spawner_lives` (by `lasts`).
 #![tactic(auto)]
@@ -43,6 +44,7 @@ mod living;
 mod mail;
 mod places;
 mod reads;
+mod searches;
 mod starts;
 
 pub use answers::{Did, WorldError};
@@ -57,4 +59,5 @@ pub use living::{Living, next_living, spawner_lives};
 pub use mail::{MAIL_USER, mail_program, unfed};
 pub use places::{Places, child_at, place_among};
 pub use reads::{room_for, told_in};
+pub use searches::{is_first, is_search};
 pub use starts::Starts;

@@ -3,7 +3,7 @@ use Rattle.std.proofs.Common.{⊎_elim, None, refl, arith}
 use Rattle.address_rules.specs.declared.controls.Controls.{Controls}
 use Rattle.call_fs.specs.Disk.{Disk}
 use Rattle.queue_paths.specs.Names.Name.{Pid, Of}
-use Rattle.queue_paths.specs.Names.Part.{Intd, Todo}
+use Rattle.queue_law.proofs.Waits.{intd_bare, todo_bare}
 use Rattle.queue_law.specs.Numbers.{NamesSuit, Sound}
 use Rattle.queue_law.specs.Numbers.Phase.{Free}
 use Rattle.queue_law.specs.Numbers.Role.{AsOld}
@@ -30,8 +30,8 @@ module _ (controls : Controls) (d : Disk) (o : Opening d) where
     fine = λ n. Free (record {
       not_accepted = λ i h t. absurd (cc);
       unsorted = λ part later. find_none d.names d.files (Of part n) (o.empty part n);
-      no_todo = find_none d.names d.files (Of Todo n) (o.empty Todo n);
-      intd_below = λ _. find_none d.names d.files (Of Intd n) (o.empty Intd n);
+      no_todo = todo_bare d.names d.files n (λ part. o.empty part n);
+      intd_below = λ _. intd_bare d.names d.files n (λ part. o.empty part n);
     });
     over = λ i h t. absurd h;
   }

@@ -359,7 +359,7 @@ module _ (controls : Controls) (s : State) (I : Inv controls s) (wrote : ℕ) (b
     called =
         led_keeps controls s I name r leads.number (number_at place.row) leads.elsewhere leads.spares
         (others_spare.cleaners controls s.now q name past own.read own.ready c told wrote I.sound stands no_later next fits)
-        (controls_stay.but_pid q r leads.outside leads.old I.old) (drops_stay.but_pid name q r leads.outside leads.old) leads.sound I.bounces
+        (controls_stay.but_pid q r leads.outside leads.old I.old) (drops_stay.tmp name q r (drops_stay.but_pid name q r leads.outside leads.old)) leads.sound I.bounces
         (λ o other since events there h. absurd (other (I.crew o (cleaner since events) there)))
         (λ o other since events there h. sender_left o since events there)
         (cleaner began (this ∷ past)) refl goes tt leads.stands

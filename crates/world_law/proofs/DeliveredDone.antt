@@ -42,7 +42,7 @@ use Rattle.program_law.specs.Sender.Control.{AreControls}
 use Rattle.spawn_protocol.specs.Report.{read_on}
 use Rattle.world_pipes.specs.Pipework.{Pipe, Yields}
 use Rattle.world_events.specs.declared.event.Program.{Program}
-use Rattle.world_events.specs.declared.event.Program.TheVariants.{Injector, Cleaner, Sender, LocalSpawner, RemoteSpawner, Delivery}
+use Rattle.world_events.specs.declared.event.Program.TheVariants.{Injector, Sender}
 use Rattle.mail_world.specs.History.{Actor, Allowed, ComesOf, Event, Legal, Life, MayDo, State, acted, after, bears, books_after, bouncer_of, cut_off, finished, happens, newborn, next_of, stopped, told_by}
 use Rattle.mail_world.specs.History.Event.{Start, Act, Child, Generation, Report, End, Stop, Moment, Halt}
 use Rattle.mail_world.specs.History.Life.{Alive, Over, Stopped}
@@ -151,20 +151,13 @@ IsSaidBy program past read ready came b of x = ⊥
 taken_back : (child : Option Bouncer) (b : Books) (program : Program) (past : List Own) (read : ℕ) (ready : Ready) (came : GotData) (of : Arguments) (x : Spot)
     → HasDelivered (told_by child b program past read ready came) of x → HasDelivered b of x ⊎ IsSaidBy program past read ready came b of x
 taken_back child b (Sender since) past read ready came of x h = let d = sender_after None past in all_delivered child (booked_at (row_now d read ready) came d) b of x h
-taken_back child b (Injector args) past read ready came of x h = inl h
-taken_back child b (Cleaner since) past read ready came of x h = inl h
-taken_back child b (LocalSpawner since) past read ready came of x h = inl h
-taken_back child b (RemoteSpawner since) past read ready came of x h = inl h
-taken_back child b (Delivery since args) past read ready came of x h = inl h
+taken_back child b other past read ready came of x h = inl h
 
 called_back : (child : Option Bouncer) (b : Books) (a : List ℕ) (program : Program) (past : List Own) (read : ℕ) (ready : Ready) (call : CallData) (told : Told) (of : Arguments) (x : Spot)
     → HasDelivered (books_after child b a program past read ready (needs.File call) (got.Answered told)) of x → HasDelivered b of x ⊎ IsSaidBy program past read ready (got.Answered told) b of x
 called_back child b a (Injector args) past read ready call told of x h = inl (call_delivered b a args of call told.answer x h)
 called_back child b a (Sender since) past read ready call told of x h = taken_back child b (Sender since) past read ready (got.Answered told) of x h
-called_back child b a (Cleaner since) past read ready call told of x h = inl h
-called_back child b a (LocalSpawner since) past read ready call told of x h = inl h
-called_back child b a (RemoteSpawner since) past read ready call told of x h = inl h
-called_back child b a (Delivery since args) past read ready call told of x h = inl h
+called_back child b a other past read ready call told of x h = inl h
 
 pub books_back : (child : Option Bouncer) (b : Books) (a : List ℕ) (program : Program) (past : List Own) (read : ℕ) (ready : Ready) (due : NeedData) (came : GotData) (of : Arguments) (x : Spot)
     → HasDelivered (books_after child b a program past read ready due came) of x → HasDelivered b of x ⊎ IsSaidBy program past read ready came b of x

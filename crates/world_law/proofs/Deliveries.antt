@@ -18,6 +18,7 @@ use Rattle.call_fs.specs.declared.program.Port.TheVariants as port
 use Rattle.program_law.specs.Delivery.Rests.{DeliveryRests}
 use Rattle.program_law.specs.Delivery.Laws.{IsNoCall}
 use Rattle.program_law.proofs.Delivery.Events.{deliveries_keep as rests_keep}
+use Rattle.program_law.proofs.Delivery.Stay.{drops_stay}
 use Rattle.local_deliver.specs.declared.place.Place.{Place}
 use Rattle.local_deliver.specs.declared.row.Row.{Row}
 use Rattle.local_deliver.specs.declared.row.Row.TheVariants as at
@@ -175,7 +176,7 @@ module _ (s : State) (a : List ℕ) (wrote : ℕ) (start : ℕ) (args : LocalArg
         let E : Elsewhere s.now a None q r = foreign_elsewhere a q r w.foreign s.now in
         let spared = rest_is_kept.closed s.now a None q r E I.sound.suits (λ n h. absurd (cc)) in
         let event : Own = doing (needs.File c) (got.Answered told) in
-        stepped_keeps controls s I a r None E spared.0 spared.1 (others_spare.reads s.now a q r E) (controls_left a q r w.outside w.own I.old) w.drops (foreign_sound a q r w.foreign controls I.sound) I.bounces
+        stepped_keeps controls s I a r None E spared.0 spared.1 (others_spare.reads s.now a q r E) (controls_left a q r w.outside w.own I.old) (drops_stay.tmp a q r w.drops) (foreign_sound a q r w.foreign controls I.sound) I.bounces
         (delivery (event ∷ past)) apart goes (seen (event ∷ past))
         (fed_when (stepped s a r (delivery (event ∷ past))) (needs.File c) (got.Answered told) next tt)
         (record { rests = w.rests; forwards = (fares.forwards, none_comes (needs.File c) (got.Answered told) tt); well = λ h. absurd (cc) })

@@ -23,7 +23,7 @@ use Rattle.world_pipes.specs.Pipework.{Pipe, closed, given, mouth}
 use Rattle.call_fs.specs.Maps.{put_at}
 use Rattle.call_fs.proofs.Maps.{put_at_other}
 use Rattle.world_events.specs.declared.event.Program.{Program}
-use Rattle.world_events.specs.declared.event.Program.TheVariants.{Cleaner, Delivery, Injector, LocalSpawner, RemoteSpawner, Sender}
+use Rattle.world_events.specs.declared.event.Program.TheVariants.{Cleaner, Injector, LocalSpawner, Sender}
 use Rattle.mail_world.specs.History.{Actor, Allowed, Event, IsLocalSpawner, IsSender, Legal, MayDo, State, acted, after, happens, newborn, opening, slot_by, stopped}
 use Rattle.mail_world.specs.History.Event.{Act, Child, End, Generation, Halt, Moment, Report as Tells, Start, Stop}
 use Rattle.mail_world.specs.History.Life.{Alive}
@@ -159,10 +159,7 @@ act_messages B C controls s I M a own wrote carry may =
         (acts_held B controls s I M a own wrote may (λ same. names_apart (codes "lspawn") (codes "sender") refl (same ∙ subst (IsNamed a) e (I.crew a may.actor may.reads.is)))) M N
     by_kind (LocalSpawner began) e J N =
         spawner_messages B C (carried (λ sends. subst IsSender e sends)) controls s I a own wrote may.actor may.reads.is may.reads.alive (subst IsLocalSpawner (sym e) tt) may.due may.came M J N
-    by_kind (Injector args) e J N = neither (subst IsNeither (sym e) tt) N
-    by_kind (Cleaner began) e J N = neither (subst IsNeither (sym e) tt) N
-    by_kind (RemoteSpawner began) e J N = neither (subst IsNeither (sym e) tt) N
-    by_kind (Delivery began args) e J N = neither (subst IsNeither (sym e) tt) N
+    by_kind other e J N = neither (subst IsNeither (sym e) tt) N
 
 -- whom the local spawner starts with an event
 abbrev IsBegun : (ℕ → List ℕ → Type 0) → Event → Type 0

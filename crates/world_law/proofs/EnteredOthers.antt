@@ -14,9 +14,9 @@ use Rattle.queue_law.specs.Injectors.{IsHeld}
 use Rattle.queue_law.specs.Numbers.{About, IsSorted}
 use Rattle.queue_law.proofs.Looks.{not_found}
 use Rattle.queue_paths.specs.Names.Name.{Of}
-use Rattle.queue_paths.specs.Names.Part.{Bounce, Info, Intd, Local as LocalPart, Mess, Remote, Todo}
+use Rattle.queue_paths.specs.Names.Part.{Bounce, Info, Local as LocalPart, Mess, Remote}
 use Rattle.queue_states.specs.declared.state.State.TheVariants.{S5}
-use Rattle.queue_states.specs.States.{is_there, state_of}
+use Rattle.queue_states.specs.States.{is_there, state_of, is_in_intd, is_in_todo}
 use Rattle.send_known.specs.declared.channel.Channel.TheVariants.{Local}
 use Rattle.send_jobs.specs.Sending.{lane}
 use Rattle.send_jobs.specs.Slots.{attempt_in}
@@ -46,7 +46,7 @@ use Rattle.world_law.proofs.Received.{InputYields, WritesNone, books_same, fed_n
 -- The number of an attempt in flight is preprocessed
 
 sorted_in : (d : Disk) (n : ℕ) → state_of d n ≡ S5 → is_there d Info n ≡ true
-sorted_in d n stays = (in_s5 (is_there d Mess n) (is_there d Intd n) (is_there d Todo n) (is_there d Info n) (is_there d LocalPart n) (is_there d Remote n) (is_there d Bounce n) stays).1
+sorted_in d n stays = (in_s5 (is_there d Mess n) (is_in_intd d n) (is_in_todo d n) (is_there d Info n) (is_there d LocalPart n) (is_there d Remote n) (is_there d Bounce n) stays).1
 
 module _ (controls : Controls) (s : State) (I : Inv controls s) where
   flying_sorted : sends_on s ≡ true → (n : ℕ) → IsFlying s n → IsSorted (about_in s n)

@@ -24,9 +24,10 @@ use Rattle.queue_law.specs.Cleaners.{CleanerStands, Needs, StandsAt, number_at}
 use Rattle.queue_law.specs.Numbers.{About, Queue, about}
 use Rattle.queue_law.specs.Numbers.Role.{AsOld}
 use Rattle.queue_law.proofs.Cleaners.{cleaners_keep as calls_keep}
-use Rattle.queue_law.proofs.Looks.{find_none, find_some, found, mapped_some, not_found}
+use Rattle.queue_law.proofs.Looks.{find_some, found, mapped_some}
 use Rattle.queue_paths.specs.Names.Name.{Of}
-use Rattle.queue_paths.specs.Names.Part.{Info, Todo}
+use Rattle.queue_paths.specs.Names.Part.{Info}
+use Rattle.queue_law.proofs.Waits.{todo_unnamed, todo_absent}
 use Rattle.send_parts.specs.declared.row.Row.{Row as SenderRow}
 use Rattle.send_core.specs.Table.{place_after as sender_after}
 use Rattle.send_jobs.specs.declared.attempts.Attempt.{Attempt}
@@ -41,7 +42,7 @@ use Rattle.program_law.specs.Sender.Stands.{LaneStands}
 use Rattle.program_law.specs.Sender.Views.{first_at}
 use Rattle.program_law.proofs.Sender.Others.{the_job}
 use Rattle.world_events.specs.declared.event.Program.{Program}
-use Rattle.world_events.specs.declared.event.Program.TheVariants.{Injector, Cleaner, Sender, LocalSpawner, RemoteSpawner, Delivery}
+use Rattle.world_events.specs.declared.event.Program.TheVariants.{Cleaner, Sender}
 use Rattle.mail_world.specs.History.{Actor, Allowed, ComesOf, Event, Legal, Life, MayBear, State, acted, after, bears, books_after, bouncer_of, disk_after, finished, happens, newborn, next_of, stopped}
 use Rattle.mail_world.specs.History.Event.{Start, Act, Child, Generation, Report, End, Stop, Moment, Halt}
 use Rattle.mail_world.specs.History.Life.{Alive, Over, Stopped}
@@ -110,7 +111,7 @@ halted_settled : (s : State) (contents : ℕ → List ℕ) (t : State) → t.dis
 halted_settled s contents t disk books = λ n h.
     let info = found s.disk.names s.disk.files (Of Info n) h.info h.info_there in
     let there = find_some s.disk.names (halted contents s.disk).files (Of Info n) h.info.number info.0 in
-    let none = find_none s.disk.names (halted contents s.disk).files (Of Todo n) (not_found s.disk.names s.disk.files (Of Todo n) h.no_todo) in
+    let none = todo_absent s.disk.names (halted contents s.disk).files n (todo_unnamed s.disk.names s.disk.files n h.no_todo) in
     let then_about : About = about (record { disk = halted contents s.disk; holder = s.holder; books = s.books; role = λ _. AsOld }) n in
     let settled : IsSettledIn then_about = record { no_todo = none; info = record { number = h.info.number; file = (halted contents s.disk).files h.info.number }; info_there = there; injection = h.injection; lives = h.lives } in
     let same : then_about ≡ about_in t n = λ i. about (record { disk = sym disk i; holder = s.holder; books = sym books i; role = λ _. AsOld }) n in
@@ -152,10 +153,7 @@ act_keeps controls s I a own wrote L x is alive soon due comes (Cleaner began) e
     let x_is : x ≡ cleaner began x.past = λ i. record { program = e i; past = x.past; life = alive i } in
     subst (λ (z : Actor). KeepsSettled s (acted s a own wrote (Some z))) (sym x_is)
     (cleaner_kept controls s I a own wrote began x.past (is ∙ ap Some x_is) soon own.due own.came (subst (λ (p : Program). next_of p x.past own.read own.ready ≡ own.due) e due) comes)
-act_keeps controls s I a own wrote L x is alive soon due comes (Injector args) e apart = act_spares s a own wrote L x is (subst (λ (p : Program). IsSparing (Some p)) (sym e) tt)
-act_keeps controls s I a own wrote L x is alive soon due comes (LocalSpawner began) e apart = act_spares s a own wrote L x is (subst (λ (p : Program). IsSparing (Some p)) (sym e) tt)
-act_keeps controls s I a own wrote L x is alive soon due comes (RemoteSpawner began) e apart = act_spares s a own wrote L x is (subst (λ (p : Program). IsSparing (Some p)) (sym e) tt)
-act_keeps controls s I a own wrote L x is alive soon due comes (Delivery began args) e apart = act_spares s a own wrote L x is (subst (λ (p : Program). IsSparing (Some p)) (sym e) tt)
+act_keeps controls s I a own wrote L x is alive soon due comes other e apart = act_spares s a own wrote L x is (subst (λ (p : Program). IsSparing (Some p)) (sym e) tt)
 
 -- an end or a stop changes neither a name nor a file
 finished_there : (s : State) (a : List ℕ) (life : Life) (x : Actor) → s.actors a ≡ Some x → GoneBefore s (finished s a life (Some x))

@@ -3,7 +3,7 @@ use Rattle.std.proofs.Common.{◌≢◌, ℕ, List, [], ◌∷◌}
 use Rattle.call_fs.specs.Disk.{Open}
 use Rattle.call_fs.specs.declared.past.Own.{Own}
 use Rattle.program_law.specs.Delivery.Rests.{DeliveryRests}
-use Rattle.program_law.specs.Delivery.Leaves.{LeavesDrops}
+use Rattle.program_law.specs.Delivery.Leaves.{LeavesTmp}
 use Rattle.program_law.proofs.Delivery.Alone.{deliveries_are_left_alone}
 use Rattle.local_parts.specs.declared.arguments.LocalArgs.{LocalArgs}
 use Rattle.queue_law.specs.Books.{Books}
@@ -33,7 +33,7 @@ module _ (b c : Books) (keeps : KeepsAccepted b c) where
     λ slot due came. let w = h.1 slot due came in record { input = w.input; given = w.given; forwarded = forwarded_on w.input w.forwarded },
   )
 
-module _ (q r : Queue) (b o : List ℕ) (other : o ≢ b) (D : LeavesDrops b q r)
+module _ (q r : Queue) (b o : List ℕ) (other : o ≢ b) (D : LeavesTmp b q r)
     (still : (fd : ℕ) (how : Open) → IsHeld q.disk.opens q.holder o fd how → IsHeld r.disk.opens r.holder o fd how) where
   rests_left : (args : LocalArgs) (past : List Own) (life : Life) → IfAlive life (DeliveryRests q o args past) → IfAlive life (DeliveryRests r o args past)
   rests_left args past Alive h = deliveries_are_left_alone q r o b args past D other still h

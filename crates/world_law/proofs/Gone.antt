@@ -168,23 +168,14 @@ fares_over : (controls : Controls) (now : ℕ) (q r : Queue) → r.books ≡ q.b
     → is_alive life ≡ false → (is_well life ≡ true → IsDone program past) → FaresBy controls now q a program past old → FaresBy controls now r a program past life
 fares_over controls now q r same a (Injector args) past old life dead ends F =
     injector_over now q r same a args past (is_alive old) (is_well old) (is_alive life) (is_well life) F (λ h. absurd (cc)) ends
-fares_over controls now q r same a (Cleaner start) past old Alive dead ends F = absurd (cc)
-fares_over controls now q r same a (Cleaner start) past old (Over status) dead ends F = tt
-fares_over controls now q r same a (Cleaner start) past old Stopped dead ends F = tt
-fares_over controls now q r same a (Sender start) past old Alive dead ends F = absurd (cc)
-fares_over controls now q r same a (Sender start) past old (Over status) dead ends F = tt
-fares_over controls now q r same a (Sender start) past old Stopped dead ends F = tt
-fares_over controls now q r same a (LocalSpawner start) past old Alive dead ends F = absurd (cc)
-fares_over controls now q r same a (LocalSpawner start) past old (Over status) dead ends F = tt
-fares_over controls now q r same a (LocalSpawner start) past old Stopped dead ends F = tt
-fares_over controls now q r same a (RemoteSpawner start) past old Alive dead ends F = absurd (cc)
-fares_over controls now q r same a (RemoteSpawner start) past old (Over status) dead ends F = tt
-fares_over controls now q r same a (RemoteSpawner start) past old Stopped dead ends F = tt
 fares_over controls now q r same a (Delivery start args) past old life dead ends F = record {
   rests = rests_over q r a args past life dead;
   forwards = subst (λ (b : Books). AreForwarded b past) (sym same) F.forwards;
   well = ends;
 }
+fares_over controls now q r same a other past old Alive dead ends F = absurd (cc)
+fares_over controls now q r same a other past old (Over status) dead ends F = tt
+fares_over controls now q r same a other past old Stopped dead ends F = tt
 
 awaits_over : (life : Life) (program : Program) (past : List Own) → is_alive life ≡ false → awaits_by life program past ≡ Lost
 awaits_over Alive program past dead = absurd (cc)
@@ -223,7 +214,7 @@ module _ (controls : Controls) (s : State) (I : Inv controls s) (a : List ℕ) (
   spares = rest_is_kept.closed s.now a None before over elsewhere I.sound.suits (λ n h. absurd (cc))
 
   spares_sorted : SparesSorted before over
-  spares_sorted = record { later = λ part n h. refl; sorted = λ n h info there. refl }
+  spares_sorted = record { taken_up = λ n h. h; sorted = λ n h info there. refl }
 
   -- what others hold open, and have read
 
@@ -242,8 +233,6 @@ module _ (controls : Controls) (s : State) (I : Inv controls s) (a : List ℕ) (
   fares_other o other (Injector args) past lasts F = injector_frame s.now a None before over elsewhere o other args past (is_alive lasts) (is_well lasts) F
   fares_other o other (Cleaner start) past Alive F =
       rest_is_kept.spared controls s.now None before over spares.0 spares.1 (place_after past) (none_beside (place_after past)) F
-  fares_other o other (Cleaner start) past (Over status) F = tt
-  fares_other o other (Cleaner start) past Stopped F = tt
   fares_other o other (Sender start) past Alive F =
       let d = send_after None past in
       record {
@@ -252,16 +241,12 @@ module _ (controls : Controls) (s : State) (I : Inv controls s) (a : List ℕ) (
         control = controls_are_read.others before over o d.row d.book same_controls (λ fd how. still_open o fd how other) F.control;
         texts = texts_keep.others controls s.now before over o d spares_sorted F.stands F.texts;
       }
-  fares_other o other (Sender start) past (Over status) F = tt
-  fares_other o other (Sender start) past Stopped F = tt
   fares_other o other (LocalSpawner start) past Alive F = lspawn_holds before over o (λ fd how. still_open o fd how other) (local_after past) F
-  fares_other o other (LocalSpawner start) past (Over status) F = tt
-  fares_other o other (LocalSpawner start) past Stopped F = tt
   fares_other o other (RemoteSpawner start) past Alive F = spawner_holds before over o (λ fd how. still_open o fd how other) (spawn_after past).row F
-  fares_other o other (RemoteSpawner start) past (Over status) F = tt
-  fares_other o other (RemoteSpawner start) past Stopped F = tt
   fares_other o other (Delivery start args) past lasts F =
-      delivery_left before over a o other (drops_stay.same a before over refl refl refl) (λ fd how. still_open o fd how other) (λ i h accepted. still_there s.books i h) args past lasts F
+      delivery_left before over a o other (drops_stay.tmp a before over (drops_stay.same a before over refl refl refl)) (λ fd how. still_open o fd how other) (λ i h accepted. still_there s.books i h) args past lasts F
+  fares_other o other program past (Over status) F = tt
+  fares_other o other program past Stopped F = tt
 
   -- the sender and the cleaner
 

@@ -17,7 +17,7 @@ use Rattle.program_law.specs.Sender.ControlFiles.{LeavesControls}
 use Rattle.program_law.proofs.Sender.ControlsStay.{controls_stay}
 use Rattle.actor_names.specs.MailNames.{members}
 use Rattle.world_events.specs.declared.event.Program.{Program}
-use Rattle.world_events.specs.declared.event.Program.TheVariants.{Injector, Cleaner, Sender, LocalSpawner, RemoteSpawner, Delivery}
+use Rattle.world_events.specs.declared.event.Program.TheVariants.{Injector, Delivery}
 use Rattle.mail_world.specs.History.{Actor, Life, MayRun, State, cut_off, happens, stopped}
 use Rattle.mail_world.specs.History.Event.{Halt}
 use Rattle.mail_world.specs.History.Life.{Alive, Over, Stopped}
@@ -35,21 +35,12 @@ fares_stopped : (controls : Controls) (now : ℕ) (q : Queue) (contents : ℕ �
 fares_stopped controls now q contents a (Injector args) past Alive F = injector_halt now q contents a args past true false F
 fares_stopped controls now q contents a (Injector args) past (Over status) F = injector_halt now q contents a args past false (is_well (Over status)) F
 fares_stopped controls now q contents a (Injector args) past Stopped F = injector_halt now q contents a args past false false F
-fares_stopped controls now q contents a (Cleaner began) past Alive F = tt
-fares_stopped controls now q contents a (Cleaner began) past (Over status) F = tt
-fares_stopped controls now q contents a (Cleaner began) past Stopped F = tt
-fares_stopped controls now q contents a (Sender began) past Alive F = tt
-fares_stopped controls now q contents a (Sender began) past (Over status) F = tt
-fares_stopped controls now q contents a (Sender began) past Stopped F = tt
-fares_stopped controls now q contents a (LocalSpawner began) past Alive F = tt
-fares_stopped controls now q contents a (LocalSpawner began) past (Over status) F = tt
-fares_stopped controls now q contents a (LocalSpawner began) past Stopped F = tt
-fares_stopped controls now q contents a (RemoteSpawner began) past Alive F = tt
-fares_stopped controls now q contents a (RemoteSpawner began) past (Over status) F = tt
-fares_stopped controls now q contents a (RemoteSpawner began) past Stopped F = tt
 fares_stopped controls now q contents a (Delivery began args) past Alive F = record { rests = tt; forwards = F.forwards; well = λ h. absurd (cc) }
 fares_stopped controls now q contents a (Delivery began args) past (Over status) F = record { rests = tt; forwards = F.forwards; well = F.well }
 fares_stopped controls now q contents a (Delivery began args) past Stopped F = record { rests = tt; forwards = F.forwards; well = F.well }
+fares_stopped controls now q contents a other past Alive F = tt
+fares_stopped controls now q contents a other past (Over status) F = tt
+fares_stopped controls now q contents a other past Stopped F = tt
 
 -- what the two come to
 

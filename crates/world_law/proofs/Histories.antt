@@ -44,7 +44,8 @@ use Rattle.program_law.proofs.Sender.Arrive.{arrived}
 use Rattle.program_law.proofs.Sender.Asking.{requests_are_texts}
 use Rattle.world_events.specs.declared.event.Program.{Program}
 use Rattle.world_events.specs.declared.event.Program.TheVariants.{Injector, Cleaner, Sender, LocalSpawner, RemoteSpawner, Delivery}
-use Rattle.mail_world.specs.History.{Actor, Event, IsCleaner, IsDelivery, IsLocalSpawner, IsRemoteSpawner, IsSender, Legal, Life, MayDo, MayRun, State, after, happens, next_of}
+use Rattle.mail_world.specs.ByKind.{IsMail}
+use Rattle.mail_world.specs.History.{Actor, Event, IsCleaner, IsDelivery, IsLocalSpawner, IsRemoteSpawner, IsSender, Legal, Life, MayDo, State, after, happens, next_of}
 use Rattle.mail_world.specs.History.Event.{Start, Act, Child, Generation, Report, End, Stop, Moment, Halt}
 use Rattle.mail_world.specs.History.Life.{Alive}
 use Rattle.mail_world.specs.Untouched.{queue}
@@ -74,7 +75,7 @@ use Rattle.world_law.proofs.Tenants.{some_actor}
 -- an event of an actor, by the program that it runs
 act_keeps : (a : List ℕ) (own : Own) (wrote : ℕ) (controls : Controls) (s : State) → Inv controls s → (may : MayDo s a own wrote) → (program : Program) → may.actor.program ≡ program
     → Inv controls (happens s (Act a own wrote))
-act_keeps a own wrote controls s I may (Injector args) e = injectors_keep a own wrote controls s I may (subst MayRun (sym e) tt)
+act_keeps a own wrote controls s I may (Injector args) e = injectors_keep a own wrote controls s I may (subst IsMail (sym e) tt)
 act_keeps a own wrote controls s I may (Cleaner began) e = cleaners_keep a own wrote controls s I may (subst IsCleaner (sym e) tt)
 act_keeps a own wrote controls s I may (Sender began) e = senders_keep a own wrote controls s I may (subst IsSender (sym e) tt)
 act_keeps a own wrote controls s I may (LocalSpawner began) e = locals_keep a own wrote controls s I may (subst IsLocalSpawner (sym e) tt)

@@ -19,7 +19,8 @@ use Rattle.program_law.proofs.Sender.ControlsStay.{controls_stay}
 use Rattle.program_law.proofs.Sender.Spares.{others_spare}
 use Rattle.world_events.specs.declared.event.Program.{Program}
 use Rattle.world_events.specs.declared.event.Program.TheVariants.{Injector}
-use Rattle.mail_world.specs.History.{Actor, ComesOf, Life, MayRead, MayRun, State, acted, next_of}
+use Rattle.mail_world.specs.ByKind.{IsMail}
+use Rattle.mail_world.specs.History.{Actor, ComesOf, Life, MayRead, State, acted, next_of}
 use Rattle.mail_world.specs.History.Life.{Alive}
 use Rattle.mail_world.specs.Untouched.{queue}
 use Rattle.world_law.specs.Inv.{Inv}
@@ -49,7 +50,7 @@ module _ (controls : Controls) (s : State) (I : Inv controls s) (a : List ℕ) (
       let seen : IsSeenAs (s.actors a) y = subst (λ (o : Option Actor). IsSeenAs o y) (sym may.is) (record { awaits = refl; place = refl; lives = λ h. h }) in
       let goes : GoesOn (s.actors a) (Injector args) = subst (λ (o : Option Actor). GoesOn o (Injector args)) (sym may.is) refl in
       stepped_keeps controls s I a r c.number c.elsewhere c.spares c.names (others_spare.injectors controls s.now q a args past own.read own.ready call told wrote c)
-      (controls_stay.outside q r c.outside c.old I.old) (drops_stay.outside a q r c.outside c.old) c.sound
+      (controls_stay.outside q r c.outside c.old I.old) (drops_stay.tmp a q r (drops_stay.outside a q r c.outside c.old)) c.sound
       (called_bounces controls s.books a args call told.answer c.elsewhere.accepted I.bounces) y tt goes seen tt c.fares
 
   came_keeps : MayRead s a (injector past) own.read → (call : CallData) → Next args past own.read own.ready ≡ needs.File call → (came : GotData)
@@ -74,7 +75,7 @@ module _ (controls : Controls) (s : State) (I : Inv controls s) (a : List ℕ) (
   due_keeps may (needs.Start child) is alone comes = absurd alone
   due_keeps may (needs.Command text) is alone comes = absurd alone
 
-by_program : (controls : Controls) (s : State) (I : Inv controls s) (a : List ℕ) (wrote : ℕ) (program : Program) (past : List Own) (life : Life) (own : Own) → MayRun program → life ≡ Alive
+by_program : (controls : Controls) (s : State) (I : Inv controls s) (a : List ℕ) (wrote : ℕ) (program : Program) (past : List Own) (life : Life) (own : Own) → IsMail program → life ≡ Alive
     → MayRead s a (record { program = program; past = past; life = life }) own.read → next_of program past own.read own.ready ≡ own.due → ComesOf s a own.due own.came wrote
     → Inv controls (acted s a own wrote (Some (record { program = program; past = past; life = life })))
 by_program controls s I a wrote (Injector args) past Alive own it alive may due comes =

@@ -29,15 +29,9 @@ fares_later : (controls : Controls) (now m : ℕ) → now ≤ m → (q : Queue) 
     → FaresBy controls now q a program past life → FaresBy controls m q a program past life
 fares_later controls now m later q a (Injector args) past life F = injector_later now m later q a args past (is_alive life) (is_well life) F
 fares_later controls now m later q a (Cleaner start) past Alive F = rest_is_kept.later controls now m later q (place_after past) F
-fares_later controls now m later q a (Cleaner start) past (Over status) F = tt
-fares_later controls now m later q a (Cleaner start) past Stopped F = tt
 fares_later controls now m later q a (Sender start) past Alive F =
     record { stands = senders_are_left_alone.later controls now m later q a (sender_after None past) F.stands; control = F.control; texts = F.texts }
-fares_later controls now m later q a (Sender start) past (Over status) F = tt
-fares_later controls now m later q a (Sender start) past Stopped F = tt
-fares_later controls now m later q a (LocalSpawner start) past life F = F
-fares_later controls now m later q a (RemoteSpawner start) past life F = F
-fares_later controls now m later q a (Delivery start args) past life F = F
+fares_later controls now m later q a other past life F = F
 
 errands_later : (controls : Controls) (now m : ℕ) → now ≤ m → (q : Queue) (cleans : Bool) (x : Link) → ErrandRests controls now q cleans x → ErrandRests controls m q cleans x
 errands_later controls now m later q cleans x E = record {

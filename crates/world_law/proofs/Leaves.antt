@@ -64,12 +64,9 @@ record Leaves (p : Option Program) (a : List ℕ) (s t : State) : Type 0 where
 -- the disk with the same names and files
 outside_by : (p : Option Program) (d : Disk) (opens : ℕ → Option Open) → LeavesOutside p d (record { dirs = d.dirs; names = d.names; files = d.files; opens = opens })
 outside_by None d opens = outside_same d opens
-outside_by (Some (Injector args)) d opens = outside_same d opens
-outside_by (Some (Sender since)) d opens = outside_same d opens
-outside_by (Some (LocalSpawner since)) d opens = outside_same d opens
-outside_by (Some (RemoteSpawner since)) d opens = outside_same d opens
 outside_by (Some (Delivery since args)) d opens = record { names = λ name far. refl; files = λ name i there far. refl }
 outside_by (Some (Cleaner since)) d opens = record { names = λ name free. inl refl; files = λ i. refl; unqueued = λ i out x is. out.unqueued x is }
+outside_by (Some other) d opens = outside_same d opens
 
 -- Nothing of the queue changes
 

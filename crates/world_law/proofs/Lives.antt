@@ -30,7 +30,7 @@ use Rattle.send_jobs.specs.Bookings.{Booking}
 use Rattle.send_jobs.specs.Bookings.Booking.{Dropped, Noted, ReadNotes, Reported, Returned}
 use Rattle.world_events.specs.Books.{mess_number}
 use Rattle.world_events.specs.declared.event.Program.{Program}
-use Rattle.world_events.specs.declared.event.Program.TheVariants.{Injector, Cleaner, Sender, LocalSpawner, RemoteSpawner, Delivery}
+use Rattle.world_events.specs.declared.event.Program.TheVariants.{Injector, Sender}
 use Rattle.mail_world.proofs.Waiting.{legal_before}
 use Rattle.mail_world.specs.History.{Actor, Allowed, Event, Legal, Life, State, acted, after, books_after, bouncer_of, finished, happens}
 use Rattle.mail_world.specs.History.Event.{Start, Act, Child as Bears, Generation, Report, End, Stop, Moment, Halt}
@@ -319,7 +319,6 @@ entries_by program past read ready came = []
 acted_goes : (child : Option Child) (b : Books) (a : List ℕ) (program : Program) (past : List Own) (read : ℕ) (ready : Ready) (due : NeedData) (came : GotData)
     → Goes b (books_after child b a program past read ready due came) (begun_by program due came) (entries_by program past read ready came)
 acted_goes child b a (Injector args) past read ready (needs.File call) (got.Answered told) = called_goes b a args call told
-acted_goes child b a (Injector args) past read ready due came = goes_same b []
 acted_goes child b a (Sender start) past read ready (needs.File call) (got.Answered told) =
     let d = sender_after None past in
     let es = booked_at (row_now d read ready) (got.Answered told) d in
@@ -329,18 +328,9 @@ acted_goes child b a (Sender start) past read ready (needs.Take port) came =
     let es = booked_at (row_now d read ready) came d in
     entered_goes b (booked_all child es b) es (all_enter child es b)
 acted_goes child b a (Sender start) past read ready due came = goes_same b (entries_by (Sender start) past read ready came)
-acted_goes child b a (Cleaner start) past read ready (needs.File call) (got.Answered told) = goes_same b []
-acted_goes child b a (Cleaner start) past read ready (needs.Take port) came = goes_same b []
-acted_goes child b a (Cleaner start) past read ready due came = goes_same b []
-acted_goes child b a (LocalSpawner start) past read ready (needs.File call) (got.Answered told) = goes_same b []
-acted_goes child b a (LocalSpawner start) past read ready (needs.Take port) came = goes_same b []
-acted_goes child b a (LocalSpawner start) past read ready due came = goes_same b []
-acted_goes child b a (RemoteSpawner start) past read ready (needs.File call) (got.Answered told) = goes_same b []
-acted_goes child b a (RemoteSpawner start) past read ready (needs.Take port) came = goes_same b []
-acted_goes child b a (RemoteSpawner start) past read ready due came = goes_same b []
-acted_goes child b a (Delivery start args) past read ready (needs.File call) (got.Answered told) = goes_same b []
-acted_goes child b a (Delivery start args) past read ready (needs.Take port) came = goes_same b []
-acted_goes child b a (Delivery start args) past read ready due came = goes_same b []
+acted_goes child b a other past read ready (needs.File call) (got.Answered told) = goes_same b []
+acted_goes child b a other past read ready (needs.Take port) came = goes_same b []
+acted_goes child b a other past read ready due came = goes_same b []
 
 -- Any event
 

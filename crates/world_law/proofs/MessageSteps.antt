@@ -21,9 +21,10 @@ use Rattle.queue_law.specs.Numbers.Phase.{Free, Queued, Sorted, Finished}
 use Rattle.queue_law.proofs.Looks.{found, not_found}
 use Rattle.queue_paths.specs.Names.{Part, path}
 use Rattle.queue_paths.specs.Names.Name.{Of}
-use Rattle.queue_paths.specs.Names.Part.{Mess, Intd, Todo, Info, Local, Remote, Bounce}
+use Rattle.queue_paths.specs.Names.Part.{Mess, Info, Local, Remote, Bounce}
+use Rattle.queue_law.proofs.Waits.{todo_named}
 use Rattle.queue_states.specs.declared.state.State.TheVariants.{S5}
-use Rattle.queue_states.specs.States.{is_there, state_by, state_of}
+use Rattle.queue_states.specs.States.{is_there, state_by, state_of, is_in_intd, is_in_todo}
 use Rattle.call_fs.specs.declared.past.GotData.{GotData}
 use Rattle.call_fs.specs.declared.past.GotData.TheVariants as got
 use Rattle.call_fs.specs.declared.past.ChildData.TheVariants as child
@@ -125,15 +126,15 @@ module _ (controls : Controls) (s : State) (I : Inv controls s) (n : ℕ) (stays
   abbrev q : Queue
   q = queue s I.role
 
-  parts : (is_there s.disk Todo n ≡ false) × (is_there s.disk Info n ≡ true)
-  parts = in_s5 (is_there s.disk Mess n) (is_there s.disk Intd n) (is_there s.disk Todo n) (is_there s.disk Info n) (is_there s.disk Local n) (is_there s.disk Remote n) (is_there s.disk Bounce n) stays
+  parts : (is_in_todo s.disk n ≡ false) × (is_there s.disk Info n ≡ true)
+  parts = in_s5 (is_there s.disk Mess n) (is_in_intd s.disk n) (is_in_todo s.disk n) (is_there s.disk Info n) (is_there s.disk Local n) (is_there s.disk Remote n) (is_there s.disk Bounce n) stays
 
   none_there : (part : Part) → look q (Of part n) ≡ None → is_there s.disk part n ≡ true → ⊥
   none_there part none there = let gone : is_there s.disk part n ≡ false = ap is_some (not_found q.disk.names q.disk.files (Of part n) none) in absurd (cc)
 
   taken_by : Phase controls (about q n) → IsTaken controls (about q n)
   taken_by (Free h) = absurd (none_there Info (h.unsorted Info refl) parts.1)
-  taken_by (Queued h) = let there : is_there s.disk Todo n ≡ true = ap is_some (found q.disk.names q.disk.files (Of Todo n) h.todo h.todo_there).0 in let none = parts.0 in absurd (cc)
+  taken_by (Queued h) = let there : is_in_todo s.disk n ≡ true = ap is_some (todo_named q.disk.names q.disk.files n h.todo h.todo_there) in let none = parts.0 in absurd (cc)
   taken_by (Sorted h) = h.taken
   taken_by (Finished h) = absurd (none_there Info (h.unsorted Info refl) parts.1)
 

@@ -69,12 +69,9 @@ IsOther channel.Remote program = IsNoRemote program
 
 -- it is seen as nobody
 pub neither_seen : (program : Program) → IsNeither program → (past : List Own) (life : Life) → halves (Some (record { program = program; past = past; life = life })) ≡ halves None
-neither_seen (Injector args) it past life = refl
-neither_seen (Cleaner since) it past life = refl
-neither_seen (RemoteSpawner since) it past life = refl
-neither_seen (Delivery since args) it past life = refl
 neither_seen (Sender since) it past life = absurd it
 neither_seen (LocalSpawner since) it past life = absurd it
+neither_seen other it past life = refl
 
 -- What it gives: only the sender gives to spawners
 
@@ -284,10 +281,7 @@ module _ (s : State) (P : PostsStand s) (a : List ℕ) (x : Actor) (is : s.actor
   over_by : (program : Program) → x.program ≡ program → IsNamed a program → PostsStand over
   over_by (Sender began) runs name = sender_over began runs name
   over_by (LocalSpawner began) runs name = spawner_over began runs name
-  over_by (Injector args) runs name = neither_over (subst IsNeither (sym runs) tt)
-  over_by (Cleaner began) runs name = neither_over (subst IsNeither (sym runs) tt)
-  over_by (RemoteSpawner began) runs name = neither_over (subst IsNeither (sym runs) tt)
-  over_by (Delivery began args) runs name = neither_over (subst IsNeither (sym runs) tt)
+  over_by other runs name = neither_over (subst IsNeither (sym runs) tt)
 
 pub ends_leave : (controls : Controls) (s : State) → Inv controls s → PostsStand s → (a : List ℕ) (x : Actor) → s.actors a ≡ Some x → x.life ≡ Alive → (life : Life) → is_alive life ≡ false
     → PostsStand (finished s a life (s.actors a))

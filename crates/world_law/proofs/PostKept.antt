@@ -250,10 +250,7 @@ act_by controls s I P a own wrote may (Sender began) e =
     sender_acts controls s I P a own wrote may.actor may.reads.is may.reads.alive (subst IsSender (sym e) tt) may.reads.no_later may.due may.came
 act_by controls s I P a own wrote may (LocalSpawner began) e =
     spawner_acts controls s I P a own wrote may.actor may.reads.is may.reads.alive (subst IsLocalSpawner (sym e) tt) may.due may.came
-act_by controls s I P a own wrote may (Injector args) e = neither_acts controls s I P a own wrote may.actor may.reads.is (subst IsNeither (sym e) tt) may.due
-act_by controls s I P a own wrote may (Cleaner began) e = neither_acts controls s I P a own wrote may.actor may.reads.is (subst IsNeither (sym e) tt) may.due
-act_by controls s I P a own wrote may (RemoteSpawner began) e = neither_acts controls s I P a own wrote may.actor may.reads.is (subst IsNeither (sym e) tt) may.due
-act_by controls s I P a own wrote may (Delivery began args) e = neither_acts controls s I P a own wrote may.actor may.reads.is (subst IsNeither (sym e) tt) may.due
+act_by controls s I P a own wrote may other e = neither_acts controls s I P a own wrote may.actor may.reads.is (subst IsNeither (sym e) tt) may.due
 
 posts_keep : (e : Event) (controls : Controls) (s : State) → Inv controls s → PostsStand s → Allowed s e → PostsStand (happens s e)
 posts_keep (Start a program) controls s I P may = starts_stand s P a program may.new may.runs

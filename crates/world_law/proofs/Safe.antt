@@ -5,9 +5,11 @@ use Rattle.call_fs.specs.Past.{IsRunBy}
 use Rattle.call_fs.specs.declared.past.Own.{Own}
 use Rattle.queue_paths.specs.Names.{Part, path}
 use Rattle.queue_paths.specs.Names.Name.{Of}
-use Rattle.queue_paths.specs.Names.Part.{Mess, Intd, Todo, Info, Local, Remote, Bounce}
+use Rattle.queue_paths.specs.Names.Part.{Mess, Info, Local, Remote, Bounce}
+use Rattle.queue_paths.specs.Parts.{in_intd, in_todo}
+use Rattle.queue_law.proofs.Waits.{todo_named, todo_unnamed, intd_unnamed}
 use Rattle.queue_states.specs.declared.state.State.TheVariants.{Other}
-use Rattle.queue_states.specs.States.{state_by, is_there, state_of}
+use Rattle.queue_states.specs.States.{state_by, is_there, state_of, is_in_intd, is_in_todo}
 use Rattle.queue_law.specs.Claims.{InState}
 use Rattle.queue_law.specs.Claims.InState.{First, Second, Third, Fourth, Fifth}
 use Rattle.queue_law.specs.Numbers.{Entry, Queue, Role, Sound, about, entry}
@@ -61,15 +63,24 @@ module _ (q : Queue) (n : ℕ) where
   gone : (part : Part) → (about q n).parts part ≡ None → is_there q.disk part n ≡ false
   gone part none = ap is_some (not_found q.disk.names q.disk.files (Of part n) none)
 
+  no_intd : in_intd (about q n).parts ≡ None → is_in_intd q.disk n ≡ false
+  no_intd none = ap is_some (intd_unnamed q.disk.names q.disk.files n none)
+
+  no_todo : in_todo (about q n).parts ≡ None → is_in_todo q.disk n ≡ false
+  no_todo none = ap is_some (todo_unnamed q.disk.names q.disk.files n none)
+
+  has_todo : (y : Entry) → in_todo (about q n).parts ≡ Some y → is_in_todo q.disk n ≡ true
+  has_todo y is = ap is_some (todo_named q.disk.names q.disk.files n y is)
+
   state_in : InState (about q n) → state_of q.disk n ≢ Other
-  state_in (First mess intd todo later) = early _ _ _ _ _ _ _ (λ _. gone Intd intd) (gone Todo todo) (gone Info (later Info refl)) (gone Local (later Local refl))
+  state_in (First mess intd todo later) = early _ _ _ _ _ _ _ (λ _. no_intd intd) (no_todo todo) (gone Info (later Info refl)) (gone Local (later Local refl))
       (gone Remote (later Remote refl)) (gone Bounce (later Bounce refl))
-  state_in (Second y mess intd todo later) = early _ _ _ _ _ _ _ (λ _. gone Intd intd) (gone Todo todo) (gone Info (later Info refl)) (gone Local (later Local refl))
+  state_in (Second y mess intd todo later) = early _ _ _ _ _ _ _ (λ _. no_intd intd) (no_todo todo) (gone Info (later Info refl)) (gone Local (later Local refl))
       (gone Remote (later Remote refl)) (gone Bounce (later Bounce refl))
-  state_in (Third y z mess intd todo later) = early _ _ _ _ _ _ _ (λ e. let w = there Mess y mess in absurd (cc)) (gone Todo todo) (gone Info (later Info refl))
+  state_in (Third y z mess intd todo later) = early _ _ _ _ _ _ _ (λ e. let w = there Mess y mess in absurd (cc)) (no_todo todo) (gone Info (later Info refl))
       (gone Local (later Local refl)) (gone Remote (later Remote refl)) (gone Bounce (later Bounce refl))
-  state_in (Fourth y z mess todo bounce) = fourth _ _ _ _ _ _ _ (there Mess y mess) (there Todo z todo) (gone Bounce bounce)
-  state_in (Fifth y z mess intd todo info) = fifth _ _ _ _ _ _ _ (there Mess y mess) (gone Intd intd) (gone Todo todo) (there Info z info)
+  state_in (Fourth y z mess todo bounce) = fourth _ _ _ _ _ _ _ (there Mess y mess) (has_todo z todo) (gone Bounce bounce)
+  state_in (Fifth y z mess intd todo info) = fifth _ _ _ _ _ _ _ (there Mess y mess) (no_intd intd) (no_todo todo) (there Info z info)
 
 booked : (controls : Controls) (now : ℕ) (q : Queue) (a : List ℕ) (program : Program) (past : List Own) (life : Life) → FaresBy controls now q a program past life
     → IsRunBy (next_of program) past → IsBooked q.books a program past

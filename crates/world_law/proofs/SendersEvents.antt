@@ -221,7 +221,7 @@ module _ (controls : Controls) (s : State) (I : Inv controls s) (wrote began : â
       (booked_bounces controls child (booked_at row came d) s.books l.1.leads.elsewhere.accepted (call_books told) I.bounces)
       C
       (Î» o x other there.
-      others_fare controls s.now l.1.number q r l.1.leads.elsewhere I.sound.suits l.1.closed (drops_stay.outside name q r l.1.leads.outside l.1.leads.old) o other x.program x.past x.life (I.crew o x there)
+      others_fare controls s.now l.1.number q r l.1.leads.elsewhere I.sound.suits l.1.closed (drops_stay.tmp name q r (drops_stay.outside name q r l.1.leads.outside l.1.leads.old)) o other x.program x.past x.life (I.crew o x there)
       (idle_by controls s I none o x.program x.past x.life there (I.crew o x there)) (I.fares o x there))
       (record {
         stands = l.1.stands;

@@ -5,7 +5,7 @@ use Rattle.call_fs.specs.declared.past.Own.{Own}
 use Rattle.queue_clean.specs.Table.{place_after}
 use Rattle.local_spawn.specs.Table.{place_after as local_after}
 use Rattle.remote_spawn.specs.Table.{place_after as spawn_after}
-use Rattle.program_law.specs.Delivery.Leaves.{LeavesDrops}
+use Rattle.program_law.specs.Delivery.Leaves.{LeavesTmp}
 use Rattle.program_law.proofs.Delivery.Stay.{drops_stay}
 use Rattle.queue_law.specs.Books.{Books, Injection, IsInjected, IsLater}
 use Rattle.queue_law.specs.Cleaners.{IsBeside}
@@ -32,7 +32,7 @@ IsIdle (Cleaner began) past = (m : Option ℕ) → IsBeside m (place_after past)
 IsIdle program past = Unit {0}
 
 module _ (controls : Controls) (now : ℕ) (n : Option ℕ) (q r : Queue) (E : Elsewhere now (codes "sender") n q r) (suits : NamesSuit q) (closed : (k : ℕ) → n ≡ Some k → IsClosed now q k)
-    (D : LeavesDrops (codes "sender") q r) where
+    (D : LeavesTmp (codes "sender") q r) where
   spared : Spares now n q r × SparesNames q r
   spared = rest_is_kept.closed now (codes "sender") n q r E suits closed
 
@@ -40,16 +40,12 @@ module _ (controls : Controls) (now : ℕ) (n : Option ℕ) (q r : Queue) (E : E
       → FaresBy controls now q o program past life → FaresBy controls now r o program past life
   others_fare o other (Injector args) past life named idle F = injector_frame now (codes "sender") n q r E o other args past (is_alive life) (is_well life) F
   others_fare o other (Cleaner began) past Alive named idle F = rest_is_kept.spared controls now n q r spared.0 spared.1 (place_after past) (idle n) F
-  others_fare o other (Cleaner began) past (Over status) named idle F = tt
-  others_fare o other (Cleaner began) past Stopped named idle F = tt
   others_fare o other (Sender began) past life named idle F = absurd (other named)
   others_fare o other (LocalSpawner began) past Alive named idle F = lspawn_holds q r o (λ fd how. E.opens o fd how other) (local_after past) F
-  others_fare o other (LocalSpawner began) past (Over status) named idle F = tt
-  others_fare o other (LocalSpawner began) past Stopped named idle F = tt
   others_fare o other (RemoteSpawner began) past Alive named idle F = spawner_holds q r o (λ fd how. E.opens o fd how other) (spawn_after past).row F
-  others_fare o other (RemoteSpawner began) past (Over status) named idle F = tt
-  others_fare o other (RemoteSpawner began) past Stopped named idle F = tt
   others_fare o other (Delivery began args) past life named idle F = delivery_left q r (codes "sender") o other D (λ fd how. E.opens o fd how other) E.accepted args past life F
+  others_fare o other program past (Over status) named idle F = tt
+  others_fare o other program past Stopped named idle F = tt
 
 some_closed : (now : ℕ) (q : Queue) (n : ℕ) → IsClosed now q n → (k : ℕ) → ◌≡◌ {A = Option ℕ} (Some n) (Some k) → IsClosed now q k
 some_closed now q n closed k is = let same : n ≡ k = (cc) in subst (λ (m : ℕ). IsClosed now q m) same closed
@@ -60,7 +56,7 @@ pub others_fare_on : (controls : Controls) (now : ℕ) (o : List ℕ) → o ≢ 
 others_fare_on controls now o other program past life named idle q r (Stays z) G F = F
 others_fare_on controls now o other program past life named idle q r (Goes x y z n closed leads through) G F =
     others_fare_on controls now o other program past life named idle y z through leads.sound
-    (others_fare controls now (Some n) x y leads.elsewhere G.suits (some_closed now x n closed) (drops_stay.outside (codes "sender") x y leads.outside leads.old) o other program past life named idle F)
+    (others_fare controls now (Some n) x y leads.elsewhere G.suits (some_closed now x n closed) (drops_stay.tmp (codes "sender") x y (drops_stay.outside (codes "sender") x y leads.outside leads.old)) o other program past life named idle F)
 
 -- What was accepted stays so
 

@@ -334,7 +334,7 @@ module _ (s : State) (wrote : ℕ) (began : ℕ) (past : List Own) (own : Own) w
         let event : Own = doing (needs.File call) (got.Answered told) in
         subst (λ (t : State). Inv controls t) (sym (read_state c call told))
         (stepped_keeps controls s I name r None l.elsewhere spared.0 spared.1 (others_spare.reads s.now name q r l.elsewhere)
-        (controls_stay.outside q r l.outside l.old I.old) (drops_stay.outside name q r l.outside l.old) l.sound I.bounces (spawner c (event ∷ past)) (named c began) goes (seen (event ∷ past))
+        (controls_stay.outside q r l.outside l.old I.old) (drops_stay.tmp name q r (drops_stay.outside name q r l.outside l.old)) l.sound I.bounces (spawner c (event ∷ past)) (named c began) goes (seen (event ∷ past))
         (gives_any c began (stepped s name r (spawner c (event ∷ past))) name (event ∷ past) Alive) fares)
 
     pub reads : (call : CallData) → OnlyReads q name call

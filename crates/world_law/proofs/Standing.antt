@@ -25,13 +25,15 @@ use Rattle.queue_law.specs.Numbers.{About, Entry, IsPreprocessed, Phase, Queue, 
 use Rattle.queue_law.specs.Numbers.Phase.{Free, Queued, Sorted, Finished}
 use Rattle.queue_law.specs.Numbers.Role.{AsMessage}
 use Rattle.queue_law.specs.Routes.{lane_part}
-use Rattle.queue_law.proofs.Looks.{find_none, find_some, found, not_found}
+use Rattle.queue_law.proofs.Looks.{find_some, found, not_found}
 use Rattle.queue_law.proofs.Readings.{records_are}
 use Rattle.queue_law.proofs.Sends.{lane_there}
 use Rattle.queue_paths.specs.Names.{Part, path}
 use Rattle.queue_paths.specs.Names.Name.{Of}
 use Rattle.queue_paths.specs.Names.Part.{Mess, Intd, Todo, Info, Local, Remote, Bounce}
 use Rattle.queue_paths.proofs.Paths.{path_injective}
+use Rattle.queue_paths.specs.Parts.{in_todo}
+use Rattle.queue_law.proofs.Waits.{todo_unnamed, todo_absent, intd_unnamed}
 use Rattle.queue_states.specs.declared.state.State.TheVariants.{S5}
 use Rattle.queue_states.specs.States.{is_there, state_by, state_of}
 use Rattle.send_core.specs.declared.desk.Desk.{Desk}
@@ -69,7 +71,7 @@ module _ (controls : Controls) (q : Queue) (n : ℕ) where
   gone part none = ap is_some (not_found q.disk.names q.disk.files (Of part n) none)
 
   sorted_state : IsPreprocessed controls (about q n) → state_of q.disk n ≡ S5
-  sorted_state h = λ i. state_by (there Mess h.taken.mess h.taken.mess_there i) (gone Intd h.no_intd i) (gone Todo h.no_todo i) (there Info h.info h.info_there i)
+  sorted_state h = λ i. state_by (there Mess h.taken.mess h.taken.mess_there i) (ap is_some (intd_unnamed q.disk.names q.disk.files n h.no_intd) i) (ap is_some (todo_unnamed q.disk.names q.disk.files n h.no_todo) i) (there Info h.info h.info_there i)
       (is_there q.disk Local n) (is_there q.disk Remote n) (is_there q.disk Bounce n)
 
   settled_sorted : Phase controls (about q n) → IsSettledIn (about q n) → IsPreprocessed controls (about q n)
@@ -171,7 +173,7 @@ hands_always_stand controls d before has legal a x is alive start program =
 
 -- Channel files
 
-lane_sorted : (controls : Controls) (w : About) (ch : Channel) (y : Entry) → Phase controls w → w.parts Todo ≡ None → w.parts (lane_part ch) ≡ Some y → IsPreprocessed controls w
+lane_sorted : (controls : Controls) (w : About) (ch : Channel) (y : Entry) → Phase controls w → in_todo w.parts ≡ None → w.parts (lane_part ch) ≡ Some y → IsPreprocessed controls w
 lane_sorted controls w channel.Local y (Free h) todo is = let none = h.unsorted Local refl in absurd (cc)
 lane_sorted controls w channel.Remote y (Free h) todo is = let none = h.unsorted Remote refl in absurd (cc)
 lane_sorted controls w ch y (Queued h) todo is = let here = h.todo_there in absurd (cc)
@@ -186,7 +188,7 @@ records_are_routed controls d before has legal n todo ch file is =
     let q = queue s I.role in
     let y : Entry = record { number = file; file = s.disk.files file } in
     let filed : (about q n).parts (lane_part ch) ≡ Some y = find_some s.disk.names s.disk.files (Of (lane_part ch) n) file is in
-    let pre = lane_sorted controls (about q n) ch y (I.sound.fine n) (find_none s.disk.names s.disk.files (Of Todo n) todo) filed in
+    let pre = lane_sorted controls (about q n) ch y (I.sound.fine n) (todo_absent s.disk.names s.disk.files n todo) filed in
     let marked = lane_there controls (about q n) pre.taken.injection ch y filed (pre.lanes ch) in (
       pre.taken.injection,
       pre.taken.lives,

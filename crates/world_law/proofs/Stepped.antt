@@ -3,7 +3,7 @@ use Rattle.std.proofs.Common.{◌≡◌, ◌≢◌, inl, ℕ, List, Option, Some
 use Rattle.address_rules.specs.declared.controls.Controls.{Controls}
 use Rattle.call_fs.specs.declared.past.Own.{Own}
 use Rattle.call_fs.specs.Maps.{put_at}
-use Rattle.program_law.specs.Delivery.Leaves.{LeavesDrops}
+use Rattle.program_law.specs.Delivery.Leaves.{LeavesTmp}
 use Rattle.program_law.specs.Errand.Errands.Awaits.{Answer}
 use Rattle.queue_clean.specs.declared.command.Command.TheVariants.{Todo}
 use Rattle.queue_clean.specs.Table.{Place, place_after}
@@ -96,7 +96,7 @@ stepped s a r y = record { disk = r.disk; holder = r.holder; now = s.now; actors
 -- Each of the others, after a step that spares all closed numbers but the one in k
 
 module _ (controls : Controls) (s : State) (I : Inv controls s) (a : List ℕ) (r : Queue) (m k : Option ℕ) (E : Elsewhere s.now a m (queue s I.role) r)
-    (S : Spares s.now k (queue s I.role) r) (SS : SparesSorted (queue s I.role) r) (C : LeavesControls (queue s I.role) r) (D : LeavesDrops a (queue s I.role) r) (G : Sound controls r)
+    (S : Spares s.now k (queue s I.role) r) (SS : SparesSorted (queue s I.role) r) (C : LeavesControls (queue s I.role) r) (D : LeavesTmp a (queue s I.role) r) (G : Sound controls r)
     (B : BouncesAreQueued controls r.books) where
   abbrev before : Queue
   before = queue s I.role
@@ -114,8 +114,6 @@ module _ (controls : Controls) (s : State) (I : Inv controls s) (a : List ℕ) (
       → s.actors o ≡ Some (record { program = program; past = past; life = life }) → FaresBy controls s.now before o program past life → FaresBy controls s.now r o program past life
   fares_other o other cleaner sender (Injector args) past life is F = injector_frame s.now a m before r E o other args past (is_alive life) (is_well life) F
   fares_other o other cleaner sender (Cleaner began) past Alive is F = cleaner began past is F
-  fares_other o other cleaner sender (Cleaner began) past (Over status) is F = tt
-  fares_other o other cleaner sender (Cleaner began) past Stopped is F = tt
   fares_other o other cleaner sender (Sender began) past Alive is F =
       let d = sender_after None past in
       record {
@@ -123,15 +121,11 @@ module _ (controls : Controls) (s : State) (I : Inv controls s) (a : List ℕ) (
         control = controls_are_read.others before r o d.row d.book C (λ fd how. E.opens o fd how other) F.control;
         texts = texts_keep.others controls s.now before r o d SS F.stands F.texts;
       }
-  fares_other o other cleaner sender (Sender began) past (Over status) is F = tt
-  fares_other o other cleaner sender (Sender began) past Stopped is F = tt
   fares_other o other cleaner sender (LocalSpawner began) past Alive is F = lspawn_holds before r o (λ fd how. E.opens o fd how other) (local_after past) F
-  fares_other o other cleaner sender (LocalSpawner began) past (Over status) is F = tt
-  fares_other o other cleaner sender (LocalSpawner began) past Stopped is F = tt
   fares_other o other cleaner sender (RemoteSpawner began) past Alive is F = spawner_holds before r o (λ fd how. E.opens o fd how other) (spawn_after past).row F
-  fares_other o other cleaner sender (RemoteSpawner began) past (Over status) is F = tt
-  fares_other o other cleaner sender (RemoteSpawner began) past Stopped is F = tt
   fares_other o other cleaner sender (Delivery began args) past life is F = delivery_left before r a o other D (λ fd how. E.opens o fd how other) E.accepted args past life F
+  fares_other o other cleaner sender program past (Over status) is F = tt
+  fares_other o other cleaner sender program past Stopped is F = tt
 
   pub led_keeps : ((o : List ℕ) → o ≢ a → LeavesCleaner o) → ((o : List ℕ) → o ≢ a → LeavesSender o) → (y : Actor) → IsNamed a y.program → GoesOn (s.actors a) y.program
       → ChildBy (stepped s a r y) a y.program y.past y.life → FaresBy controls s.now r a y.program y.past y.life → ErrandsRest controls (stepped s a r y) r.role → Inv controls (stepped s a r y)
@@ -155,7 +149,7 @@ module _ (controls : Controls) (s : State) (I : Inv controls s) (a : List ℕ) (
 
 module _ (controls : Controls) (s : State) (I : Inv controls s) (a : List ℕ) (r : Queue) (m : Option ℕ) (E : Elsewhere s.now a m (queue s I.role) r)
     (S : Spares s.now None (queue s I.role) r) (N : SparesNames (queue s I.role) r) (SS : SparesSorted (queue s I.role) r) (C : LeavesControls (queue s I.role) r)
-    (D : LeavesDrops a (queue s I.role) r) (G : Sound controls r) (B : BouncesAreQueued controls r.books) where
+    (D : LeavesTmp a (queue s I.role) r) (G : Sound controls r) (B : BouncesAreQueued controls r.books) where
   abbrev here : Queue
   here = queue s I.role
 

@@ -6,7 +6,8 @@ use Rattle.call_fs.specs.Disk.{Disk}
 use Rattle.call_fs.specs.declared.past.Own.{Own}
 use Rattle.call_fs.specs.declared.program.Ready.{Ready}
 use Rattle.world_events.specs.declared.event.Program.{Program}
-use Rattle.mail_world.specs.History.{Event, State, Allowed, IsCleaner, IsDelivery, IsLocalSpawner, IsRemoteSpawner, IsSender, Legal, MayDo, MayRun, Opening, after, happens, opening}
+use Rattle.mail_world.specs.ByKind.{IsMail}
+use Rattle.mail_world.specs.History.{Event, State, Allowed, IsCleaner, IsDelivery, IsLocalSpawner, IsRemoteSpawner, IsSender, Legal, MayDo, Opening, after, happens, opening}
 use Rattle.mail_world.specs.History.Event.{Start, Act, Child, Generation, Report, End, Stop, Moment, Halt}
 use Rattle.program_law.specs.Sender.Control.{AreControls}
 use Rattle.queue_law.specs.Accounts.{Accounted}
@@ -57,7 +58,7 @@ HaltsKeep = (how : Survival) (contents : ℕ → List ℕ) → IsKeptBy (Halt ho
 -- each event of an injector
 abbrev pub InjectorsKeep : Type 0
 InjectorsKeep = (a : List ℕ) (own : Own) (wrote : ℕ) (controls : Controls) (s : State) → Inv controls s → (may : MayDo s a own wrote)
-    → MayRun may.actor.program → Inv controls (happens s (Act a own wrote))
+    → IsMail may.actor.program → Inv controls (happens s (Act a own wrote))
 
 -- so does each event of the local spawner
 abbrev pub LocalsKeep : Type 0

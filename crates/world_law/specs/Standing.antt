@@ -27,6 +27,7 @@ use Rattle.queue_law.specs.Routes.{lane_part, lane_text}
 use Rattle.queue_paths.specs.Names.{path, split_text}
 use Rattle.queue_paths.specs.Names.Name.{Of}
 use Rattle.queue_paths.specs.Names.Part.{Intd, Mess, Todo}
+use Rattle.queue_paths.specs.Parts.{in_todo, parts_of}
 use Rattle.queue_states.specs.declared.state.State.TheVariants.{S5}
 use Rattle.queue_states.specs.States.{state_of}
 use Rattle.send_core.specs.declared.desk.Desk.{Desk}
@@ -88,7 +89,7 @@ pub record HoldsItsRecords (controls : Controls) (i : Injection) (ch : Channel) 
 -- After todo is gone so does each channel file, for the recipients of the accepted injection of its number that go to that channel, with their
 -- routed addresses.
 abbrev pub RecordsAreRouted : Type 0
-RecordsAreRouted = (controls : Controls) (d : Disk) (before : List Event) → AreControls controls d → Legal d before → (n : ℕ) → (after d before).disk.names (path (Of Todo n)) ≡ None
+RecordsAreRouted = (controls : Controls) (d : Disk) (before : List Event) → AreControls controls d → Legal d before → (n : ℕ) → in_todo (parts_of (after d before).disk.names n) ≡ None
     → (ch : Channel) (file : ℕ) → (after d before).disk.names (path (Of (lane_part ch) n)) ≡ Some file
     → (i : Injection) × ((after d before).books.living n ≡ Some i) × (i.accepted ≡ true) × HoldsItsRecords controls i ch ((after d before).disk.files file).bytes
 

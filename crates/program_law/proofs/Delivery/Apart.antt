@@ -20,7 +20,7 @@ use Rattle.queue_paths.specs.Names.Name.{Pid, Of}
 use Rattle.queue_paths.specs.Names.Part.{Mess, Intd, Todo, Info, Local, Remote, Bounce}
 use Rattle.queue_law.specs.Cleaners.{IsOnePart}
 use Rattle.send_parts.specs.Steps.{control_text}
-use Rattle.program_law.specs.Delivery.Names.{IsDropName, NamesAreApart}
+use Rattle.program_law.specs.Delivery.Names.{IsDropName, IsTmpName, NamesAreApart}
 
 -- Texts in which no `t` and no `n` comes after a `/`
 
@@ -186,12 +186,15 @@ no_pid_name part one h = ⊎_elim
 
 -- Drops
 
+tmp_in : (dir file : List ℕ) → EndsInSlash dir → IsTmpName (dir ++ (codes "tmp/" ++ file))
+tmp_in dir file h = record { front = h.0; rest = file; is = ap (λ (t : List ℕ). t ++ (codes "tmp/" ++ file)) h.1 ∙ append_assoc h.0 (47 ∷ []) (codes "tmp/" ++ file) }
+
 abbrev BothPlaced : List ℕ → List ℕ → Type 0
 BothPlaced dir file = IsDropName (dir ++ (codes "tmp/" ++ file)) × IsDropName (dir ++ (codes "new/" ++ file))
 
 in_maildir : (dir file : List ℕ) → EndsInSlash dir → BothPlaced dir file
 in_maildir dir file h = (
-  record { front = h.0; rest = file; is = inl (ap (λ (t : List ℕ). t ++ (codes "tmp/" ++ file)) h.1 ∙ append_assoc h.0 (47 ∷ []) (codes "tmp/" ++ file)) },
+  (let t = tmp_in dir file h in record { front = t.front; rest = t.rest; is = inl t.is }),
   record { front = h.0; rest = file; is = inr (ap (λ (t : List ℕ). t ++ (codes "new/" ++ file)) h.1 ∙ append_assoc h.0 (47 ∷ []) (codes "new/" ++ file)) },
 )
 
@@ -199,6 +202,11 @@ pub drop_names : (args : Arguments) (attempt : Attempt) → EndsInSlash args.dir
 drop_names args First h = in_maildir args.dir (drop_name args.moment args.pid args.host First) h
 drop_names args Second h = in_maildir args.dir (drop_name args.moment args.pid args.host Second) h
 drop_names args Third h = in_maildir args.dir (drop_name args.moment args.pid args.host Third) h
+
+pub tmp_names : (args : Arguments) (attempt : Attempt) → EndsInSlash args.dir → IsTmpName (pair_at (names_of args) attempt).tmp
+tmp_names args First h = tmp_in args.dir (drop_name args.moment args.pid args.host First) h
+tmp_names args Second h = tmp_in args.dir (drop_name args.moment args.pid args.host Second) h
+tmp_names args Third h = tmp_in args.dir (drop_name args.moment args.pid args.host Third) h
 
 pub names_are_apart : NamesAreApart
 names_are_apart = record { drops = drop_names; queue = no_queue_name; controls = no_control_name; pid = no_pid_name }

@@ -20,7 +20,7 @@ use Rattle.maildir_drop.specs.declared.names.DropNames.{DropNames}
 use Rattle.maildir_drop.specs.declared.row.Attempt.{Attempt}
 use Rattle.maildir_drop.specs.declared.row.Attempt.TheVariants.{First, Second, Third}
 use Rattle.maildir_drop.specs.declared.row.Outcome.{Outcome}
-use Rattle.maildir_drop.specs.declared.row.Outcome.TheVariants.{Dropped, Failed}
+use Rattle.maildir_drop.specs.declared.row.Outcome.TheVariants.{Failed}
 use Rattle.maildir_drop.specs.declared.row.Row.{Row}
 use Rattle.maildir_drop.specs.declared.row.Row.TheVariants as at
 use Rattle.maildir_drop.specs.declared.row.Why.{Why}
@@ -150,10 +150,7 @@ module _ (names : DropNames) (a : List ℕ) (q : Queue) (S : NamesSuit q) (place
             let its = it.there in
             let free = fits.free in
             absurd (cc)),
-        (
-          (h.0, record { placed = h.1.placed; there = put_at_other q.disk.names new number tmp (λ same. differ attempt (sym same)) ∙ h.1.there; made = h.1.made }),
-          (h.0, record { placed = (placed attempt).1; there = put_at_same q.disk.names new number ∙ h.1.there; made = h.1.made }),
-        ),
+        (h.0, record { placed = h.1.placed; there = put_at_other q.disk.names new number tmp (λ same. differ attempt (sym same)) ∙ h.1.there; made = h.1.made }),
       )
   at_link attempt h (answer.Refused reason) fits = (q.role, nothing a q, h)
   at_link attempt h told fits = absurd fits
@@ -174,19 +171,9 @@ module _ (names : DropNames) (a : List ℕ) (q : Queue) (S : NamesSuit q) (place
 
   at_unlink : (attempt : Attempt) (o : Outcome) → HasFile q a names (at.Unlink attempt o) → (told : Answer)
       → Fits q.disk (call.Unlink (pair_at names attempt).tmp) told wrote → Comes (call.Unlink (pair_at names attempt).tmp) told (at.Ended attempt o)
-  at_unlink attempt Dropped h answer.Done fits =
-      let tmp = (pair_at names attempt).tmp in
-      let new = (pair_at names attempt).new in
-      let it = h.1 in (
-        q.role,
-        unnamed attempt h.0.0 h.0.1,
-        (it.0, record { placed = it.1.placed; there = put_at_other q.disk.names tmp None new (differ attempt) ∙ it.1.there; made = it.1.made }),
-      )
-  at_unlink attempt Dropped h (answer.Refused reason) fits = (q.role, nothing a q, h.1)
-  at_unlink attempt Dropped h told fits = absurd fits
-  at_unlink attempt (Failed reason) h answer.Done fits = (q.role, unnamed attempt h.0 h.1, tt)
-  at_unlink attempt (Failed reason) h (answer.Refused refusal) fits = (q.role, nothing a q, tt)
-  at_unlink attempt (Failed reason) h told fits = absurd fits
+  at_unlink attempt o h answer.Done fits = (q.role, unnamed attempt h.0 h.1, tt)
+  at_unlink attempt o h (answer.Refused reason) fits = (q.role, nothing a q, tt)
+  at_unlink attempt o h told fits = absurd fits
 
   -- the call that is due is the row's
   by_due : (its c : CallData) (told : Answer) (row : Row) → ◌≡◌ {A = NeedData} (needs.File its) (needs.File c) → (Fits q.disk its told wrote → Comes its told row)

@@ -7,6 +7,7 @@ use Rattle.dot_qmail.specs.declared.choice.Chosen.{Chosen}
 use Rattle.dot_qmail.specs.declared.choice.Chosen.TheVariants as chosen
 use Rattle.dot_qmail.specs.declared.line.Line.{Line}
 use Rattle.dot_qmail.specs.Lines.{plan_of}
+use Rattle.dot_qmail.specs.Paths.{EndsInSlash, path_in}
 use Rattle.dot_qmail.proofs.Directories.{leads_slashed, maildir_slashed}
 use Rattle.local_deliver.specs.Carried.{of_choice, of_file, of_read}
 use Rattle.local_deliver.specs.Deeds.{FileText, read_of, told_names}
@@ -21,11 +22,14 @@ use Rattle.maildir_drop.specs.declared.names.DropNames.{DropNames}
 use Rattle.maildir_drop.specs.declared.row.Attempt.{Attempt}
 use Rattle.maildir_drop.specs.Names.{pair_at}
 use Rattle.maildir_drop.proofs.Drops.{Apart, apart}
-use Rattle.program_law.specs.Delivery.Names.{IsDropName}
-use Rattle.program_law.proofs.Delivery.Apart.{drop_names}
+use Rattle.program_law.specs.Delivery.Names.{IsDropName, IsTmpName}
+use Rattle.program_law.proofs.Delivery.Apart.{drop_names, tmp_names}
 
 abbrev pub ArePlaced : DropNames → Type 0
 ArePlaced names = (attempt : Attempt) → IsDropName (pair_at names attempt).tmp × IsDropName (pair_at names attempt).new
+
+abbrev pub AreInTmp : DropNames → Type 0
+AreInTmp names = (attempt : Attempt) → IsTmpName (pair_at names attempt).tmp
 
 -- the instructions are those of a text
 of_bytes : (args : LocalArgs) (bytes : List ℕ) (lines : List Line) → of_file args bytes ≡ Some lines → (text : List ℕ) × (plan_of text ≡ Some lines)
@@ -44,12 +48,20 @@ of_text args names None read lines e = absurd (cc)
 of_text args names (Some chosen.Default) read lines e = (default_text args, e)
 of_text args names (Some (chosen.File place)) read lines e = of_reading args (read (file_name args names place)) lines e
 
+slashed : (args : LocalArgs) (past : List Own) (d : Disk) (it : Drop) → (w : Writes args past d it) → EndsInSlash (path_in args.home w.path)
+slashed args past d it w =
+    let text = of_text args (told_names args.home past) (chosen_by args (told_names args.home past)) (λ name. read_of name past) w.lines w.told in
+    leads_slashed args.home w.path (maildir_slashed text.0 w.path w.lines text.1 w.line)
+
 pub placed : (args : LocalArgs) (past : List Own) (d : Disk) (it : Drop) → Writes args past d it → ArePlaced it.names
 placed args past d it w attempt =
-    let text = of_text args (told_names args.home past) (chosen_by args (told_names args.home past)) (λ name. read_of name past) w.lines w.told in
-    let slashed = leads_slashed args.home w.path (maildir_slashed text.0 w.path w.lines text.1 w.line) in
     let of : Arguments = drop_arguments args w.moment w.path w.host w.message in
-    subst (λ (n : DropNames). IsDropName (pair_at n attempt).tmp × IsDropName (pair_at n attempt).new) (sym w.names) (drop_names of attempt slashed)
+    subst (λ (n : DropNames). IsDropName (pair_at n attempt).tmp × IsDropName (pair_at n attempt).new) (sym w.names) (drop_names of attempt (slashed args past d it w))
+
+pub in_tmp : (args : LocalArgs) (past : List Own) (d : Disk) (it : Drop) → Writes args past d it → AreInTmp it.names
+in_tmp args past d it w attempt =
+    let of : Arguments = drop_arguments args w.moment w.path w.host w.message in
+    subst (λ (n : DropNames). IsTmpName (pair_at n attempt).tmp) (sym w.names) (tmp_names of attempt (slashed args past d it w))
 
 pub differ : (args : LocalArgs) (past : List Own) (d : Disk) (it : Drop) → Writes args past d it → Apart it.names
 differ args past d it w = subst Apart (sym w.names) (apart (drop_arguments args w.moment w.path w.host w.message))

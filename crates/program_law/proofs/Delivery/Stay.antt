@@ -6,8 +6,8 @@ use Rattle.queue_paths.specs.Names.{Name, path}
 use Rattle.queue_law.specs.Cleaners.{IsOnePart, LeavesButPid}
 use Rattle.queue_law.specs.Numbers.{Queue, Role}
 use Rattle.queue_law.specs.Steps.{IsForeignRole, LeavesOld, Outside}
-use Rattle.program_law.specs.Delivery.Names.{IsDropName}
-use Rattle.program_law.specs.Delivery.Leaves.{LeavesDrops}
+use Rattle.program_law.specs.Delivery.Names.{IsDropName, IsTmpName}
+use Rattle.program_law.specs.Delivery.Leaves.{LeavesDrops, LeavesTmp}
 use Rattle.program_law.specs.Delivery.Laws.{DropsStay}
 use Rattle.program_law.proofs.Delivery.Apart.{no_pid_name, no_queue_name}
 
@@ -40,5 +40,20 @@ same_stays a q r names files role = record {
   files = λ o name i other h. ap (λ (f : ℕ → File). f i) files;
 }
 
+-- of those in `tmp`
+
+pub tmp_left : (a : List ℕ) (q r : Queue) → LeavesDrops a q r → LeavesTmp a q r
+tmp_left a q r L = record { stays = λ o name i other _ h. L.stays o name i other h; files = λ o name i other _ h. L.files o name i other h }
+
+reader_leaves : (a : List ℕ) (q r : Queue) → ((name : List ℕ) → IsTmpName name → r.disk.names name ≡ q.disk.names name) → r.disk.files ≡ q.disk.files → r.role ≡ q.role → LeavesTmp a q r
+reader_leaves a q r names files role = record {
+  stays = λ o name i other t h. record {
+    placed = h.placed;
+    there = names name t ∙ h.there;
+    made = ap (λ (f : ℕ → Role). f i) role ∙ h.made;
+  };
+  files = λ o name i other t h. ap (λ (f : ℕ → File). f i) files;
+}
+
 pub drops_stay : DropsStay
-drops_stay = record { outside = outside_stays; but_pid = but_pid_stays; same = same_stays }
+drops_stay = record { outside = outside_stays; but_pid = but_pid_stays; same = same_stays; tmp = tmp_left; read = reader_leaves }

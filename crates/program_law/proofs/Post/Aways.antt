@@ -138,8 +138,8 @@ sweep_away : (row : SweepRow) (d : Desk) → IsAway (due_at (at.Sweep row) d)
 sweep_away sweep.First d = tt
 sweep_away (sweep.Next split) d = tt
 sweep_away (sweep.StatMess split n) d = tt
-sweep_away (sweep.StatInfo split n) d = tt
-sweep_away (sweep.StatTodo split n info) d = tt
+sweep_away (sweep.StatTodo split n) d = tt
+sweep_away (sweep.StatInfo split n todo) d = tt
 sweep_away (sweep.Give split n) d = tt
 sweep_away (sweep.Take split n) d = tt
 sweep_away sweep.Over d = tt

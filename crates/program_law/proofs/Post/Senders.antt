@@ -39,7 +39,7 @@ use Rattle.send_parts.specs.declared.reply.Way.{Way}
 use Rattle.send_parts.specs.declared.reply.Way.TheVariants as way
 use Rattle.send_parts.specs.declared.rows.StartRow.{StartRow}
 use Rattle.send_parts.specs.declared.rows.StartRow.TheVariants as start
-use Rattle.send_parts.specs.Files.{is_info, message_number}
+use Rattle.send_parts.specs.Files.{is_info, number_below}
 use Rattle.send_parts.specs.Readings.{read_on}
 use Rattle.send_parts.specs.Replies.{Said, said}
 use Rattle.send_links.specs.Requests.{first_text}
@@ -475,7 +475,7 @@ next_late true split = refl
 next_late false split = tt
 
 scanned_late : (w : Way) (text : List ℕ) (split : ℕ) (b : Book) → IsLate (start_at (scanned w text split b).row)
-scanned_late way.Fine name split b = scan_late (message_number name) split
+scanned_late way.Fine name split b = scan_late (number_below split name) split
 scanned_late way.Over name split b = next_late (nat_lt split 22) split
 scanned_late way.Absent name split b = tt
 scanned_late way.Broken name split b = tt

@@ -10,6 +10,7 @@ use Rattle.call_fs.specs.Disk.{Open as OpenFile}
 use Rattle.queue_paths.specs.Names.{Part}
 use Rattle.queue_paths.specs.Names.Name.{Of}
 use Rattle.queue_paths.specs.Names.Part.{Bounce, Info, Mess}
+use Rattle.queue_paths.specs.Parts.{in_todo}
 use Rattle.send_known.specs.declared.known.Known.{Known}
 use Rattle.send_known.specs.Known.{sender_of}
 use Rattle.send_parts.specs.declared.rows.FinishRow.{FinishRow}
@@ -93,10 +94,10 @@ module _ (now : ℕ) (a : List ℕ) (q r : Queue) where
   sweeps : (k : Option ℕ) → Spares now k q r → (row : SweepRow) (known : List Known) → ((n : ℕ) → number_in row ≡ Some n → k ≢ Some n)
       → SweepStands now q a row known → SweepStands now r a row known
   sweeps k S (sweep.StatMess split n) known far h = h
-  sweeps k S (sweep.StatInfo split n) known far h = (h.0, (S.closed n (far n refl) h.1.0, aged_spared now q r n (S.abouts n (far n refl) h.1.0) h.1.1))
-  sweeps k S (sweep.StatTodo split n info) known far h =
+  sweeps k S (sweep.StatTodo split n) known far h = (h.0, (S.closed n (far n refl) h.1.0, aged_spared now q r n (S.abouts n (far n refl) h.1.0) h.1.1))
+  sweeps k S (sweep.StatInfo split n todo) known far h =
       let same = S.abouts n (far n refl) h.1.0.0 in
-      (h.0, ((S.closed n (far n refl) h.1.0.0, aged_spared now q r n same h.1.0.1), λ none. ap (λ (w : About). w.parts Info) same ∙ h.1.1 none))
+      (h.0, ((S.closed n (far n refl) h.1.0.0, aged_spared now q r n same h.1.0.1), λ none. ap (λ (w : About). in_todo w.parts) same ∙ h.1.1 none))
   sweeps k S (sweep.Give split n) known far h = (h.0, (spent_spared now k q r S n (far n refl) h.1.0, aged_spared now q r n (S.abouts n (far n refl) h.1.0.closed) h.1.1))
   sweeps k S sweep.First known far h = tt
   sweeps k S (sweep.Next split) known far h = tt
@@ -118,8 +119,8 @@ module _ (now later : ℕ) (soon : now ≤ later) (q : Queue) (a : List ℕ) whe
 
   sweeps_later : (row : SweepRow) (known : List Known) → SweepStands now q a row known → SweepStands later q a row known
   sweeps_later (sweep.StatMess split n) known h = h
-  sweeps_later (sweep.StatInfo split n) known h = (h.0, (closed_later now later soon q n h.1.0, aged_later now later soon q n h.1.1))
-  sweeps_later (sweep.StatTodo split n info) known h = (h.0, ((closed_later now later soon q n h.1.0.0, aged_later now later soon q n h.1.0.1), h.1.1))
+  sweeps_later (sweep.StatTodo split n) known h = (h.0, (closed_later now later soon q n h.1.0, aged_later now later soon q n h.1.1))
+  sweeps_later (sweep.StatInfo split n todo) known h = (h.0, ((closed_later now later soon q n h.1.0.0, aged_later now later soon q n h.1.0.1), h.1.1))
   sweeps_later (sweep.Give split n) known h = (h.0, (spent_later now later soon q n h.1.0, aged_later now later soon q n h.1.1))
   sweeps_later sweep.First known h = tt
   sweeps_later (sweep.Next split) known h = tt

@@ -417,8 +417,8 @@ module _ (d : Desk) where
   sweep_asks_none sweep.First = tt
   sweep_asks_none (sweep.Next split) = tt
   sweep_asks_none (sweep.StatMess split n) = tt
-  sweep_asks_none (sweep.StatInfo split n) = tt
-  sweep_asks_none (sweep.StatTodo split n info) = tt
+  sweep_asks_none (sweep.StatTodo split n) = tt
+  sweep_asks_none (sweep.StatInfo split n todo) = tt
   sweep_asks_none (sweep.Give split n) = tt
   sweep_asks_none (sweep.Take split n) = tt
   sweep_asks_none sweep.Over = tt

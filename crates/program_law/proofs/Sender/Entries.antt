@@ -14,7 +14,8 @@ use Rattle.call_fs.proofs.Maps.{put_cases, put_same}
 use Rattle.envelope_records.specs.declared.channel.Record.{Record}
 use Rattle.queue_paths.specs.Names.{Part}
 use Rattle.queue_paths.specs.Names.Name.{Of}
-use Rattle.queue_paths.specs.Names.Part.{Bounce, Todo, Info}
+use Rattle.queue_paths.specs.Names.Part.{Bounce, Info}
+use Rattle.queue_paths.proofs.Parts.{todo_far, todo_same}
 use Rattle.send_core.specs.declared.desk.Desk.{Desk}
 use Rattle.send_parts.specs.declared.row.Row.TheVariants as at
 use Rattle.send_core.specs.Booked.{reported_all, reported_by, reported_if, reported_in, reported_when}
@@ -105,8 +106,16 @@ reported_grown (Some failure) l m ch place g h = g.failed (record { channel = ch
 module _ (q r : Queue) (g : Grows q r) where
   pub settled_grown : (n : ℕ) (h : IsSettledIn (about q n)) → (k : IsSettledIn (about r n)) × (k.injection.args ≡ h.injection.args)
   settled_grown n h =
-      let w = g.lives n h.injection h.lives in
-      (record { no_todo = g.looks Todo n (λ s. cc) ∙ h.no_todo; info = h.info; info_there = g.looks Info n (λ s. cc) ∙ h.info_there; injection = w.0; lives = w.1 }, w.2)
+      let w = g.lives n h.injection h.lives in (
+        record {
+          no_todo = todo_same (about q n).parts (about r n).parts (λ part is. g.looks part n (todo_far part Bounce is refl)) ∙ h.no_todo;
+          info = h.info;
+          info_there = g.looks Info n (λ s. cc) ∙ h.info_there;
+          injection = w.0;
+          lives = w.1;
+        },
+        w.2,
+      )
 
   pub known_grown : (k : Known) → IsKnown (about q k.n) k → IsKnown (about r k.n) k
   known_grown k h =

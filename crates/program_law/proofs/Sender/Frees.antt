@@ -419,8 +419,8 @@ sweep_goes (sweep.Take split n) e h = absurd h
 sweep_goes sweep.First e h = inl refl
 sweep_goes (sweep.Next split) e h = inl refl
 sweep_goes (sweep.StatMess split n) e h = inl refl
-sweep_goes (sweep.StatInfo split n) e h = inl refl
-sweep_goes (sweep.StatTodo split n info) e h = inl refl
+sweep_goes (sweep.StatTodo split n) e h = inl refl
+sweep_goes (sweep.StatInfo split n todo) e h = inl refl
 sweep_goes (sweep.Give split n) e h = inl refl
 
 row_by : (known : Bool) (split n : ℕ) → NoTaking (if known then sweep.Next split else sweep.StatMess split n)
@@ -442,7 +442,7 @@ swept_by way.Absent text split b = over_by (nat_lt split 22) split
 swept_by way.Broken text split b = over_by (nat_lt split 22) split
 swept_by way.NoMemory text split b = over_by (nat_lt split 22) split
 
-old_by : (old : Bool) (split n : ℕ) → NoTaking (if old then sweep.StatInfo split n else sweep.Next split)
+old_by : (old : Bool) (split n : ℕ) → NoTaking (if old then sweep.StatTodo split n else sweep.Next split)
 old_by true split n = tt
 old_by false split n = tt
 
@@ -454,12 +454,12 @@ sweep_leads sweep.First now w s b words h = swept_by w s.bytes 0 b
 sweep_leads (sweep.Next split) now w s b words h = swept_by w s.bytes split b
 sweep_leads (sweep.StatMess split n) now way.Fine s b words h = old_by (nat_lt (s.stat.moment + 129600) now) split n
 sweep_leads (sweep.StatMess split n) now w s b words h = tt
-sweep_leads (sweep.StatInfo split n) now way.Fine s b words h = tt
-sweep_leads (sweep.StatInfo split n) now way.Absent s b words h = tt
-sweep_leads (sweep.StatInfo split n) now w s b words h = tt
-sweep_leads (sweep.StatTodo split n true) now way.Absent s b words h = tt
-sweep_leads (sweep.StatTodo split n false) now way.Absent s b words h = tt
-sweep_leads (sweep.StatTodo split n info) now w s b words h = tt
+sweep_leads (sweep.StatTodo split n) now way.Fine s b words h = tt
+sweep_leads (sweep.StatTodo split n) now way.Absent s b words h = tt
+sweep_leads (sweep.StatTodo split n) now w s b words h = tt
+sweep_leads (sweep.StatInfo split n true) now way.Absent s b words h = tt
+sweep_leads (sweep.StatInfo split n false) now way.Absent s b words h = tt
+sweep_leads (sweep.StatInfo split n todo) now w s b words h = tt
 sweep_leads (sweep.Give split n) now w s b words h = absurd (h (remove_text n) refl)
 sweep_leads (sweep.Take split n) now way.Fine s b words h = tt
 sweep_leads (sweep.Take split n) now w s b words h = tt

@@ -20,7 +20,9 @@ use Rattle.call_fs.specs.Disk.{Among, Disk}
 use Rattle.envelope_records.specs.declared.channel.Record.{Record}
 use Rattle.queue_paths.specs.Names.{Name, Part, name_of, path}
 use Rattle.queue_paths.specs.Names.Name.{Of}
-use Rattle.queue_paths.specs.Names.Part.{Todo, Info, Local as LocalFile, Remote as RemoteFile}
+use Rattle.queue_paths.specs.Names.Part.{Info, Local as LocalFile, Remote as RemoteFile}
+use Rattle.queue_paths.specs.Parts.{is_todo}
+use Rattle.queue_paths.proofs.Parts.{todo_apart, todo_same}
 use Rattle.retry_schedule.specs.Due.{removed}
 use Rattle.retry_schedule.proofs.Entries.{in_removed}
 use Rattle.send_core.specs.declared.desk.Desk.{Desk}
@@ -114,9 +116,10 @@ lane_name Remote n = refl
 pub other_number : (c : Channel) (n k : ℕ) (part : Part) → k ≢ n → Of part k ≢ Of (lane_part c) n
 other_number c n k part far e = far (cc)
 
-pub todo_apart : (c : Channel) (n k : ℕ) → Of Todo k ≢ Of (lane_part c) n
-todo_apart Local n k e = absurd (cc)
-todo_apart Remote n k e = absurd (cc)
+-- a name in todo is no channel's file
+pub not_lane : (c : Channel) (part : Part) (n k : ℕ) → is_todo part ≡ true → Of part k ≢ Of (lane_part c) n
+not_lane Local part n k is = todo_apart part k (Of (lane_part Local) n) is refl
+not_lane Remote part n k is = todo_apart part k (Of (lane_part Remote) n) is refl
 
 pub info_apart : (c : Channel) (n k : ℕ) → Of Info k ≢ Of (lane_part c) n
 info_apart Local n k e = absurd (cc)
@@ -140,7 +143,7 @@ module _ (q r : Queue) (c : Channel) (n : ℕ) (books : r.books ≡ q.books) (go
   settled_still : (k : ℕ) (h : IsSettledIn (about q k)) → (s : IsSettledIn (about r k)) × (s.injection.args ≡ h.injection.args)
   settled_still k h = (
     record {
-      no_todo = others (Of Todo k) (todo_apart c n k) ∙ h.no_todo;
+      no_todo = todo_same (about q k).parts (about r k).parts (λ part is. others (Of part k) (not_lane c part n k is)) ∙ h.no_todo;
       info = h.info;
       info_there = others (Of Info k) (info_apart c n k) ∙ h.info_there;
       injection = h.injection;

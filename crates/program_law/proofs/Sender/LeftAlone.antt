@@ -7,6 +7,7 @@ use Rattle.send_core.specs.declared.desk.Desk.{Desk}
 use Rattle.send_parts.specs.declared.row.Row.{Row}
 use Rattle.send_parts.specs.declared.row.Row.TheVariants as at
 use Rattle.send_jobs.specs.declared.slots.Slots.{Slots}
+use Rattle.send_known.specs.declared.channel.Channel.{Channel}
 use Rattle.send_known.specs.declared.known.Known.{Known}
 use Rattle.send_parts.specs.declared.book.Book.{Book}
 use Rattle.send_parts.specs.declared.rows.FinishRow.{FinishRow}
@@ -21,7 +22,7 @@ use Rattle.program_law.specs.Sender.InTodo.{PassGoesOn, TodoStands}
 use Rattle.program_law.specs.Sender.Knows.{IsRemoved, Knows}
 use Rattle.program_law.specs.Sender.Knows.Knows.{Stays, Leaves}
 use Rattle.program_law.specs.Sender.Rows.{FinishStands, IsIdle, RowStands, Works, works}
-use Rattle.program_law.specs.Sender.Stands.{KnowsAll, SenderStands, SparesSorted}
+use Rattle.program_law.specs.Sender.Stands.{KnowsAll, LaneStands, SenderStands, SparesSorted}
 use Rattle.program_law.proofs.Sender.Others.{knows_kept, lanes_kept, rests_kept, same_about}
 use Rattle.program_law.specs.Sender.LeftAlone.{LeavesPass, LeavesRow, SendersAreLeftAlone}
 use Rattle.program_law.proofs.Sender.Alone.{points_are_left_alone}
@@ -72,20 +73,20 @@ module _ (controls : Controls) (now : ℕ) (a o : List ℕ) (m k : Option ℕ) (
   finish_left finish.Over n p known l knows h = tt
   finish_left finish.Lost n p known l knows h = tt
 
-  row_left : (row : Row) (b : Book) (s : Slots) (p : Works) → LeavesRow row p.pass k q r → KnowsAll q row b.messages → RowStands controls now q a row b s p
-      → RowStands controls now r a row b s p
-  row_left at.InTodo b s p l knows h = (h.0, (h.1.0, todo_left p.pass.row p.pass l h.1.1))
-  row_left (at.Finish row n) b s p l knows h = (h.0, finish_left row n p b.messages.known l knows.known h.1)
-  row_left (at.Sweep row) b s p l knows h = (h.0, points_are_left_alone.sweeps now a k q r S row b.messages.known l h.1)
-  row_left (at.Start row) b s p l knows h = rests_kept controls now a o m q r E far spares (at.Start row) b s p tt h
-  row_left (at.Turn point) b s p l knows h = rests_kept controls now a o m q r E far spares (at.Turn point) b s p tt h
-  row_left (at.TakeLink ch) b s p l knows h = rests_kept controls now a o m q r E far spares (at.TakeLink ch) b s p tt h
-  row_left (at.Mark row mark) b s p l knows h = rests_kept controls now a o m q r E far spares (at.Mark row mark) b s p tt h
-  row_left (at.UnlinkFile ch n point) b s p l knows h = rests_kept controls now a o m q r E far spares (at.UnlinkFile ch n point) b s p tt h
-  row_left (at.ReadFile ch n begun g) b s p l knows h = rests_kept controls now a o m q r E far spares (at.ReadFile ch n begun g) b s p tt h
-  row_left (at.Request ch) b s p l knows h = rests_kept controls now a o m q r E far spares (at.Request ch) b s p tt h
-  row_left (at.FindTodo search) b s p l knows h = rests_kept controls now a o m q r E far spares (at.FindTodo search) b s p tt h
-  row_left (at.Ended status) b s p l knows h = tt
+  row_left : (row : Row) (b : Book) (s : Slots) (p : Works) → LeavesRow row p.pass k q r → KnowsAll q row b.messages → ((ch : Channel) → LaneStands q row ch s)
+      → RowStands controls now q a row b s p → RowStands controls now r a row b s p
+  row_left at.InTodo b s p l knows lanes h = (h.0, (h.1.0, todo_left p.pass.row p.pass l h.1.1))
+  row_left (at.Finish row n) b s p l knows lanes h = (h.0, finish_left row n p b.messages.known l knows.known h.1)
+  row_left (at.Sweep row) b s p l knows lanes h = (h.0, points_are_left_alone.sweeps now a k q r S row b.messages.known l h.1)
+  row_left (at.Start row) b s p l knows lanes h = rests_kept controls now a o m q r E far spares (at.Start row) b s p tt lanes h
+  row_left (at.Turn point) b s p l knows lanes h = rests_kept controls now a o m q r E far spares (at.Turn point) b s p tt lanes h
+  row_left (at.TakeLink ch) b s p l knows lanes h = rests_kept controls now a o m q r E far spares (at.TakeLink ch) b s p tt lanes h
+  row_left (at.Mark row mark) b s p l knows lanes h = rests_kept controls now a o m q r E far spares (at.Mark row mark) b s p tt lanes h
+  row_left (at.UnlinkFile ch n point) b s p l knows lanes h = rests_kept controls now a o m q r E far spares (at.UnlinkFile ch n point) b s p tt lanes h
+  row_left (at.ReadFile ch n begun g) b s p l knows lanes h = rests_kept controls now a o m q r E far spares (at.ReadFile ch n begun g) b s p tt lanes h
+  row_left (at.Request ch) b s p l knows lanes h = rests_kept controls now a o m q r E far spares (at.Request ch) b s p tt lanes h
+  row_left (at.FindTodo search) b s p l knows lanes h = rests_kept controls now a o m q r E far spares (at.FindTodo search) b s p tt lanes h
+  row_left (at.Ended status) b s p l knows lanes h = tt
 
   left : (d : Desk) → LeavesRow d.row d.pass k q r → SenderStands controls now q a d → SenderStands controls now r a d
   left d l h = record {
@@ -93,7 +94,7 @@ module _ (controls : Controls) (now : ℕ) (a o : List ℕ) (m k : Option ℕ) (
     lanes = λ ch. lanes_kept q r d.row ch d.slots spares (h.lanes ch);
     apart = h.apart;
     controls_are = h.controls_are;
-    rests = row_left d.row d.book d.slots (works d) l h.knows h.rests;
+    rests = row_left d.row d.book d.slots (works d) l h.knows h.lanes h.rests;
   }
 
 -- Time

@@ -31,7 +31,8 @@ use Rattle.call_fs.specs.Disk.{Among, File, Open as OpenFile}
 use Rattle.envelope_records.specs.declared.channel.Record.{Record}
 use Rattle.queue_paths.specs.Names.{path}
 use Rattle.queue_paths.specs.Names.Name.{Of}
-use Rattle.queue_paths.specs.Names.Part.{Bounce, Info, Todo}
+use Rattle.queue_paths.specs.Names.Part.{Bounce, Info}
+use Rattle.queue_paths.proofs.Parts.{todo_far, todo_same}
 use Rattle.send_core.specs.declared.desk.Desk.{Desk}
 use Rattle.send_parts.specs.declared.row.MarkRow.{MarkRow}
 use Rattle.send_parts.specs.declared.row.MarkRow.TheVariants as mark
@@ -223,7 +224,7 @@ module _ (controls : Controls) (now : ℕ) (q : Queue) (a : List ℕ) (G : Sound
   -- so its number stays preprocessed
   settled_but : (r : Queue) → OthersStay q r m.n → IsSettledIn (about q m.n) → (i : Injection) → r.books.living m.n ≡ Some i → IsSettledIn (about r m.n)
   settled_but r others s i lives = record {
-    no_todo = others Todo (λ e. cc) ∙ s.no_todo;
+    no_todo = todo_same (about q m.n).parts (about r m.n).parts (λ part is. others part (todo_far part Bounce is refl)) ∙ s.no_todo;
     info = s.info;
     info_there = others Info (λ e. cc) ∙ s.info_there;
     injection = i;

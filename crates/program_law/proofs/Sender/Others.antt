@@ -1,5 +1,5 @@
 -- What a step of another actor leaves to a sender.
-use Rattle.std.proofs.Common.{◌≡◌, ◌≢◌, ℕ, ◌≤◌, List, true, Option, Some, None, refl, sym, ap, ◌∙◌, subst, arith}
+use Rattle.std.proofs.Common.{◌≡◌, ◌≢◌, ℕ, ◌≤◌, List, Bool, true, false, Option, Some, None, refl, sym, ap, ◌∙◌, subst, arith}
 use Rattle.std.specs.Prelude.{Contains, IsSome}
 use Rattle.std.proofs.lemmas.List.Elements.{All-weaker}
 use Rattle.address_rules.specs.declared.controls.Controls.{Controls}
@@ -15,6 +15,7 @@ use Rattle.queue_paths.specs.Names.Part.{Bounce, Info, Local as LocalFile}
 use Rattle.send_parts.specs.declared.row.MarkRow.{MarkRow}
 use Rattle.send_parts.specs.declared.row.MarkRow.TheVariants as mark
 use Rattle.send_parts.specs.declared.row.Marked.{Marked}
+use Rattle.send_core.specs.Agrees.{is_same}
 use Rattle.send_core.specs.Turn.{told_report}
 use Rattle.send_parts.specs.declared.row.Row.{Row}
 use Rattle.send_parts.specs.declared.row.Row.TheVariants as at
@@ -36,22 +37,19 @@ use Rattle.send_parts.specs.declared.rows.StartRow.TheVariants as start
 use Rattle.program_law.specs.Channel.Tied.{in_hand, is_mark_at, waiting}
 use Rattle.program_law.proofs.Channel.Counts.{all_where, contained_counts}
 use Rattle.program_law.proofs.Channel.Ties.{at_itself, others_kept}
-use Rattle.queue_law.specs.Numbers.{Queue, look, About, about, is_later}
+use Rattle.queue_law.specs.Numbers.{Queue, look, About, about}
 use Rattle.queue_law.specs.Bouncing.{HoldsBounce}
 use Rattle.queue_law.specs.Injectors.{IsHeld}
 use Rattle.queue_law.specs.Passes.{HasOpen}
 use Rattle.queue_law.specs.Routes.{lane_part}
 use Rattle.queue_law.specs.Steps.{Elsewhere}
-use Rattle.program_law.specs.Sender.Views.{files_of, first_at, records_at}
+use Rattle.program_law.specs.Sender.Views.{files_of, first_at, first_if, records_at}
 use Rattle.program_law.specs.Sender.Knows.{IsDoneIn, IsSettledIn, IsEntered, IsKnown, IsThereIf, Knows, Serves}
 use Rattle.program_law.specs.Sender.Knows.Knows.{Stays, Leaves}
-use Rattle.program_law.specs.Sender.Rows.{HasFile, HasText, IsFound, IsLearned, MarkHolds, NamesNoted, NoteHolds, Reads, ReadsOther, RowStands, StartStands, Works, noted_name}
+use Rattle.program_law.specs.Sender.Rows.{HasFile, HasText, IsFirstMark, IsLearned, MarkHolds, NamesNoted, NoteHolds, Reads, ReadsOther, RowStands, StartStands, Works, noted_name}
 use Rattle.program_law.specs.Sender.Stands.{KnowsAll, LaneStands, SparesSorted}
 use Rattle.program_law.specs.Sender.Laws.{IsAmongSorted}
-
-pub lane_later : (ch : Channel) → is_later (lane_part ch) ≡ true
-lane_later Local = refl
-lane_later Remote = refl
+use Rattle.program_law.proofs.Sender.Heads.{first_in}
 
 -- there is a job, if there is one of some kind
 pub the_job : (o : Option Job) → IsSome o → (job : Job) × (o ≡ Some job)
@@ -69,6 +67,18 @@ mark_has_job q row ch s l m w =
     let job = the_job (job_of n (lane ch s).jobs) (l.tied.owned n place held) in
     l.jobs n job.0 job.1
 
+-- and so has that of the mark at work, which is preprocessed, while its note is written
+unmarked : (same : Bool) (marks : List Mark) → waiting (first_if same mark.Noting) marks ≡ marks
+unmarked true marks = refl
+unmarked false marks = refl
+
+noting_serves : (q : Queue) (m : Marked) (s : Slots) → LaneStands q (at.Mark mark.Noting m) m.channel s → IsFirstMark m s → IsSettledIn (about q m.n)
+noting_serves q m s l f =
+    let marks = (lane m.channel s).marks in
+    let there : Contains (waiting (first_at (at.Mark mark.Noting m) m.channel) marks) f.first
+    = subst (λ (all : List Mark). Contains all f.first) (sym (unmarked (is_same m.channel m.channel) marks)) (first_in marks f.first f.there) in
+    subst (λ n. IsSettledIn (about q n)) f.number (mark_has_job q (at.Mark mark.Noting m) m.channel s l f.first there).sorted
+
 module _ (q r : Queue) (spares : SparesSorted q r) where
   pub same_about : (n : ℕ) → IsSettledIn (about q n) → about r n ≡ about q n
   same_about n h = spares.sorted n h.no_todo h.info h.info_there
@@ -83,32 +93,30 @@ module _ (q r : Queue) (spares : SparesSorted q r) where
   known_kept row k (Stays h) = Stays (subst (λ (w : About). IsKnown w k) (sym (same_about k.n h.sorted)) h)
   known_kept row k (Leaves h) = Leaves h
 
-  same_look : (part : Part) (n : ℕ) → is_later part ≡ true → look r (Of part n) ≡ look q (Of part n)
-  same_look part n e = spares.later part n e
+  -- the files of a preprocessed number
+  same_look : (part : Part) (n : ℕ) → IsSettledIn (about q n) → look r (Of part n) ≡ look q (Of part n)
+  same_look part n s = ap (λ (w : About). w.parts part) (same_about n s)
 
-  abbrev file_kept : (a : List ℕ) (part : Part) (n : ℕ) (h : How) (fd : ℕ) → is_later part ≡ true
+  abbrev file_kept : (a : List ℕ) (part : Part) (n : ℕ) (h : How) (fd : ℕ) → IsSettledIn (about q n)
       → ((o : OpenFile) → IsHeld q.disk.opens q.holder a fd o → IsHeld r.disk.opens r.holder a fd o)
       → HasFile q a part n h fd → HasFile r a part n h fd
-  file_kept a part n h fd e opens f = record { file = f.file; there = same_look part n e ∙ f.there; opened = opens _ f.opened }
+  file_kept a part n h fd s opens f = record { file = f.file; there = same_look part n s ∙ f.there; opened = opens _ f.opened }
 
-  text_kept : (part : Part) (n : ℕ) (read : List ℕ) → is_later part ≡ true → HasText q part n read → HasText r part n read
-  text_kept part n read e t = record { file = t.file; there = same_look part n e ∙ t.there; text = t.text }
-
-  found_kept : (n : ℕ) → IsFound q n → IsFound r n
-  found_kept n f there = settled_kept n (f (λ none. there (same_look Info n refl ∙ none)))
+  text_kept : (part : Part) (n : ℕ) (read : List ℕ) → IsSettledIn (about q n) → HasText q part n read → HasText r part n read
+  text_kept part n read s t = record { file = t.file; there = same_look part n s ∙ t.there; text = t.text }
 
   learned_kept : (n : ℕ) (read : List ℕ) → IsLearned q n read → IsLearned r n read
-  learned_kept n read l = record { sorted = settled_kept n l.sorted; text = text_kept Info n read refl l.text }
+  learned_kept n read l = record { sorted = settled_kept n l.sorted; text = text_kept Info n read l.sorted l.text }
 
   module _ (a : List ℕ) (opens : (fd : ℕ) (o : OpenFile) → IsHeld q.disk.opens q.holder a fd o → IsHeld r.disk.opens r.holder a fd o) where
     open_kept : (fd : ℕ) → HasOpen q a fd → HasOpen r a fd
     open_kept fd h = (h.0, opens fd h.0 h.1)
 
-    reads_kept : (part : Part) (n : ℕ) (g : Reading) (read : List ℕ) → is_later part ≡ true → Reads q a part n g read → Reads r a part n g read
-    reads_kept part n reading.Opening read e h = tt
-    reads_kept part n (reading.Going fd) read e h = record { held = file_kept a part n how.Read fd.0 e (opens fd.0) h.held; begins = h.begins }
-    reads_kept part n (reading.Closing fd) read e h = (open_kept fd.0 h.0, text_kept part n read e h.1)
-    reads_kept part n (reading.Shutting fd) read e h = open_kept fd.0 h
+    reads_kept : (part : Part) (n : ℕ) (g : Reading) (read : List ℕ) → IsSettledIn (about q n) → Reads q a part n g read → Reads r a part n g read
+    reads_kept part n reading.Opening read s h = tt
+    reads_kept part n (reading.Going fd) read s h = record { held = file_kept a part n how.Read fd.0 s (opens fd.0) h.held; begins = h.begins }
+    reads_kept part n (reading.Closing fd) read s h = (open_kept fd.0 h.0, text_kept part n read s h.1)
+    reads_kept part n (reading.Shutting fd) read s h = open_kept fd.0 h
 
     other_kept : (g : Reading) → ReadsOther q a g → ReadsOther r a g
     other_kept reading.Opening h = tt
@@ -121,16 +129,16 @@ module _ (q r : Queue) (spares : SparesSorted q r) where
     start_kept start.GreetLocal read h = tt
     start_kept (start.GreetRemote limit) read h = tt
     start_kept (start.Scan split) read h = tt
-    start_kept (start.StatTodo split n) read h = tt
-    start_kept (start.ReadInfo split n g) read h = (found_kept n h.0, reads_kept Info n g read refl h.1)
+    start_kept (start.StatTodo split n) read h = spares.taken_up n h
+    start_kept (start.ReadInfo split n g) read h = (settled_kept n h.0, reads_kept Info n g read h.0 h.1)
     start_kept (start.StatInfo split n) read h = learned_kept n read h
     start_kept (start.StatLocal split n birth) read h = learned_kept n read h
-    start_kept (start.StatRemote split n birth local) read h = (learned_kept n read h.0, subst (IsThereIf local) (sym (same_look LocalFile n refl)) h.1)
+    start_kept (start.StatRemote split n birth local) read h = (learned_kept n read h.0, subst (IsThereIf local) (sym (same_look LocalFile n h.0.sorted)) h.1)
     start_kept start.Over read h = tt
     start_kept (start.Ended status) read h = tt
 
-    bounce_kept : (n fd : ℕ) → HoldsBounce q a n fd → HoldsBounce r a n fd
-    bounce_kept n fd h = record { file = h.file; there = same_look Bounce n refl ∙ h.there; mode = h.mode; opened = opens fd (record { number = h.file.number; mode = h.mode }) h.opened }
+    bounce_kept : (n fd : ℕ) → IsSettledIn (about q n) → HoldsBounce q a n fd → HoldsBounce r a n fd
+    bounce_kept n fd s h = record { file = h.file; there = same_look Bounce n s ∙ h.there; mode = h.mode; opened = opens fd (record { number = h.file.number; mode = h.mode }) h.opened }
 
     done_kept : (n : ℕ) (ch : Channel) (place : ℕ) → IsDoneIn (about q n) ch place → IsDoneIn (about r n) ch place
     done_kept n ch place h = subst (λ (w : About). IsDoneIn w ch place) (sym (same_about n h.sorted)) h
@@ -139,41 +147,46 @@ module _ (q r : Queue) (spares : SparesSorted q r) where
       names_kept : (n : ℕ) (bytes : List ℕ) → NamesNoted controls (about q n) bytes → NamesNoted controls (about r n) bytes
       names_kept n bytes h = subst (λ (w : About). NamesNoted controls w bytes) (sym (same_about n h.sorted)) h
 
-      note_kept : (row : NoteRow) (m : Marked) (name report text : List ℕ) → NoteHolds controls q a row m name report text → NoteHolds controls r a row m name report text
+      note_kept : (row : NoteRow) (m : Marked) (name report text : List ℕ) → IsSettledIn (about q m.n) → NoteHolds controls q a row m name report text
+          → NoteHolds controls r a row m name report text
       unfolding bounce_kept
-      note_kept written.Open m name report text h = absurd h
-      note_kept written.Create m name report text h = tt
-      note_kept (written.Stat fd) m name report text h = bounce_kept m.n fd.0 h
-      note_kept (written.Read fd place len) m name report text h = record { held = bounce_kept m.n fd.0 h.held; some = h.some; place_is = h.place_is; len_is = h.len_is }
-      note_kept (written.Append fd done) m name report text h = record { held = bounce_kept m.n fd.0 h.held; base = h.base; names = names_kept m.n h.base h.names; rest = h.rest }
-      note_kept (written.Sync fd) m name report text h = record { held = bounce_kept m.n fd.0 h.held; base = h.base; names = names_kept m.n h.base h.names; bytes = h.bytes }
-      note_kept (written.Close fd) m name report text h = (open_kept fd.0 h.0, done_kept m.n m.channel m.place h.1)
-      note_kept (written.Shut fd) m name report text h = open_kept fd.0 h
-      note_kept written.Written m name report text h = absurd h
-      note_kept written.Failed m name report text h = absurd h
+      note_kept written.Open m name report text s h = absurd h
+      note_kept written.Create m name report text s h = tt
+      note_kept (written.Stat fd) m name report text s h = bounce_kept m.n fd.0 s h
+      note_kept (written.Read fd place len) m name report text s h = record { held = bounce_kept m.n fd.0 s h.held; some = h.some; place_is = h.place_is; len_is = h.len_is }
+      note_kept (written.Append fd done) m name report text s h =
+          record { held = bounce_kept m.n fd.0 s h.held; base = h.base; names = names_kept m.n h.base h.names; rest = h.rest }
+      note_kept (written.Sync fd) m name report text s h =
+          record { held = bounce_kept m.n fd.0 s h.held; base = h.base; names = names_kept m.n h.base h.names; bytes = h.bytes }
+      note_kept (written.Close fd) m name report text s h = (open_kept fd.0 h.0, done_kept m.n m.channel m.place h.1)
+      note_kept (written.Shut fd) m name report text s h = open_kept fd.0 h
+      note_kept written.Written m name report text s h = absurd h
+      note_kept written.Failed m name report text s h = absurd h
 
-      mark_kept : (row : MarkRow) (m : Marked) (s : Slots) (w : Writing) → MarkHolds controls q a row m s w → MarkHolds controls r a row m s w
-      mark_kept mark.Note m s w h = h
-      mark_kept mark.Noting m s w h = record { of = h.of; holds = note_kept w.row m (noted_name controls h.of.first) (told_report (Some h.of.failure)) w.text h.holds }
-      mark_kept mark.Open m s w h = done_kept m.n m.channel m.place h
-      mark_kept (mark.Write fd) m s w h = (file_kept a (lane_part m.channel) m.n how.Write fd.0 (lane_later m.channel) (opens fd.0) h.0, done_kept m.n m.channel m.place h.1)
-      mark_kept (mark.Close fd written) m s w h = open_kept fd.0 h
+      mark_kept : (row : MarkRow) (m : Marked) (s : Slots) (w : Writing) → (row ≡ mark.Noting → IsSettledIn (about q m.n)) → MarkHolds controls q a row m s w
+          → MarkHolds controls r a row m s w
+      mark_kept mark.Note m s w sorted h = h
+      mark_kept mark.Noting m s w sorted h =
+          record { of = h.of; holds = note_kept w.row m (noted_name controls h.of.first) (told_report (Some h.of.failure)) w.text (sorted refl) h.holds }
+      mark_kept mark.Open m s w sorted h = done_kept m.n m.channel m.place h
+      mark_kept (mark.Write fd) m s w sorted h = (file_kept a (lane_part m.channel) m.n how.Write fd.0 h.1.sorted (opens fd.0) h.0, done_kept m.n m.channel m.place h.1)
+      mark_kept (mark.Close fd written) m s w sorted h = open_kept fd.0 h
 
-    row_kept : (controls : Controls) (now : ℕ) (row : Row) (b : Book) (s : Slots) (p : Works) → IsAmongSorted row → RowStands controls now q a row b s p
-        → RowStands controls now r a row b s p
-    row_kept controls now (at.Start row) b s p among h = (h.0, (h.1.0, start_kept row b.read h.1.1))
-    row_kept controls now (at.Turn point) b s p among h = h
-    row_kept controls now (at.TakeLink ch) b s p among h = tt
-    row_kept controls now (at.Mark row m) b s p among h = (h.0, mark_kept controls row m s p.note h.1)
-    row_kept controls now (at.UnlinkFile ch n point) b s p among h = h
-    row_kept controls now (at.ReadFile ch n begun g) b s p among h =
-        (h.0, (h.1.0, (serves_kept n ch h.1.1.0, reads_kept (lane_part ch) n g b.read (lane_later ch) h.1.1.1)))
-    row_kept controls now (at.Request ch) b s p among h = h
-    row_kept controls now (at.FindTodo search) b s p among h = h
-    row_kept controls now at.InTodo b s p among h = absurd among
-    row_kept controls now (at.Finish row n) b s p among h = absurd among
-    row_kept controls now (at.Sweep row) b s p among h = absurd among
-    row_kept controls now (at.Ended status) b s p among h = tt
+    row_kept : (controls : Controls) (now : ℕ) (row : Row) (b : Book) (s : Slots) (p : Works) → IsAmongSorted row → ((ch : Channel) → LaneStands q row ch s)
+        → RowStands controls now q a row b s p → RowStands controls now r a row b s p
+    row_kept controls now (at.Start row) b s p among lanes h = (h.0, (h.1.0, start_kept row b.read h.1.1))
+    row_kept controls now (at.Turn point) b s p among lanes h = h
+    row_kept controls now (at.TakeLink ch) b s p among lanes h = tt
+    row_kept controls now (at.Mark row m) b s p among lanes h = (h.0, mark_kept controls row m s p.note (λ noting. noting_serves q m s (subst (λ (z : MarkRow). LaneStands q (at.Mark z m) m.channel s) noting (lanes m.channel)) h.0) h.1)
+    row_kept controls now (at.UnlinkFile ch n point) b s p among lanes h = h
+    row_kept controls now (at.ReadFile ch n begun g) b s p among lanes h =
+        (h.0, (h.1.0, (serves_kept n ch h.1.1.0, reads_kept (lane_part ch) n g b.read h.1.1.0.sorted h.1.1.1)))
+    row_kept controls now (at.Request ch) b s p among lanes h = h
+    row_kept controls now (at.FindTodo search) b s p among lanes h = h
+    row_kept controls now at.InTodo b s p among lanes h = absurd among
+    row_kept controls now (at.Finish row n) b s p among lanes h = absurd among
+    row_kept controls now (at.Sweep row) b s p among lanes h = absurd among
+    row_kept controls now (at.Ended status) b s p among lanes h = tt
 
 pub knows_kept : (q r : Queue) (row : Row) (m : Messages) → SparesSorted q r → KnowsAll q row m → KnowsAll r row m
 knows_kept q r row m spares h = record {
@@ -183,7 +196,7 @@ knows_kept q r row m spares h = record {
 
 pub lanes_kept : (q r : Queue) (row : Row) (ch : Channel) (s : Slots) → SparesSorted q r → LaneStands q row ch s → LaneStands r row ch s
 lanes_kept q r row ch s spares h = record {
-  tied = others_kept (files_of q ch) (files_of r ch) (first_at row ch) (lane ch s) h.tied (λ n _. ap records_at (same_look q r spares (lane_part ch) n (lane_later ch)));
+  tied = others_kept (files_of q ch) (files_of r ch) (first_at row ch) (lane ch s) h.tied (λ n some. let job = the_job (job_of n (lane ch s).jobs) some in ap records_at (same_look q r spares (lane_part ch) n (h.jobs n job.0 job.1).sorted));
   jobs = λ n job e. serves_kept q r spares n ch (h.jobs n job e);
   marks = all_where (λ (m : Mark). IsEntered (about q m.attempt.n) ch m) (λ (m : Mark). IsEntered (about r m.attempt.n) ch m)
       (waiting (first_at row ch) (lane ch s).marks)
@@ -192,6 +205,7 @@ lanes_kept q r row ch s spares h = record {
 }
 
 pub rests_kept : (controls : Controls) (now : ℕ) (a o : List ℕ) (m : Option ℕ) (q r : Queue) → Elsewhere now o m q r → a ≢ o → SparesSorted q r
-    → (row : Row) (b : Book) (s : Slots) (p : Works) → IsAmongSorted row → RowStands controls now q a row b s p → RowStands controls now r a row b s p
-rests_kept controls now a o m q r E far spares row b s p among h =
-    row_kept q r spares a (λ fd how held. E.opens a fd how far held) controls now row b s p among h
+    → (row : Row) (b : Book) (s : Slots) (p : Works) → IsAmongSorted row → ((ch : Channel) → LaneStands q row ch s) → RowStands controls now q a row b s p
+    → RowStands controls now r a row b s p
+rests_kept controls now a o m q r E far spares row b s p among lanes h =
+    row_kept q r spares a (λ fd how held. E.opens a fd how far held) controls now row b s p among lanes h

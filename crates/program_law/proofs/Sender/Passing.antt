@@ -18,6 +18,7 @@ use Rattle.mail_bytes.proofs.Digits.{number_of_some}
 use Rattle.queue_paths.specs.Names.{Part as FilePart, path}
 use Rattle.queue_paths.specs.Names.Name.{Of}
 use Rattle.queue_paths.specs.Names.Part.{Todo, Info, Local, Remote}
+use Rattle.queue_paths.proofs.Parts.{todo_alone}
 use Rattle.send_known.specs.declared.channel.Channel.{Channel}
 use Rattle.send_known.specs.declared.channel.Channel.TheVariants as channel
 use Rattle.send_parts.specs.declared.dir.Dir.TheVariants as dir
@@ -105,11 +106,11 @@ from_read : (low : Bool) (m n : ℕ) → ◌≡◌ {A = Option ℕ} (if low then
 from_read true m n is = cc
 from_read false m n is = absurd (cc)
 
-number_read : (o : Option ℕ) (n : ℕ) → from_one o ≡ Some n → o ≡ Some n
+pub number_read : (o : Option ℕ) (n : ℕ) → from_one o ≡ Some n → o ≡ Some n
 number_read None n is = absurd (cc)
 number_read (Some m) n is = ap Some (from_read (nat_le 1 m) m n is)
 
-some_of : {A : Type 0} (o : Option A) → IsSome o → (x : A) × (o ≡ Some x)
+pub some_of : {A : Type 0} (o : Option A) → IsSome o → (x : A) × (o ≡ Some x)
 some_of None h = absurd (cc)
 some_of (Some x) h = (x, refl)
 
@@ -130,7 +131,7 @@ search_begins controls now q a read after text wrote n G fits number =
       first = q.disk;
       leads = nothing_else n (pass_after controls n []).row q.disk;
       stands = record {
-        rests = λ holds. rests_begin.queued controls now q n (entry q.disk.files w.0) G (find_some q.disk.names q.disk.files (Of Todo n) w.0 w.1);
+        rests = λ holds. rests_begin.queued controls now q n (entry q.disk.files w.0) G (todo_alone (about q n).parts ∙ find_some q.disk.names q.disk.files (Of Todo n) w.0 w.1);
         holds = tt;
       };
     }

@@ -51,7 +51,7 @@ use Rattle.send_parts.specs.declared.rows.StartRow.TheVariants as start
 use Rattle.send_parts.specs.declared.rows.SweepRow.{SweepRow}
 use Rattle.send_parts.specs.declared.rows.SweepRow.TheVariants as sweep
 use Rattle.send_links.specs.Records.{records_of}
-use Rattle.send_parts.specs.Files.{is_info, message_number}
+use Rattle.send_parts.specs.Files.{is_info, message_number, number_below}
 use Rattle.send_parts.specs.Finish.{finish_to}
 use Rattle.send_parts.specs.Readings.{read_on}
 use Rattle.send_parts.specs.Replies.{Said, said}
@@ -192,7 +192,7 @@ remote_greeted way.NoMemory bytes b = tt
 remote_greeted way.Broken bytes b = tt
 
 scan_past : (w : Way) (text : List ℕ) (split : ℕ) (b : Book) → StartPast (scanned w text split b)
-scan_past way.Fine text split b = by (message_number text) where
+scan_past way.Fine text split b = by (number_below split text) where
   by : (o : Option ℕ) → IsPast (start_at (scan_row o split))
   by None = tt
   by (Some n) = tt
@@ -412,8 +412,8 @@ sweep_at_past : (row : SweepRow) (d : Desk) → Past (sweep_at row d)
 sweep_at_past sweep.First d = tt
 sweep_at_past (sweep.Next split) d = tt
 sweep_at_past (sweep.StatMess split n) d = tt
-sweep_at_past (sweep.StatInfo split n) d = tt
-sweep_at_past (sweep.StatTodo split n info) d = tt
+sweep_at_past (sweep.StatTodo split n) d = tt
+sweep_at_past (sweep.StatInfo split n todo) d = tt
 sweep_at_past (sweep.Give split n) d = tt
 sweep_at_past (sweep.Take split n) d = tt
 sweep_at_past sweep.Over d = turn_past d

@@ -18,6 +18,8 @@ use Rattle.call_fs.specs.Apply.{Fits}
 use Rattle.queue_paths.specs.Names.{path}
 use Rattle.queue_paths.specs.Names.Name.{Of}
 use Rattle.queue_paths.specs.Names.Part.{Mess, Todo, Info, Bounce}
+use Rattle.queue_paths.proofs.Parts.{todo_apart, todo_same}
+use Rattle.queue_law.proofs.Waits.{todo_missed}
 use Rattle.send_known.specs.declared.known.Known.{Known}
 use Rattle.send_known.specs.Known.{is_known, forgotten}
 use Rattle.send_parts.specs.declared.book.Book.{Book}
@@ -93,7 +95,7 @@ module _ (controls : Controls) (now : ℕ) (q : Queue) (a : List ℕ) (read wrot
 
     -- what is old at the moment of its stat is old
     old_stands : (split n moment : ℕ) (old : Bool) → nat_lt (moment + 129600) read ≡ old → is_known n known ≡ false → (moment + 129600 < now → IsClosed now q n × IsAged now q n)
-        → SweepStands now q a (if old then sweep.StatInfo split n else sweep.Next split) known
+        → SweepStands now q a (if old then sweep.StatTodo split n else sweep.Next split) known
     old_stands split n moment true is h closed =
         let lt : moment + 129600 < read = ltb-true (moment + 129600) read is in
         (h, closed (omega (arith, lt, soon)))
@@ -115,29 +117,29 @@ module _ (controls : Controls) (now : ℕ) (q : Queue) (a : List ℕ) (read wrot
         record { leads = reads (call.Stat (path (Of Mess n))) (answer.Refused why.Fault) tt fits; stands = tt }
     stat_mess split n h told bytes fits = absurd fits
 
-    stat_info : (split n : ℕ) → (is_known n known ≡ false) × (IsClosed now q n × IsAged now q n) → Steps (sweep.StatInfo split n) (call.Stat (path (Of Info n)))
-    stat_info split n h (answer.Stat stat) bytes fits =
-        record { leads = reads (call.Stat (path (Of Info n))) (answer.Stat stat) tt fits; stands = (h.0, (h.1, λ e. absurd (cc))) }
-    stat_info split n h (answer.Refused why.NotThere) bytes fits = record {
-      leads = reads (call.Stat (path (Of Info n))) (answer.Refused why.NotThere) tt fits;
-      stands = (h.0, (h.1, λ e. find_none q.disk.names q.disk.files (Of Info n) fits));
-    }
-    stat_info split n h (answer.Refused why.Fault) bytes fits =
-        record { leads = reads (call.Stat (path (Of Info n))) (answer.Refused why.Fault) tt fits; stands = tt }
-    stat_info split n h told bytes fits = absurd fits
-
-    stat_todo : (split n : ℕ) (info : Bool) → SweepStands now q a (sweep.StatTodo split n info) known → Steps (sweep.StatTodo split n info) (call.Stat (path (Of Todo n)))
-    stat_todo split n info h (answer.Stat stat) bytes fits =
-        record { leads = reads (call.Stat (path (Of Todo n))) (answer.Stat stat) tt fits; stands = tt }
-    stat_todo split n true h (answer.Refused why.NotThere) bytes fits =
-        record { leads = reads (call.Stat (path (Of Todo n))) (answer.Refused why.NotThere) tt fits; stands = tt }
-    stat_todo split n false h (answer.Refused why.NotThere) bytes fits = record {
+    stat_todo : (split n : ℕ) → (is_known n known ≡ false) × (IsClosed now q n × IsAged now q n) → Steps (sweep.StatTodo split n) (call.Stat (path (Of Todo n)))
+    stat_todo split n h (answer.Stat stat) bytes fits =
+        record { leads = reads (call.Stat (path (Of Todo n))) (answer.Stat stat) tt fits; stands = (h.0, (h.1, λ e. absurd (cc))) }
+    stat_todo split n h (answer.Refused why.NotThere) bytes fits = record {
       leads = reads (call.Stat (path (Of Todo n))) (answer.Refused why.NotThere) tt fits;
-      stands = (h.0, (rests_begin.spent controls now q n G h.1.0.0 (find_none q.disk.names q.disk.files (Of Todo n) fits) (h.1.1 refl), h.1.0.1));
+      stands = (h.0, (h.1, λ e. todo_missed q.disk.names q.disk.files n fits));
     }
-    stat_todo split n info h (answer.Refused why.Fault) bytes fits =
+    stat_todo split n h (answer.Refused why.Fault) bytes fits =
         record { leads = reads (call.Stat (path (Of Todo n))) (answer.Refused why.Fault) tt fits; stands = tt }
-    stat_todo split n info h told bytes fits = absurd fits
+    stat_todo split n h told bytes fits = absurd fits
+
+    stat_info : (split n : ℕ) (todo : Bool) → SweepStands now q a (sweep.StatInfo split n todo) known → Steps (sweep.StatInfo split n todo) (call.Stat (path (Of Info n)))
+    stat_info split n todo h (answer.Stat stat) bytes fits =
+        record { leads = reads (call.Stat (path (Of Info n))) (answer.Stat stat) tt fits; stands = tt }
+    stat_info split n true h (answer.Refused why.NotThere) bytes fits =
+        record { leads = reads (call.Stat (path (Of Info n))) (answer.Refused why.NotThere) tt fits; stands = tt }
+    stat_info split n false h (answer.Refused why.NotThere) bytes fits = record {
+      leads = reads (call.Stat (path (Of Info n))) (answer.Refused why.NotThere) tt fits;
+      stands = (h.0, (rests_begin.spent controls now q n G h.1.0.0 (h.1.1 refl) (find_none q.disk.names q.disk.files (Of Info n) fits), h.1.0.1));
+    }
+    stat_info split n todo h (answer.Refused why.Fault) bytes fits =
+        record { leads = reads (call.Stat (path (Of Info n))) (answer.Refused why.Fault) tt fits; stands = tt }
+    stat_info split n todo h told bytes fits = absurd fits
 
     due_call : (row : SweepRow) (own asked : CallData) → ◌≡◌ {A = NeedData} (needs.File own) (needs.File asked) → Steps row own → Steps row asked
     due_call row own asked due h = let same : own ≡ asked = cc in subst (Steps row) same h
@@ -146,8 +148,8 @@ module _ (controls : Controls) (now : ℕ) (q : Queue) (a : List ℕ) (read wrot
     sweep_at sweep.First words asked h due = due_call sweep.First _ asked due (searches 0 _ words)
     sweep_at (sweep.Next split) words asked h due = due_call (sweep.Next split) _ asked due (searches split _ words)
     sweep_at (sweep.StatMess split n) words asked h due = due_call (sweep.StatMess split n) _ asked due (stat_mess split n h)
-    sweep_at (sweep.StatInfo split n) words asked h due = due_call (sweep.StatInfo split n) _ asked due (stat_info split n h)
-    sweep_at (sweep.StatTodo split n info) words asked h due = due_call (sweep.StatTodo split n info) _ asked due (stat_todo split n info h)
+    sweep_at (sweep.StatTodo split n) words asked h due = due_call (sweep.StatTodo split n) _ asked due (stat_todo split n h)
+    sweep_at (sweep.StatInfo split n todo) words asked h due = due_call (sweep.StatInfo split n todo) _ asked due (stat_info split n todo h)
     sweep_at (sweep.Give split n) words asked h due = absurd (cc)
     sweep_at (sweep.Take split n) words asked h due = absurd (cc)
     sweep_at sweep.Over words asked h due = absurd (cc)
@@ -211,7 +213,7 @@ module _ (controls : Controls) (now : ℕ) (q : Queue) (a : List ℕ) (read wrot
           idle,
           rests_begin.spent controls now r n leads.sound
               (record { mess = closed.mess; there = one.others (Of Mess n) (λ s. cc) ∙ closed.there; shut = ⊎_elim (λ over. inl over) (λ (s : IsAccepted (about q n)). inr (record { injection = s.injection; lives = s.lives; accepted = s.accepted })) closed.shut })
-              (one.others (Of Todo n) (λ s. cc) ∙ may.no_todo) (one.gone refl),
+              (todo_same (about q n).parts (about r n).parts (λ part is. one.others (Of part n) (todo_apart part n (Of Info n) is refl)) ∙ may.no_todo) (one.gone refl),
         );
         knows = All-weaker (λ (k : Known). Knows (at.Finish finish.UnlinkInfo n) (about q k.n) k) (λ (k : Known). Knows (at.Finish finish.Give n) (about r k.n) k)
             (λ k it. ⊎_elim

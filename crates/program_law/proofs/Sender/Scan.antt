@@ -1,6 +1,6 @@
 -- The scan of the info files.
-use Rattle.std.proofs.Common.{◌≡◌, ◌≢◌, ℕ, ◌+◌, List, [], ◌++◌, Bool, true, false, Option, Some, None, refl, sym, ap, ◌∙◌, subst}
-use Rattle.std.specs.Prelude.{if◌then◌else◌, nat_lt, take}
+use Rattle.std.proofs.Common.{◌≡◌, ◌≢◌, ℕ, ◌+◌, List, [], ◌∷◌, ◌++◌, Bool, true, false, Option, Some, None, refl, sym, ap, ◌∙◌, subst, eqb-true}
+use Rattle.std.specs.Prelude.{if◌then◌else◌, ◌==◌, nat_lt, take, IsSome}
 use Rattle.address_rules.specs.declared.controls.Controls.{Controls}
 use Rattle.call_fs.specs.declared.calls.Answer.{Answer}
 use Rattle.call_fs.specs.declared.calls.Answer.TheVariants as answer
@@ -11,10 +11,14 @@ use Rattle.call_fs.specs.declared.calls.Told.{Told}
 use Rattle.call_fs.specs.declared.past.GotData.TheVariants.{Answered}
 use Rattle.call_fs.specs.declared.past.NeedData.TheVariants as needs
 use Rattle.call_fs.specs.Apply.{Fits, IsReadBy}
+use Rattle.mail_bytes.specs.Decimal.{digits, number_of}
+use Rattle.mail_bytes.proofs.Digits.{number_of_some}
 use Rattle.queue_paths.specs.declared.names.Name.TheVariants as name
-use Rattle.queue_paths.specs.Names.{Name, path}
+use Rattle.queue_paths.specs.Names.{Name, path, split as split_of}
 use Rattle.queue_paths.specs.Names.Name.{Of}
 use Rattle.queue_paths.specs.Names.Part.{Todo, Info, Local as LocalFile, Remote as RemoteFile}
+use Rattle.queue_paths.specs.Parts.{in_todo}
+use Rattle.queue_paths.proofs.Parts.{todo_alone}
 use Rattle.send_core.specs.declared.desk.Desk.{Desk}
 use Rattle.send_parts.specs.declared.row.Row.TheVariants as at
 use Rattle.send_core.specs.Start.{start_at}
@@ -35,18 +39,21 @@ use Rattle.send_parts.specs.declared.rows.StartRow.{StartRow}
 use Rattle.send_parts.specs.declared.rows.StartRow.TheVariants as start
 use Rattle.send_parts.specs.declared.dir.Dir.TheVariants as dir
 use Rattle.send_parts.specs.Steps.{dir_text}
-use Rattle.send_parts.specs.Files.{is_info, message_number, sender_in}
+use Rattle.send_parts.specs.Files.{is_info, lying_in, message_number, number_below, sender_in}
 use Rattle.send_parts.specs.Readings.{read_on}
 use Rattle.send_parts.specs.Replies.{Said, answered, said}
 use Rattle.send_parts.specs.Start.{by_way, info_read, info_row, kept, remote_stated, scan_known, scan_row, scanned, start_failed}
-use Rattle.queue_law.specs.Numbers.{Queue, Entry, entry, look, about, Sound}
+use Rattle.queue_law.specs.Numbers.{Queue, Entry, entry, look, About, about, IsTaken, Phase, Sound}
+use Rattle.queue_law.specs.Numbers.Phase.{Free, Queued, Sorted, Finished}
 use Rattle.queue_law.specs.Routes.{lane_part}
 use Rattle.queue_law.specs.Senders.{LeadsOn, called_queue}
+use Rattle.queue_law.specs.Steps.{Elsewhere}
+use Rattle.queue_law.proofs.Frame.{about_same}
 use Rattle.queue_law.proofs.Looks.{find_none, find_some}
 use Rattle.queue_law.proofs.Sends.{reads_keep}
-use Rattle.program_law.specs.Sender.Knows.{IsKnown, IsThereIf, Serves, has_file}
+use Rattle.program_law.specs.Sender.Knows.{IsKnown, IsSettledIn, IsThereIf, Serves, has_file}
 use Rattle.program_law.specs.Sender.Readings.{ReadsOn}
-use Rattle.program_law.specs.Sender.Rows.{HasNoJobs, HasNoMarks, HasText, IsFound, IsLearned, StartStands, works}
+use Rattle.program_law.specs.Sender.Rows.{HasNoJobs, HasNoMarks, HasText, IsLearned, IsTakenUp, StartStands, works}
 use Rattle.program_law.specs.Sender.Scan.{IsScan}
 use Rattle.program_law.specs.Sender.Stands.{SenderLeads, Stands, StandsAt}
 use Rattle.program_law.proofs.Sender.Closes.{none_closed}
@@ -55,6 +62,7 @@ use Rattle.program_law.proofs.Sender.Entries.{Grows, settled_grown}
 use Rattle.program_law.proofs.Sender.Gone.{desk_grown, file_call}
 use Rattle.program_law.proofs.Sender.Learned.{learned_on}
 use Rattle.program_law.proofs.Sender.Passes.{grown_by}
+use Rattle.program_law.proofs.Sender.Passing.{number_read, some_of}
 use Rattle.program_law.proofs.Sender.Readings.{readings}
 use Rattle.program_law.proofs.Sender.Senders.{settled_of, sorted_of, told_of}
 
@@ -82,13 +90,58 @@ the_entry : (o : Option Entry) → o ≢ None → (y : Entry) × (o ≡ Some y)
 the_entry None f = absurd (f refl)
 the_entry (Some y) f = (y, refl)
 
-found_of : (controls : Controls) (q : Queue) (n : ℕ) → Sound controls q → look q (Of Todo n) ≡ None → IsFound q n
-found_of controls q n G none there =
-    let w = the_entry (look q (Of Info n)) there in
+-- a number of which there is an info file is taken up
+taken_by : (controls : Controls) (w : About) (info : Entry) → IsTaken controls w → w.parts Info ≡ Some info → IsTakenUp w
+taken_by controls w info t there = record {
+  accepted = record { injection = t.injection; lives = t.lives; accepted = t.accepted };
+  mess = t.mess;
+  mess_there = t.mess_there;
+  filed = λ todo none. let both = sym there ∙ none in absurd (cc);
+}
+
+taken_up : (controls : Controls) (w : About) (info : Entry) → Phase controls w → w.parts Info ≡ Some info → IsTakenUp w
+taken_up controls w info (Free h) there = let none = h.unsorted Info refl in absurd (cc)
+taken_up controls w info (Queued h) there = taken_by controls w info h.taken there
+taken_up controls w info (Sorted h) there = taken_by controls w info h.taken there
+taken_up controls w info (Finished h) there = let none = h.unsorted Info refl in absurd (cc)
+
+-- and if todo isn't there, it is preprocessed
+settles : (controls : Controls) (q : Queue) (n : ℕ) → Sound controls q → IsTakenUp (about q n) → in_todo (about q n).parts ≡ None → IsSettledIn (about q n)
+settles controls q n G t none =
+    let w = the_entry (look q (Of Info n)) (t.filed none) in
     settled_of controls (about q n) (sorted_of controls (about q n) (G.fine n) none w.0 w.1)
 
-learned_of : (q : Queue) (n : ℕ) (read : List ℕ) → IsFound q n → HasText q Info n read → IsLearned q n read
-learned_of q n read f t = record { sorted = f (λ none. let there = t.there in absurd (cc)); text = t }
+learned_of : (q : Queue) (n : ℕ) (read : List ℕ) → IsSettledIn (about q n) → HasText q Info n read → IsLearned q n read
+learned_of q n read f t = record { sorted = f; text = t }
+
+-- What a search of a directory of info files finds
+
+lies_in : (o : Option ℕ) (below n : ℕ) → lying_in below o ≡ Some n → (o ≡ Some n) × (split_of n ≡ below)
+lies_in None below n is = absurd (cc)
+lies_in (Some m) below n is = by (split_of m == below) refl is where
+  by : (b : Bool) → (split_of m == below) ≡ b → ◌≡◌ {A = Option ℕ} (if b then Some m else None) (Some n) → (◌≡◌ {A = Option ℕ} (Some m) (Some n)) × (split_of n ≡ below)
+  by true here same = let w : m ≡ n = cc in (same, ap split_of (sym w) ∙ eqb-true (split_of m) below here)
+  by false here same = absurd (cc)
+
+info_path : (n : ℕ) → dir_text (dir.Info (split_of n)) ++ 47 ∷ digits n ≡ path (Of Info n)
+unfolding path
+info_path n = refl
+
+-- a number that it finds is taken up
+search_finds : (controls : Controls) (q : Queue) (below : ℕ) (after : List ℕ) (told : Answer) (bytes : List ℕ) (wrote : ℕ) → Sound controls q
+    → Fits q.disk (call.NextName (dir_text (dir.Info below)) after) told wrote → (answered told bytes).way ≡ way.Fine
+    → (n : ℕ) → number_below below (answered told bytes).bytes ≡ Some n → IsTakenUp (about q n)
+search_finds controls q below after (answer.Name text) bytes wrote G fits fine n number =
+    let read = lies_in (message_number text) below n number in
+    let is : text ≡ digits n = (number_of_some text n (number_read (number_of text) n read.0)).0 in
+    let full : dir_text (dir.Info below) ++ 47 ∷ text ≡ path (Of Info n)
+    = ap (λ (k : ℕ). dir_text (dir.Info k) ++ 47 ∷ text) (sym read.1) ∙ ap (λ (t : List ℕ). dir_text (dir.Info (split_of n)) ++ 47 ∷ t) is ∙ info_path n in
+    let w = some_of (q.disk.names (path (Of Info n))) (subst (λ (t : List ℕ). IsSome (q.disk.names t)) full fits.1.stands.0) in
+    taken_up controls (about q n) (entry q.disk.files w.0) (G.fine n) (find_some q.disk.names q.disk.files (Of Info n) w.0 w.1)
+search_finds controls q below after answer.NoName bytes wrote G fits fine n number = absurd (cc)
+search_finds controls q below after (answer.Refused why.NotThere) bytes wrote G fits fine n number = absurd (cc)
+search_finds controls q below after (answer.Refused why.Fault) bytes wrote G fits fine n number = absurd (cc)
+search_finds controls q below after told bytes wrote G fits fine n number = absurd fits
 
 -- A row of the scan, or what comes after it
 abbrev pub IsPast : StartRow → Type 0
@@ -105,9 +158,9 @@ failed_rests q a way.Over read = (tt, tt)
 failed_rests q a way.Absent read = (tt, tt)
 failed_rests q a way.Broken read = (tt, tt)
 
-named_rests : (q : Queue) (a : List ℕ) (o : Option ℕ) (split : ℕ) (read : List ℕ) → Rests q a (scan_row o split) read
-named_rests q a None split read = (tt, tt)
-named_rests q a (Some n) split read = (tt, tt)
+named_rests : (q : Queue) (a : List ℕ) (o : Option ℕ) (split : ℕ) (read : List ℕ) → ((n : ℕ) → o ≡ Some n → IsTakenUp (about q n)) → Rests q a (scan_row o split) read
+named_rests q a None split read finds = (tt, tt)
+named_rests q a (Some n) split read finds = (tt, finds n refl)
 
 next_rests : (q : Queue) (a : List ℕ) (b : Bool) (split : ℕ) (read : List ℕ) → Rests q a (if b then start.Scan (split + 1) else start.Over) read
 next_rests q a true split read = (tt, tt)
@@ -163,14 +216,14 @@ module _ (controls : Controls) (now : ℕ) (q : Queue) (a : List ℕ) (d : Desk)
   pub on_read : (row : StartRow) (read : List ℕ) → OnDesk controls q (With (record d.book { row = row; read = read }))
   on_read row read = record { known = h.known; due = h.due; lanes = h.lanes; apart = h.apart; controls_are = h.controls_are }
 
-  scanned_well : (w : Way) (text : List ℕ) (split : ℕ) → Well (scanned w text split d.book)
-  scanned_well way.Fine text split = (on_after (scan_row (message_number text) split) (take 255 text), named_rests q a (message_number text) split d.book.read)
-  scanned_well way.Over text split = (on_after (if nat_lt split 22 then start.Scan (split + 1) else start.Over) [], next_rests q a (nat_lt split 22) split d.book.read)
-  scanned_well way.Absent text split = (on_row (start_failed way.Absent), failed_rests q a way.Absent d.book.read)
-  scanned_well way.NoMemory text split = (on_row (start_failed way.NoMemory), failed_rests q a way.NoMemory d.book.read)
-  scanned_well way.Broken text split = (on_row (start_failed way.Broken), failed_rests q a way.Broken d.book.read)
+  scanned_well : (w : Way) (text : List ℕ) (split : ℕ) → (w ≡ way.Fine → (n : ℕ) → number_below split text ≡ Some n → IsTakenUp (about q n)) → Well (scanned w text split d.book)
+  scanned_well way.Fine text split finds = (on_after (scan_row (number_below split text) split) (take 255 text), named_rests q a (number_below split text) split d.book.read (finds refl))
+  scanned_well way.Over text split finds = (on_after (if nat_lt split 22 then start.Scan (split + 1) else start.Over) [], next_rests q a (nat_lt split 22) split d.book.read)
+  scanned_well way.Absent text split finds = (on_row (start_failed way.Absent), failed_rests q a way.Absent d.book.read)
+  scanned_well way.NoMemory text split finds = (on_row (start_failed way.NoMemory), failed_rests q a way.NoMemory d.book.read)
+  scanned_well way.Broken text split finds = (on_row (start_failed way.Broken), failed_rests q a way.Broken d.book.read)
 
-  read_well : (p : Progress) (split n : ℕ) (g : Reading) (s : Said) → IsFound q n → ReadsOn q a Info n p d.book.read (kept g d.book.read ++ s.bytes)
+  read_well : (p : Progress) (split n : ℕ) (g : Reading) (s : Said) → IsSettledIn (about q n) → ReadsOn q a Info n p d.book.read (kept g d.book.read ++ s.bytes)
       → Well (info_read p split n g s d.book)
   read_well (Goes Opening) split n g s f r = (on_read (start.ReadInfo split n Opening) (kept g d.book.read ++ s.bytes), (tt, (f, r)))
   read_well (Goes (Going fd)) split n g s f r = (on_read (start.ReadInfo split n (Going fd)) (kept g d.book.read ++ s.bytes), (tt, (f, r)))
@@ -222,8 +275,9 @@ learned_grown q r n read g l = record {
   text = record { file = l.text.file; there = g.looks Info n (λ s. cc) ∙ l.text.there; text = l.text.text };
 }
 
-found_grown : (q r : Queue) (n : ℕ) → Grows q r → IsFound q n → IsFound r n
-found_grown q r n g f there = (settled_grown q r g n (f (λ none. there (g.looks Info n (λ s. cc) ∙ none)))).0
+-- a step that concerns no number leaves each taken up
+taken_read : (now : ℕ) (a : List ℕ) (q r : Queue) (n : ℕ) → Elsewhere now a None q r → IsTakenUp (about q n) → IsTakenUp (about r n)
+taken_read now a q r n E t = subst IsTakenUp (sym (about_same now a None q r E n (λ e. absurd (cc)))) t
 
 module _ (controls : Controls) (now : ℕ) (q : Queue) (a : List ℕ) (G : Sound controls q) (d : Desk) (read wrote : ℕ) where
   abbrev after : CallData → Answer → Queue
@@ -268,7 +322,7 @@ module _ (controls : Controls) (now : ℕ) (q : Queue) (a : List ℕ) (G : Sound
         leads = L;
         stands = stated (Of Todo n) told fits on h.rests.0 h.rests.1.0 (start.Scan split) (start.ReadInfo split n Opening)
             (λ e. (tt, tt))
-            (λ e. (tt, (found_of controls r n L.sound (g.looks Todo n (λ s. cc) ∙ tells_absent (answered told.answer told.bytes).way (look q (Of Todo n)) e t), tt)));
+            (λ e. (tt, (settles controls r n L.sound (taken_read now a q r n L.elsewhere h.rests.1.1) (todo_alone (about r n).parts ∙ g.looks Todo n (λ s. cc) ∙ tells_absent (answered told.answer told.bytes).way (look q (Of Todo n)) e t), tt)));
       }
 
   stat_info : (split n : ℕ) (told : Told) → StandsAt controls now q a (at.Start (start.StatInfo split n)) d → Fits q.disk (call.Stat (path (Of Info n))) told.answer wrote
@@ -326,12 +380,14 @@ module _ (controls : Controls) (now : ℕ) (q : Queue) (a : List ℕ) (G : Sound
             (remote_well controls now r a d grown_desk h.rests.0 h.rests.1.0 L.sound v split n birth local l on_local t);
       }
 
-  searched : (split : ℕ) (dir : List ℕ) (told : Told) → StandsAt controls now q a (at.Start (start.Scan split)) d → Fits q.disk (call.NextName dir d.book.after) told.answer wrote
-      → SenderLeads controls now a q (after (call.NextName dir d.book.after) told.answer) (act (at.Start (start.Scan split)) read (Answered told) d)
-  searched split dir told h fits =
+  searched : (split : ℕ) (told : Told) → StandsAt controls now q a (at.Start (start.Scan split)) d
+      → Fits q.disk (call.NextName (dir_text (dir.Info split)) d.book.after) told.answer wrote
+      → SenderLeads controls now a q (after (call.NextName (dir_text (dir.Info split)) d.book.after) told.answer) (act (at.Start (start.Scan split)) read (Answered told) d)
+  searched split told h fits =
+      let place : List ℕ = dir_text (dir.Info split) in
       let on = on_of controls now q a (at.Start (start.Scan split)) d (record { first = λ ch. refl; controls_read = tt }) (λ k w. w) h in
-      let r : Queue = after (call.NextName dir d.book.after) told.answer in
-      let L = reads_keep controls now q a G read (call.NextName dir d.book.after) told.answer wrote tt fits in
+      let r : Queue = after (call.NextName place d.book.after) told.answer in
+      let L = reads_keep controls now q a G read (call.NextName place d.book.after) told.answer wrote tt fits in
       let grown_desk = desk_grown controls q r d (grown_by now a q r L.elsewhere) on in
       let s : Said = said (Answered told) in
       record {
@@ -339,7 +395,8 @@ module _ (controls : Controls) (now : ℕ) (q : Queue) (a : List ℕ) (G : Sound
         closed = none_closed now q;
         leads = L;
         stands = stands_with controls now r a d grown_desk h.rests.0 h.rests.1.0 (scanned s.way s.bytes split d.book)
-            (scanned_well controls now r a d grown_desk h.rests.0 h.rests.1.0 s.way s.bytes split);
+            (scanned_well controls now r a d grown_desk h.rests.0 h.rests.1.0 s.way s.bytes split
+            (λ fine n number. taken_read now a q r n L.elsewhere (search_finds controls q split d.book.after told.answer told.bytes wrote G fits fine n number)));
       }
 
   read_info : (split n : ℕ) (g : Reading) (c : CallData) (told : Told) → StandsAt controls now q a (at.Start (start.ReadInfo split n g)) d
@@ -357,7 +414,7 @@ module _ (controls : Controls) (now : ℕ) (q : Queue) (a : List ℕ) (G : Sound
         closed = none_closed now q;
         leads = w.leads;
         stands = stands_with controls now r a d grown_desk h.rests.0 h.rests.1.0 (info_read (read_on g s) split n g s d.book)
-            (read_well controls now r a d grown_desk h.rests.0 h.rests.1.0 (read_on g s) split n g s (found_grown q r n grows h.rests.1.1.0) w.reads);
+            (read_well controls now r a d grown_desk h.rests.0 h.rests.1.0 (read_on g s) split n g s (settled_grown q r grows n h.rests.1.1.0).0 w.reads);
       }
 
   abbrev Leads : StartRow → Told → CallData → Type 0
@@ -367,7 +424,7 @@ module _ (controls : Controls) (now : ℕ) (q : Queue) (a : List ℕ) (G : Sound
       → Fits q.disk c told.answer wrote → IsReadBy q.disk c told → Leads row told c
   scans (start.Scan split) c told is h due fits by =
       let same = sym (file_call (call.NextName (dir_text (dir.Info split)) d.book.after) c due) in
-      subst (Leads (start.Scan split) told) (sym same) (searched split (dir_text (dir.Info split)) told h (subst (λ z. Fits q.disk z told.answer wrote) same fits))
+      subst (Leads (start.Scan split) told) (sym same) (searched split told h (subst (λ z. Fits q.disk z told.answer wrote) same fits))
   scans (start.StatTodo split n) c told is h due fits by =
       let same = sym (file_call (call.Stat (path (Of Todo n))) c due) in
       subst (Leads (start.StatTodo split n) told) (sym same) (stat_todo split n told h (subst (λ z. Fits q.disk z told.answer wrote) same fits))

@@ -13,7 +13,8 @@ use Rattle.envelope_records.proofs.Envelopes.{sound_as}
 use Rattle.queue_inject.specs.declared.injection.Arguments.{Arguments}
 use Rattle.queue_inject.specs.declared.injection.InputEnd.{InputEnd}
 use Rattle.queue_inject.specs.Texts.{envelope_of, envelope_text, intd_text, limit}
-use Rattle.queue_paths.specs.Names.Part.{Todo, Info}
+use Rattle.queue_paths.specs.Names.Part.{Info}
+use Rattle.queue_paths.specs.Parts.{in_todo}
 use Rattle.send_parts.specs.Files.{before_nul, cut_at, is_nul, sender_in}
 use Rattle.todo_pass.specs.Sorting.{info_text}
 use Rattle.queue_law.specs.Books.{Injection}
@@ -65,7 +66,7 @@ told_sender s h = before_first s h
 
 -- A number with an info file and no todo file
 
-pub sorted_of : (controls : Controls) (w : About) → Phase controls w → w.parts Todo ≡ None → (info : Entry) → w.parts Info ≡ Some info → IsPreprocessed controls w
+pub sorted_of : (controls : Controls) (w : About) → Phase controls w → in_todo w.parts ≡ None → (info : Entry) → w.parts Info ≡ Some info → IsPreprocessed controls w
 sorted_of controls w (Free h) gone info there = let none = h.unsorted Info refl in absurd (cc)
 sorted_of controls w (Queued h) gone info there = let is = h.todo_there in absurd (cc)
 sorted_of controls w (Sorted h) gone info there = h

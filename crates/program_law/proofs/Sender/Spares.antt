@@ -1,5 +1,5 @@
 -- What steps of others spare.
-use Rattle.std.proofs.Common.{◌≡◌, ◌≢◌, ◌⊎◌, inl, inr, ℕ, List, true, Option, Some, None, refl, sym, ap, ◌∙◌, subst, ⊎_elim}
+use Rattle.std.proofs.Common.{◌≡◌, ◌≢◌, inr, ℕ, List, true, Option, Some, None, refl, sym, ap, ◌∙◌, subst, ⊎_elim}
 use Rattle.std.proofs.lemmas.Bool.Decides.{eqb_tells}
 use Rattle.address_rules.specs.declared.controls.Controls.{Controls}
 use Rattle.call_fs.specs.declared.calls.CallData.{CallData}
@@ -16,62 +16,36 @@ use Rattle.queue_clean.specs.Table.{Place, due_at, place_after}
 use Rattle.queue_paths.specs.Names.{Name, Part, path}
 use Rattle.queue_paths.specs.Names.Name.{Of}
 use Rattle.queue_paths.specs.Names.Part.{Mess, Intd, Todo, Info, Local, Remote, Bounce}
+use Rattle.queue_paths.specs.Parts.{in_todo}
 use Rattle.queue_law.specs.Cleaners.{Needs, Rests, StandsAt, number_at}
-use Rattle.queue_law.specs.Numbers.{About, Entry, IsSorted, IsUnsorted, Queue, about, is_later, look}
+use Rattle.queue_law.specs.Numbers.{About, Entry, IsSorted, Queue, about, is_later, look}
+use Rattle.queue_law.specs.Rests.{IsClosed, Spares}
 use Rattle.queue_law.specs.Senders.{called_queue}
 use Rattle.queue_law.specs.Steps.{queue_after}
 use Rattle.queue_law.proofs.Changes.{unlinks_one}
 use Rattle.queue_law.proofs.Cleaners.{cleaners_keep}
 use Rattle.queue_law.proofs.Foreigners.{foreigners_keep}
 use Rattle.queue_law.proofs.Frame.{about_same}
+use Rattle.program_law.specs.Sender.Rows.{IsTakenUp}
 use Rattle.program_law.specs.Sender.Stands.{SparesSorted}
 use Rattle.program_law.proofs.Sender.Gone.{file_call}
 use Rattle.program_law.specs.Sender.Spares.{OthersSpare}
 
--- A number is preprocessed, or it isn't
-
-none_or : (o : Option Entry) → (o ≡ None) ⊎ (o ≢ None)
-none_or None = inl refl
-none_or (Some y) = inr (λ e. absurd (cc))
-
-all_none : (w : About) → w.parts Info ≡ None → w.parts Local ≡ None → w.parts Remote ≡ None → w.parts Bounce ≡ None → IsUnsorted w
-all_none w i l r b Info e = i
-all_none w i l r b Local e = l
-all_none w i l r b Remote e = r
-all_none w i l r b Bounce e = b
-all_none w i l r b Mess e = absurd (cc)
-all_none w i l r b Intd e = absurd (cc)
-all_none w i l r b Todo e = absurd (cc)
-
-sorted_or : (w : About) → IsSorted w ⊎ IsUnsorted w
-sorted_or w = ⊎_elim
-    (λ i. ⊎_elim
-    (λ l. ⊎_elim
-    (λ r. ⊎_elim
-    (λ b. inr (all_none w i l r b))
-    (λ there. inl (Bounce, refl, there))
-    (none_or (w.parts Bounce)))
-    (λ there. inl (Remote, refl, there))
-    (none_or (w.parts Remote)))
-    (λ there. inl (Local, refl, there))
-    (none_or (w.parts Local)))
-    (λ there. inl (Info, refl, there))
-    (none_or (w.parts Info))
-
 is_there : (o : Option Entry) (y : Entry) → o ≡ Some y → o ≢ None
 is_there o y e f = absurd (cc)
 
-by_sorted : (q r : Queue) → ((n : ℕ) → IsSorted (about q n) → about r n ≡ about q n) → ((n : ℕ) → IsUnsorted (about q n) → IsUnsorted (about r n)) → SparesSorted q r
-by_sorted q r same unsorted = record {
-  later = λ part n e. ⊎_elim
-      (λ s. ap (λ (w : About). w.parts part) (same n s))
-      (λ u. unsorted n u part e ∙ sym (u part e))
-      (sorted_or (about q n));
+-- A number that is taken up is closed to injectors.
+closed_of : (now : ℕ) (q : Queue) (n : ℕ) → IsTakenUp (about q n) → IsClosed now q n
+closed_of now q n t = record { mess = t.mess; there = t.mess_there; shut = inr t.accepted }
+
+by_sorted : (now : ℕ) (q r : Queue) → ((n : ℕ) → IsSorted (about q n) → about r n ≡ about q n) → Spares now None q r → SparesSorted q r
+by_sorted now q r same S = record {
+  taken_up = λ n t. subst IsTakenUp (sym (S.abouts n (λ e. absurd (cc)) (closed_of now q n t))) t;
   sorted = λ n none info there. same n (Info, refl, is_there (look q (Of Info n)) info there);
 }
 
 by_about : (q r : Queue) → ((n : ℕ) → about r n ≡ about q n) → SparesSorted q r
-by_about q r same = record { later = λ part n e. ap (λ (w : About). w.parts part) (same n); sorted = λ n none info there. same n }
+by_about q r same = record { taken_up = λ n t. subst IsTakenUp (sym (same n)) t; sorted = λ n none info there. same n }
 
 -- An unlink of the cleaner
 
@@ -88,8 +62,21 @@ second_far : (part : Part) (n : ℕ) (command : Command) → is_later part ≡ t
 second_far part n (Foop m) e = (later_far part n m e).1
 second_far part n (TodoCommand m) e = (later_far part n m e).2
 
+-- `todo/n` doesn't unlink the message
+abbrev LeavesMess : Command → Name → Type 0
+LeavesMess (Foop m) x = Unit {0}
+LeavesMess (TodoCommand m) x = (n : ℕ) → Of Mess n ≢ x
+
+first_leaves : (command : Command) → LeavesMess command (first_name command)
+first_leaves (Foop m) = tt
+first_leaves (TodoCommand m) = λ n f. absurd (cc)
+
+second_leaves : (command : Command) → LeavesMess command (second_name command)
+second_leaves (Foop m) = tt
+second_leaves (TodoCommand m) = λ n f. absurd (cc)
+
 -- a number that such a command needs isn't preprocessed
-needed : (controls : Controls) (w : About) (command : Command) (info : Entry) → Needs controls command w → w.parts Todo ≡ None → w.parts Info ≡ Some info → ⊥
+needed : (controls : Controls) (w : About) (command : Command) (info : Entry) → Needs controls command w → in_todo w.parts ≡ None → w.parts Info ≡ Some info → ⊥
 needed controls w (Foop n) info h none there = let gone = h.unsorted Info refl in absurd (cc)
 needed controls w (TodoCommand n) info h none there = let is = h.queued.todo_there in absurd (cc)
 
@@ -100,30 +87,47 @@ module _ (controls : Controls) (now : ℕ) (q : Queue) (a : List ℕ) (read wrot
   abbrev after : CallData → Queue
   after c = called_queue q a read c told wrote q.role
 
-  unlink_spares : (x : Name) (command : Command) → ((part : Part) (n : ℕ) → is_later part ≡ true → Of part n ≢ x) → Needs controls command (about q (message_of command))
+  -- `foop/n` is of no number that is taken up, and `todo/n` of one that has its info file
+  kept_up : (x : Name) (command : Command) → ((part : Part) (n : ℕ) → is_later part ≡ true → Of part n ≢ x) → LeavesMess command x
+      → Needs controls command (about q (message_of command)) → Fits q.disk (call.Unlink (path x)) told wrote → IsTakenUp (about q (message_of command))
+      → IsTakenUp (about (after (call.Unlink (path x))) (message_of command))
+  kept_up x (Foop m) far mess need fits t = absurd (t.filed need.no_todo (need.unsorted Info refl))
+  kept_up x (TodoCommand m) far mess need fits t =
+      let one = unlinks_one q a read x told wrote fits in
+      let info = one.others (Of Info m) (far Info m refl) ∙ need.info.there in
+      record {
+        accepted = record { injection = t.accepted.injection; lives = t.accepted.lives; accepted = t.accepted.accepted };
+        mess = t.mess;
+        mess_there = one.others (Of Mess m) (mess m) ∙ t.mess_there;
+        filed = λ todo none. let both = sym info ∙ none in absurd (cc);
+      }
+
+  unlink_spares : (x : Name) (command : Command) → ((part : Part) (n : ℕ) → is_later part ≡ true → Of part n ≢ x) → LeavesMess command x → Needs controls command (about q (message_of command))
       → ((n : ℕ) → ◌≢◌ {A = Option ℕ} (Some (message_of command)) (Some n) → about (after (call.Unlink (path x))) n ≡ about q n) → Fits q.disk (call.Unlink (path x)) told wrote
       → SparesSorted q (after (call.Unlink (path x)))
-  unlink_spares x command far need same fits =
-      let one = unlinks_one q a read x told wrote fits in
-      record {
-        later = λ part n e. one.others (Of part n) (far part n e);
-        sorted = λ n none info there. ⊎_elim
-            (λ t. absurd (needed controls (about q n) command info (subst (λ (k : ℕ). Needs controls command (about q k)) (sym t.1) need) none there))
-            (λ f. same n (λ e. f.1 (sym (some_number (message_of command) n e))))
-            (eqb_tells n (message_of command));
-      }
+  unlink_spares x command far mess need same fits = record {
+    taken_up = λ n t. ⊎_elim
+        (λ own. subst (λ (k : ℕ). IsTakenUp (about (after (call.Unlink (path x))) k)) (sym own.1)
+        (kept_up x command far mess need fits (subst (λ (k : ℕ). IsTakenUp (about q k)) own.1 t)))
+        (λ other. subst IsTakenUp (sym (same n (λ e. other.1 (sym (some_number (message_of command) n e))))) t)
+        (eqb_tells n (message_of command));
+    sorted = λ n none info there. ⊎_elim
+        (λ t. absurd (needed controls (about q n) command info (subst (λ (k : ℕ). Needs controls command (about q k)) (sym t.1) need) none there))
+        (λ f. same n (λ e. f.1 (sym (some_number (message_of command) n e))))
+        (eqb_tells n (message_of command));
+  }
 
   by_row : (row : Row) (name : List ℕ) (c : CallData) → Rests controls now q row → due_at row name read ≡ needs.File c → Fits q.disk c told wrote
       → ((n : ℕ) → number_at row ≢ Some n → about (after c) n ≡ about q n) → SparesSorted q (after c)
   by_row (at.UnlinkIntd command) name c h due fits same =
       let is = sym (file_call (call.Unlink (path (first_name command))) c due) in
       subst (λ z. SparesSorted q (after z)) (sym is)
-      (unlink_spares (first_name command) command (λ part n e. (later_far part n (message_of command) e).0) h.rest
+      (unlink_spares (first_name command) command (λ part n e. (later_far part n (message_of command) e).0) (first_leaves command) h.rest
       (subst (λ z. (n : ℕ) → ◌≢◌ {A = Option ℕ} (Some (message_of command)) (Some n) → about (after z) n ≡ about q n) is same) (subst (λ z. Fits q.disk z told wrote) is fits))
   by_row (at.UnlinkSecond command) name c h due fits same =
       let is = sym (file_call (call.Unlink (path (second_name command))) c due) in
       subst (λ z. SparesSorted q (after z)) (sym is)
-      (unlink_spares (second_name command) command (λ part n e. second_far part n command e) h.rest.0
+      (unlink_spares (second_name command) command (λ part n e. second_far part n command e) (second_leaves command) h.rest.0
       (subst (λ z. (n : ℕ) → ◌≢◌ {A = Option ℕ} (Some (message_of command)) (Some n) → about (after z) n ≡ about q n) is same) (subst (λ z. Fits q.disk z told wrote) is fits))
   by_row at.TakeInput name c h due fits same = by_about q (after c) (λ n. same n (λ e. absurd (cc)))
   by_row at.FindPid name c h due fits same = by_about q (after c) (λ n. same n (λ e. absurd (cc)))
@@ -144,10 +148,10 @@ rests_of controls now q (at.Ended status) p h = h
 
 pub others_spare : OthersSpare
 others_spare = record {
-  injectors = λ controls now q a args past read ready call told wrote c. by_sorted q (queue_after q a args read call told.answer wrote c.role) c.sorted c.unsorted;
+  injectors = λ controls now q a args past read ready call told wrote c. by_sorted now q (queue_after q a args read call told.answer wrote c.role) c.sorted c.spares;
   foreigners = λ a q r F. by_about q r (foreigners_keep.abouts a q r F);
   reads = λ now a q r E. record {
-    later = λ part n _. E.looks (Of part n) (λ (e : ◌≡◌ {A = Option ℕ} None (Some n)). absurd (cc));
+    taken_up = λ n t. subst IsTakenUp (sym (about_same now a None q r E n (λ e. absurd (cc)))) t;
     sorted = λ n _ _ _. about_same now a None q r E n (λ e. absurd (cc));
   };
   cleaners = λ controls now q a past read ready call told wrote G stands soon due fits.

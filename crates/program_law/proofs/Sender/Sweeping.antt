@@ -73,8 +73,8 @@ looked_on controls now q a sweep.First next read s d h =
     searched_on controls now q a next s.way s.bytes (record d { swept = Some read; busy = true }) (begun_on controls now q a next read d h)
 looked_on controls now q a (sweep.Next split) next read s d h = searched_on controls now q a next s.way s.bytes d h
 looked_on controls now q a (sweep.StatMess split n) next read s d h = still_on controls now q a next d h
-looked_on controls now q a (sweep.StatInfo split n) next read s d h = still_on controls now q a next d h
-looked_on controls now q a (sweep.StatTodo split n info) next read s d h = still_on controls now q a next d h
+looked_on controls now q a (sweep.StatTodo split n) next read s d h = still_on controls now q a next d h
+looked_on controls now q a (sweep.StatInfo split n todo) next read s d h = still_on controls now q a next d h
 looked_on controls now q a (sweep.Give split n) next read s d h = still_on controls now q a next d h
 looked_on controls now q a (sweep.Take split n) next read s d h = still_on controls now q a next d h
 looked_on controls now q a sweep.Over next read s d h = still_on controls now q a next d h
@@ -88,8 +88,8 @@ module _ (controls : Controls) (now : ℕ) (q : Queue) (a : List ℕ) where
   next_leads sweep.First d h = at_row sweep.First d h
   next_leads (sweep.Next split) d h = at_row (sweep.Next split) d h
   next_leads (sweep.StatMess split n) d h = at_row (sweep.StatMess split n) d h
-  next_leads (sweep.StatInfo split n) d h = at_row (sweep.StatInfo split n) d h
-  next_leads (sweep.StatTodo split n info) d h = at_row (sweep.StatTodo split n info) d h
+  next_leads (sweep.StatTodo split n) d h = at_row (sweep.StatTodo split n) d h
+  next_leads (sweep.StatInfo split n todo) d h = at_row (sweep.StatInfo split n todo) d h
   next_leads (sweep.Give split n) d h = at_row (sweep.Give split n) d h
   next_leads (sweep.Take split n) d h = at_row (sweep.Take split n) d h
   next_leads sweep.Over d h = over_on controls now q a d h.on
@@ -143,8 +143,8 @@ module _ (controls : Controls) (now : ℕ) (q : Queue) (a : List ℕ) where
   sweep_gives sweep.First d read port bytes came h due = absurd (cc)
   sweep_gives (sweep.Next split) d read port bytes came h due = absurd (cc)
   sweep_gives (sweep.StatMess split n) d read port bytes came h due = absurd (cc)
-  sweep_gives (sweep.StatInfo split n) d read port bytes came h due = absurd (cc)
-  sweep_gives (sweep.StatTodo split n info) d read port bytes came h due = absurd (cc)
+  sweep_gives (sweep.StatTodo split n) d read port bytes came h due = absurd (cc)
+  sweep_gives (sweep.StatInfo split n todo) d read port bytes came h due = absurd (cc)
   sweep_gives (sweep.Take split n) d read port bytes came h due = absurd (cc)
   sweep_gives sweep.Over d read port bytes came h due = absurd (cc)
   sweep_gives sweep.Lost d read port bytes came h due = absurd (cc)
@@ -157,8 +157,8 @@ module _ (controls : Controls) (now : ℕ) (q : Queue) (a : List ℕ) where
   sweep_takes sweep.First d read port came h due = absurd (cc)
   sweep_takes (sweep.Next split) d read port came h due = absurd (cc)
   sweep_takes (sweep.StatMess split n) d read port came h due = absurd (cc)
-  sweep_takes (sweep.StatInfo split n) d read port came h due = absurd (cc)
-  sweep_takes (sweep.StatTodo split n info) d read port came h due = absurd (cc)
+  sweep_takes (sweep.StatTodo split n) d read port came h due = absurd (cc)
+  sweep_takes (sweep.StatInfo split n todo) d read port came h due = absurd (cc)
   sweep_takes (sweep.Give split n) d read port came h due = absurd (cc)
   sweep_takes sweep.Over d read port came h due = absurd (cc)
   sweep_takes sweep.Lost d read port came h due = absurd (cc)

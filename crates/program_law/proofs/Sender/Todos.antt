@@ -19,6 +19,7 @@ use Rattle.call_fs.specs.declared.program.Ready.{Ready}
 use Rattle.call_fs.specs.Apply.{Fits, IsReadBy}
 use Rattle.mail_bytes.specs.Decimal.{digits}
 use Rattle.queue_paths.specs.Names.Part.{Todo}
+use Rattle.queue_paths.specs.Parts.{in_todo}
 use Rattle.send_core.specs.declared.desk.Desk.{Desk}
 use Rattle.send_parts.specs.declared.row.Row.TheVariants as at
 use Rattle.send_core.specs.Table.{act, due_at, search_words}
@@ -285,7 +286,7 @@ unserved controls now q n R ch s = let none = s.sorted.no_todo in let there = R.
 
 other_number : (controls : Controls) (now : ℕ) (q : Queue) (n : ℕ) → RestsAs now q n (IsQueued controls) → (k : Known) → IsKnown (about q k.n) k → k.n ≢ n
 other_number controls now q n R k h e =
-    let none = subst (λ (m : ℕ). (about q m).parts Todo ≡ None) e h.sorted.no_todo in
+    let none = subst (λ (m : ℕ). in_todo (about q m).parts ≡ None) e h.sorted.no_todo in
     let there = R.rest.todo_there in
     absurd (cc)
 

@@ -25,7 +25,8 @@ use Rattle.envelope_records.specs.declared.channel.Record.{Record}
 use Rattle.envelope_records.specs.Records.{AreRecords, text_of}
 use Rattle.queue_paths.specs.Names.{Name, Part, name_of, path}
 use Rattle.queue_paths.specs.Names.Name.{Of}
-use Rattle.queue_paths.specs.Names.Part.{Bounce, Todo, Info}
+use Rattle.queue_paths.specs.Names.Part.{Bounce, Info}
+use Rattle.queue_paths.proofs.Parts.{todo_same}
 use Rattle.send_core.specs.declared.desk.Desk.{Desk}
 use Rattle.send_parts.specs.declared.row.MarkRow.{MarkRow}
 use Rattle.send_parts.specs.declared.row.MarkRow.TheVariants as mark
@@ -70,7 +71,7 @@ use Rattle.program_law.specs.Sender.Stands.{SenderLeads, SenderStands, StandsAt}
 use Rattle.program_law.specs.Sender.Takings.{booked_queue}
 use Rattle.program_law.proofs.Sender.Closes.{lane_closed, one_closed}
 use Rattle.program_law.proofs.Sender.Entries.{Grows}
-use Rattle.program_law.proofs.Sender.Gone.{file_call, info_apart, lane_name, other_number, todo_apart}
+use Rattle.program_law.proofs.Sender.Gone.{file_call, info_apart, lane_name, other_number, not_lane}
 use Rattle.program_law.proofs.Sender.Heads.{first_all, first_in}
 use Rattle.program_law.proofs.Sender.Lanes.{AllServe, OnLane}
 use Rattle.program_law.proofs.Sender.Marking.{AtMark, at_grown, at_mark, at_stands, close_answer, open_answer, which}
@@ -138,7 +139,7 @@ module _ (q r : Queue) (c : Channel) (n place : ℕ) (books : r.books ≡ q.book
   settled_after : (k : ℕ) (h : IsSettledIn (about q k)) → (s : IsSettledIn (about r k)) × (s.injection.args ≡ h.injection.args)
   settled_after k h = (
     record {
-      no_todo = others Todo k (todo_apart c n k) ∙ h.no_todo;
+      no_todo = todo_same (about q k).parts (about r k).parts (λ part is. others part k (not_lane c part n k is)) ∙ h.no_todo;
       info = h.info;
       info_there = others Info k (info_apart c n k) ∙ h.info_there;
       injection = h.injection;

@@ -20,15 +20,19 @@ use Rattle.queue_law.specs.Injectors.{IsHeld}
 use Rattle.queue_law.specs.Numbers.{NamesSuit, Queue, Role}
 use Rattle.queue_law.specs.Senders.{called_queue}
 use Rattle.queue_law.specs.Steps.{Foreign, LeavesOld, Outside}
-use Rattle.program_law.specs.Delivery.Leaves.{LeavesButDrops, LeavesButOwn, LeavesDrops}
+use Rattle.program_law.specs.Delivery.Leaves.{LeavesButDrops, LeavesButOwn, LeavesDrops, LeavesTmp}
+use Rattle.program_law.specs.Delivery.Names.{IsTmpName}
 use Rattle.program_law.specs.Delivery.Rests.{DeliveryRests}
 
 -- Drops stay by a step that leaves what isn't the queue's and what none of its programs made, also by one that takes a name of one part
--- in `pid` away besides, and by one that changes no name and no file.
+-- in `pid` away besides, and by one that changes no name and no file. Of drops that stay those in `tmp` do; they stay also by a reader,
+-- who changes no file and no name in a `tmp`, whatever he does to other names.
 pub record DropsStay : Type 0 where
   pub outside : (a : List ℕ) (q r : Queue) → Outside q.disk r.disk → LeavesOld q r → LeavesDrops a q r
   pub but_pid : (a : List ℕ) (q r : Queue) → LeavesButPid q.disk r.disk → LeavesOld q r → LeavesDrops a q r
   pub same : (a : List ℕ) (q r : Queue) → r.disk.names ≡ q.disk.names → r.disk.files ≡ q.disk.files → r.role ≡ q.role → LeavesDrops a q r
+  pub tmp : (a : List ℕ) (q r : Queue) → LeavesDrops a q r → LeavesTmp a q r
+  pub read : (a : List ℕ) (q r : Queue) → ((name : List ℕ) → IsTmpName name → r.disk.names name ≡ q.disk.names name) → r.disk.files ≡ q.disk.files → r.role ≡ q.role → LeavesTmp a q r
 
 -- What a file call of a delivery leads to: it is a step of a program that is none of the queue's; it touches nothing but drops, and of
 -- those only its own; and the delivery rests on what is there then.
@@ -55,9 +59,9 @@ pub record DeliveriesKeep : Type 0 where
   pub rest : (q : Queue) (a : List ℕ) (args : LocalArgs) (past : List Own) (own : Own) → DeliveryRests q a args past → IsDueBy (Next args) past own → IsNoCall own.due
       → DeliveryRests q a args (own ∷ past)
 
--- A step of another actor leaves a delivery what it rests on, if it leaves the drops of others and what others hold open.
+-- A step of another actor leaves a delivery what it rests on, if it leaves the drops of others in `tmp`, and what others hold open.
 abbrev pub DeliveriesAreLeftAlone : Type 0
-DeliveriesAreLeftAlone = (q r : Queue) (a b : List ℕ) (args : LocalArgs) (past : List Own) → LeavesDrops b q r → a ≢ b
+DeliveriesAreLeftAlone = (q r : Queue) (a b : List ℕ) (args : LocalArgs) (past : List Own) → LeavesTmp b q r → a ≢ b
     → ((fd : ℕ) (how : Open) → IsHeld q.disk.opens q.holder a fd how → IsHeld r.disk.opens r.holder a fd how)
     → DeliveryRests q a args past → DeliveryRests r a args past
 

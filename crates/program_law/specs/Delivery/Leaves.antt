@@ -3,7 +3,7 @@ use Rattle.std.specs.Prelude.{◌≡◌, ◌≢◌, ℕ, List, Some}
 use Rattle.call_fs.specs.Disk.{Disk}
 use Rattle.queue_law.specs.Numbers.{Queue}
 use Rattle.queue_law.specs.Numbers.Role.{AsDrop}
-use Rattle.program_law.specs.Delivery.Names.{IsDropName}
+use Rattle.program_law.specs.Delivery.Names.{IsDropName, IsTmpName}
 
 -- This name of a drop leads to file i, which actor o made as the file of a drop.
 pub record IsDropOf (q : Queue) (o name : List ℕ) (i : ℕ) : Type 0 where
@@ -15,6 +15,12 @@ pub record IsDropOf (q : Queue) (o name : List ℕ) (i : ℕ) : Type 0 where
 pub record LeavesDrops (a : List ℕ) (q r : Queue) : Type 0 where
   pub stays : (o name : List ℕ) (i : ℕ) → o ≢ a → IsDropOf q o name i → IsDropOf r o name i
   pub files : (o name : List ℕ) (i : ℕ) → o ≢ a → IsDropOf q o name i → r.disk.files i ≡ q.disk.files i
+
+-- What a delivery asks of a step of another: each name in `tmp` of the drops of others leads where it led, to a file that is as it was.
+-- What becomes of their names in `new` is nothing to them: those are a reader's, who may move or unlink them.
+pub record LeavesTmp (a : List ℕ) (q r : Queue) : Type 0 where
+  pub stays : (o name : List ℕ) (i : ℕ) → o ≢ a → IsTmpName name → IsDropOf q o name i → IsDropOf r o name i
+  pub files : (o name : List ℕ) (i : ℕ) → o ≢ a → IsTmpName name → IsDropOf q o name i → r.disk.files i ≡ q.disk.files i
 
 -- What a step leaves of a disk that touches nothing but drops: each other name leads where it led, and a file that has a name, but no
 -- name of a drop, is as it was.

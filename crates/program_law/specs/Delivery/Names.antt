@@ -16,6 +16,12 @@ pub record IsDropName (name : List ℕ) : Type 0 where
   pub rest : List ℕ
   pub is : (name ≡ front ++ (codes "/tmp/" ++ rest)) ⊎ (name ≡ front ++ (codes "/new/" ++ rest))
 
+-- The name has `/tmp/` in it, as that of a drop has until its unlink.
+pub record IsTmpName (name : List ℕ) : Type 0 where
+  pub front : List ℕ
+  pub rest : List ℕ
+  pub is : name ≡ front ++ (codes "/tmp/" ++ rest)
+
 -- Each name of a drop is such a name, if the path of its maildir ends in `/`, whatever else that path and the name of the host are. The
 -- queue's names are none, control files have none, and a name of one part in `pid` is none.
 pub record NamesAreApart : Type 0 where

@@ -8,7 +8,6 @@ use Rattle.local_deliver.specs.Table.{Next, place_after}
 use Rattle.local_deliver.specs.Writes.{AtWork, WritesOn}
 use Rattle.local_parts.specs.declared.arguments.LocalArgs.{LocalArgs}
 use Rattle.maildir_drop.specs.declared.names.DropNames.{DropNames}
-use Rattle.maildir_drop.specs.declared.row.Outcome.TheVariants.{Dropped, Failed}
 use Rattle.maildir_drop.specs.declared.row.Row.{Row}
 use Rattle.maildir_drop.specs.declared.row.Row.TheVariants as at
 use Rattle.maildir_drop.specs.Names.{pair_at}
@@ -24,8 +23,8 @@ HasNamed q a name = (i : ℕ) × IsDropOf q a name i
 abbrev pub HasWritten : Queue → List ℕ → List ℕ → ℕ → Type 0
 HasWritten q a name fd = (i : ℕ) × IsDropOf q a name i × IsOpen q a fd i
 
--- What a drop has at each row of its table: from its create to its unlink the name in `tmp` leads to a file of its own, from its link on
--- the name in `new` too; and until it closes that file its descriptor is open on it.
+-- What a drop has at each row of its table: from its create to its unlink the name in `tmp` leads to a file of its own; and until it
+-- closes that file its descriptor is open on it. Its name in `new` is a reader's once its link is made.
 abbrev pub HasFile : Queue → List ℕ → DropNames → Row → Type 0
 HasFile q a names (at.Create attempt) = Unit {0}
 HasFile q a names (at.Append attempt fd) = HasWritten q a (pair_at names attempt).tmp fd.0
@@ -33,10 +32,8 @@ HasFile q a names (at.Sync attempt fd) = HasWritten q a (pair_at names attempt).
 HasFile q a names (at.Close attempt fd) = HasWritten q a (pair_at names attempt).tmp fd.0
 HasFile q a names (at.Shut attempt fd reason) = HasWritten q a (pair_at names attempt).tmp fd.0
 HasFile q a names (at.Link attempt) = HasNamed q a (pair_at names attempt).tmp
-HasFile q a names (at.Unlink attempt Dropped) = HasNamed q a (pair_at names attempt).tmp × HasNamed q a (pair_at names attempt).new
-HasFile q a names (at.Unlink attempt (Failed reason)) = HasNamed q a (pair_at names attempt).tmp
-HasFile q a names (at.Ended attempt Dropped) = HasNamed q a (pair_at names attempt).new
-HasFile q a names (at.Ended attempt (Failed reason)) = Unit {0}
+HasFile q a names (at.Unlink attempt outcome) = HasNamed q a (pair_at names attempt).tmp
+HasFile q a names (at.Ended attempt outcome) = Unit {0}
 
 abbrev pub HasDrop : Queue → List ℕ → Drop → Type 0
 HasDrop q a it = HasFile q a it.names it.place.row

@@ -10,7 +10,8 @@ use Rattle.send_known.specs.declared.channel.Channel.TheVariants.{Local, Remote}
 use Rattle.send_known.specs.declared.known.Known.{Known}
 use Rattle.send_parts.specs.declared.rows.FinishRow.{FinishRow}
 use Rattle.send_parts.specs.declared.rows.FinishRow.TheVariants as finish
-use Rattle.queue_paths.specs.Names.Part.{Todo, Info}
+use Rattle.queue_paths.specs.Names.Part.{Info}
+use Rattle.queue_paths.specs.Parts.{in_todo}
 use Rattle.queue_law.specs.Books.{Injection}
 use Rattle.queue_law.specs.Ledgers.{Ledger}
 use Rattle.queue_law.specs.Marks.{IsDelivered, IsDone}
@@ -29,7 +30,7 @@ IsThereIf false o = o ≡ None
 
 -- The number is preprocessed: todo is gone, and info is there, of the injection whose life lasts.
 pub record IsSettledIn (w : About) : Type 0 where
-  pub no_todo : w.parts Todo ≡ None
+  pub no_todo : in_todo w.parts ≡ None
   pub info : Entry
   pub info_there : w.parts Info ≡ Some info
   pub injection : Injection

@@ -32,9 +32,10 @@ IsAmongSorted (at.Finish row n) = ⊥
 IsAmongSorted (at.Sweep row) = ⊥
 IsAmongSorted row = Unit {0}
 
--- A step of another actor that leaves alone what is preprocessed leaves what a sender knows and keeps, and what it rests on.
+-- A step of another actor that leaves alone what is preprocessed leaves what a sender knows and keeps, and what it rests on, by what it keeps.
 pub record SortedIsLeftAlone : Type 0 where
   pub knows : (q r : Queue) (row : Row) (m : Messages) → SparesSorted q r → KnowsAll q row m → KnowsAll r row m
   pub lanes : (q r : Queue) (row : Row) (ch : Channel) (s : Slots) → SparesSorted q r → LaneStands q row ch s → LaneStands r row ch s
   pub rests : (controls : Controls) (now : ℕ) (a o : List ℕ) (m : Option ℕ) (q r : Queue) → Elsewhere now o m q r → a ≢ o → SparesSorted q r
-      → (row : Row) (b : Book) (s : Slots) (p : Works) → IsAmongSorted row → RowStands controls now q a row b s p → RowStands controls now r a row b s p
+      → (row : Row) (b : Book) (s : Slots) (p : Works) → IsAmongSorted row → ((ch : Channel) → LaneStands q row ch s) → RowStands controls now q a row b s p
+      → RowStands controls now r a row b s p

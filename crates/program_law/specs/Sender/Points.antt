@@ -129,8 +129,8 @@ pub record ChoresStand : Type 0 where
 -- the number that a row of the sweep is about
 abbrev pub number_in : SweepRow → Option ℕ
 number_in (sweep.StatMess split n) = Some n
-number_in (sweep.StatInfo split n) = Some n
-number_in (sweep.StatTodo split n info) = Some n
+number_in (sweep.StatTodo split n) = Some n
+number_in (sweep.StatInfo split n todo) = Some n
 number_in (sweep.Give split n) = Some n
 number_in row = None
 

@@ -18,6 +18,7 @@ use Rattle.call_fs.specs.declared.modes.Mode.{Mode}
 use Rattle.queue_paths.specs.Names.{Part}
 use Rattle.queue_paths.specs.Names.Name.{Of}
 use Rattle.queue_paths.specs.Names.Part.{Bounce, Info, Local, Mess}
+use Rattle.queue_paths.specs.Parts.{in_todo}
 use Rattle.send_core.specs.declared.desk.Desk.{Desk}
 use Rattle.send_parts.specs.declared.row.MarkRow.{MarkRow}
 use Rattle.send_parts.specs.declared.row.MarkRow.TheVariants as mark
@@ -55,7 +56,7 @@ use Rattle.queue_law.specs.Notes.{Covers}
 use Rattle.queue_law.specs.Numbers.{Queue, Entry, look, About, about}
 use Rattle.queue_law.specs.Passes.{HasOpen}
 use Rattle.queue_law.specs.Ready.{IsSpent}
-use Rattle.queue_law.specs.Rests.{IsClosed, RestsAs}
+use Rattle.queue_law.specs.Rests.{IsAccepted, IsClosed, RestsAs}
 use Rattle.queue_law.specs.Routes.{lane_part}
 use Rattle.program_law.specs.Sender.InTodo.{TodoStands}
 use Rattle.program_law.specs.Sender.Knows.{has_file, IsDoneIn, IsSettledIn, IsThereIf, Serves}
@@ -108,9 +109,13 @@ ReadsOther q a (reading.Shutting fd) = HasOpen q a fd.0
 
 -- The start
 
--- if the number has an info file, it is preprocessed
-abbrev pub IsFound : Queue → ℕ → Type 0
-IsFound q n = look q (Of Info n) ≢ None → IsSettledIn (about q n)
+-- A number that is seen in info has been taken up: its message was accepted, and it waits in todo or has an info file. So it stays while
+-- it is unknown, whoever preprocesses it; so if todo is looked at first and it isn't there, it is preprocessed.
+pub record IsTakenUp (w : About) : Type 0 where
+  pub accepted : IsAccepted w
+  pub mess : Entry
+  pub mess_there : w.parts Mess ≡ Some mess
+  pub filed : in_todo w.parts ≡ None → w.parts Info ≢ None
 
 -- it is preprocessed, and its info file reads as was read
 pub record IsLearned (q : Queue) (n : ℕ) (read : List ℕ) : Type 0 where
@@ -119,7 +124,8 @@ pub record IsLearned (q : Queue) (n : ℕ) (read : List ℕ) : Type 0 where
 
 abbrev pub StartStands : Queue → List ℕ → StartRow → List ℕ → Type 0
 StartStands q a (start.Control file reading) read = ReadsOther q a reading
-StartStands q a (start.ReadInfo split n reading) read = IsFound q n × Reads q a Info n reading read
+StartStands q a (start.StatTodo split n) read = IsTakenUp (about q n)
+StartStands q a (start.ReadInfo split n reading) read = IsSettledIn (about q n) × Reads q a Info n reading read
 StartStands q a (start.StatInfo split n) read = IsLearned q n read
 StartStands q a (start.StatLocal split n birth) read = IsLearned q n read
 StartStands q a (start.StatRemote split n birth local) read = IsLearned q n read × IsThereIf local (look q (Of Local n))
@@ -293,12 +299,12 @@ pub record IsAged (now : ℕ) (q : Queue) (n : ℕ) : Type 0 where
   pub old : mess.file.moment + PID_NAME_AGE < now
 
 -- A message file that isn't known, and that at the moment of its stat was last written over 36 hours ago, is one that no injector
--- touches, so that it stays so old.
+-- touches, so that it stays so old, and that todo/n, once it is missing, doesn't come.
 abbrev pub SweepStands : ℕ → Queue → List ℕ → SweepRow → List Known → Type 0
 SweepStands now q a (sweep.StatMess split n) known = is_known n known ≡ false
-SweepStands now q a (sweep.StatInfo split n) known = (is_known n known ≡ false) × (IsClosed now q n × IsAged now q n)
-SweepStands now q a (sweep.StatTodo split n info) known =
-    (is_known n known ≡ false) × ((IsClosed now q n × IsAged now q n) × (info ≡ false → look q (Of Info n) ≡ None))
+SweepStands now q a (sweep.StatTodo split n) known = (is_known n known ≡ false) × (IsClosed now q n × IsAged now q n)
+SweepStands now q a (sweep.StatInfo split n todo) known =
+    (is_known n known ≡ false) × ((IsClosed now q n × IsAged now q n) × (todo ≡ false → in_todo (about q n).parts ≡ None))
 SweepStands now q a (sweep.Give split n) known = (is_known n known ≡ false) × (RestsAs now q n IsSpent × IsAged now q n)
 SweepStands now q a row known = Unit {0}
 

@@ -1,4 +1,4 @@
--- What steps of others spare, as a sender relies on it: all that concerns a preprocessed number, and each file that preprocessing made.
+-- What steps of others spare, as a sender relies on it: that a number is taken up, and all that concerns a preprocessed one.
 use Rattle.std.specs.Prelude.{◌≡◌, ℕ, ◌≤◌, List, None}
 use Rattle.address_rules.specs.declared.controls.Controls.{Controls}
 use Rattle.call_fs.specs.declared.calls.CallData.{CallData}

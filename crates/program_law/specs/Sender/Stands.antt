@@ -3,7 +3,8 @@ use Rattle.std.specs.Prelude.{◌≡◌, ℕ, List, Option, Some, None, All, IsS
 use Rattle.address_rules.specs.declared.controls.Controls.{Controls}
 use Rattle.program_law.specs.Channel.Tied.{IsTied, waiting}
 use Rattle.queue_paths.specs.Names.Name.{Of}
-use Rattle.queue_paths.specs.Names.Part.{Todo, Info}
+use Rattle.queue_paths.specs.Names.Part.{Info}
+use Rattle.queue_paths.specs.Parts.{in_todo}
 use Rattle.send_core.specs.declared.desk.Desk.{Desk}
 use Rattle.send_parts.specs.declared.row.Row.{Row}
 use Rattle.send_parts.specs.declared.row.Row.TheVariants as at
@@ -21,10 +22,9 @@ use Rattle.send_parts.specs.declared.book.Book.{Book}
 use Rattle.queue_law.specs.Numbers.{Queue, Entry, look, about}
 use Rattle.queue_law.specs.Rests.{IsClosed}
 use Rattle.queue_law.specs.Senders.{LeadsOn}
-use Rattle.queue_law.specs.Steps.{LeavesLater}
 use Rattle.program_law.specs.Sender.Views.{files_of, first_at}
 use Rattle.program_law.specs.Sender.Knows.{Knows, Serves, IsEntered}
-use Rattle.program_law.specs.Sender.Rows.{RowStands, Works, works}
+use Rattle.program_law.specs.Sender.Rows.{IsTakenUp, RowStands, Works, works}
 
 -- Each known message is preprocessed, and of each that is due on a channel the file is there.
 pub record KnowsAll (q : Queue) (row : Row) (m : Messages) : Type 0 where
@@ -72,7 +72,7 @@ pub record SenderLeads (controls : Controls) (now : ℕ) (a : List ℕ) (q r : Q
   pub leads : LeadsOn controls now a number q r
   pub stands : SenderStands controls now r a next
 
--- What a step of another actor leaves to a sender: all that concerns a preprocessed number, and each file that preprocessing made.
+-- What a step of another actor leaves to a sender: that a number is taken up, and all that concerns a preprocessed one.
 pub record SparesSorted (q r : Queue) : Type 0 where
-  pub later : LeavesLater q r
-  pub sorted : (n : ℕ) → look q (Of Todo n) ≡ None → (info : Entry) → look q (Of Info n) ≡ Some info → about r n ≡ about q n
+  pub taken_up : (n : ℕ) → IsTakenUp (about q n) → IsTakenUp (about r n)
+  pub sorted : (n : ℕ) → in_todo (about q n).parts ≡ None → (info : Entry) → look q (Of Info n) ≡ Some info → about r n ≡ about q n

@@ -1,5 +1,5 @@
 -- What one turn, round or line of a play leaves.
-use Rattle.std.specs.Prelude.{◌≡◌, ◌≢◌, ◌⊎◌, ℕ, ◌+◌, List, [], ◌++◌, Bool, true, false, ◌||◌, ◌&&◌, Option, Some, None, bytes_eq, codes, nat_lt}
+use Rattle.std.specs.Prelude.{◌≡◌, ◌≢◌, ◌⊎◌, ℕ, ◌+◌, List, [], ◌++◌, Bool, true, false, ◌||◌, ◌&&◌, ◌==◌, Option, Some, None}
 use Rattle.std.specs.List.{count_by, list_all}
 use Rattle.call_fs.specs.declared.calls.Answer.{Answer}
 use Rattle.call_fs.specs.declared.past.GotData.{GotData}
@@ -21,7 +21,9 @@ use Rattle.scenario.specs.declared.stepping.AfterStep.TheVariants as how
 use Rattle.scenario.specs.Deeds.{Deed}
 use Rattle.scenario.specs.Steps.{plan_through, has_idled, IsRunOf}
 use Rattle.scenario.specs.Traced.{traced_text}
-use Rattle.scenario.specs.Turns.{NoneBetween, Part, IsTurnOf, events_of, text_of, AreReported, reports_of, Round, IsRound, round_events, has_bytes, is_idle, is_search_call, is_first_call}
+use Rattle.scenario.specs.Turns.{NoneBetween, Part, IsTurnOf, events_of, text_of, AreReported, reports_of, Round, IsRound, round_events, has_bytes, is_idle}
+-- searches, as events that are kept
+pub use Rattle.world_events.specs.Searches.{is_search_kept, is_first_kept}
 -- a world in which a script is played, and what a line or a step leaves
 pub use Rattle.scenario.specs.Playing.{IsPlaying, HasPlayed, HasStepped, HasRun, IsRefusedAs}
 
@@ -96,19 +98,9 @@ pub record HasRounded (d : Disk) (new : Seen Crash) (first later : ℕ) (letter 
   pub playing : IsPlaying d new (plan_through plan (round_events letter round)) (round_events letter round ++ h)
   pub text : after_text ≡ before ++ text_of round.parts
 
--- a kept event is a search of the sender for a message to preprocess
-abbrev pub is_search_kept : Kept → Bool
-is_search_kept (kept.Act a own) = bytes_eq a (codes "sender") && is_search_call own.due
-is_search_kept other = false
-
--- one from the start
-abbrev pub is_first_kept : Kept → Bool
-is_first_kept (kept.Act a own) = is_first_call own.due
-is_first_kept other = false
-
--- kept events are nothing but such searches, and all of one turn
+-- kept events are nothing but such searches, and just one of them is from the start
 abbrev pub are_searches_kept : List Kept → Bool
-are_searches_kept events = list_all is_search_kept events && nat_lt (count_by is_first_kept events) 2
+are_searches_kept events = list_all is_search_kept events && (count_by is_first_kept events == 1)
 
 -- what is printed of a line that was played: if events are traced, first those that it added
 pub record HasPrinted (d : Disk) (new : Seen Crash) (traced : Bool) (line : Line) (text : List ℕ) (plan : Plan) (h : List Deed) : Type 0 where

@@ -7,7 +7,7 @@ use Rattle.send_parts.specs.declared.row.Row.TheVariants as at
 use Rattle.send_core.specs.Stands.{ends_idle}
 use Rattle.send_core.specs.Table.{Next}
 use Rattle.send_parts.specs.declared.rows.Search.TheVariants as search
-use Rattle.settle_law.specs.inside.Rests.{BeginsTurn}
+use Rattle.settle_law.specs.Rests.{BeginsTurn}
 use Rattle.settle_law.specs.Suffices.{desk_of}
 
 -- A search of `todo` goes on: from the start, since a number was left before it, or after a name that is no number.

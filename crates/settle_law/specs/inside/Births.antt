@@ -10,7 +10,7 @@ use Rattle.send_known.specs.declared.known.Known.{Known}
 use Rattle.world_events.specs.declared.event.Program.TheVariants.{Sender}
 use Rattle.mail_world.specs.History.Life.{Alive}
 use Rattle.mail_world.specs.History.{Actor, Event, Legal, after}
-use Rattle.settle_law.specs.inside.Rests.{BeginsTurn}
+use Rattle.settle_law.specs.Rests.{BeginsTurn}
 use Rattle.settle_law.specs.Suffices.{IsKnown, desk_of}
 
 -- The birth of a known message is the moment at which its info file was last written, whatever failed before.

@@ -12,10 +12,9 @@ use Rattle.world_events.specs.declared.event.Program.TheVariants.{Injector}
 use Rattle.mail_world.specs.History.{Actor, Event, IsSender}
 use Rattle.mail_world.specs.History.{after as after_events}
 use Rattle.mail_world.specs.History.Life.{Alive}
-use Rattle.scenario.specs.Deeds.{Deed, after}
+use Rattle.scenario.specs.Deeds.{Deed}
 use Rattle.world_law.specs.Spawned.{IsSpawner, spawner_name, stands_after}
 use Rattle.settle_law.specs.Promised.{IsRest, OthersWait}
-use Rattle.settle_law.specs.inside.Rests.{BeginsTurn}
 use Rattle.settle_law.specs.Suffices.{desk_of}
 use Rattle.settle_law.specs.Well.{GoesWell}
 
@@ -32,7 +31,7 @@ pub record OthersEnd : Type 0 where
       → (after_events d h).actors a ≡ Some y → y.life ≡ Alive → (IsSender y.program → ⊥) → (after_events d h).pipework.programs a slot ≡ Some (Runs b)
       → (after_events d h).actors b ≡ Some z → z.life ≡ Alive → ⊥
 
--- At a rest the sender has nothing in flight.
+-- At a rest the sender has nothing in flight before its first search.
 abbrev pub RestsFree : Type 0
-RestsFree = (controls : Controls) (d : Disk) (deed : Deed) (before : List Deed) → IsRest controls d deed before → (x : Actor) → (after d before).actors (codes "sender") ≡ Some x
-    → BeginsTurn (desk_of x.past).row → (c : Channel) (slot : ℕ) → attempt_in (lane c (desk_of x.past).slots).slots slot ≡ None
+RestsFree = (controls : Controls) (d : Disk) (later : List Deed) (first : Deed) (before : List Deed) → (rest : IsRest controls d later first before)
+    → (c : Channel) (slot : ℕ) → attempt_in (lane c (desk_of rest.turn.sender.past).slots).slots slot ≡ None

@@ -12,7 +12,7 @@ use Rattle.retry_law.specs.Retries.{has_file}
 use Rattle.world_events.specs.declared.event.Program.TheVariants.{Sender}
 use Rattle.mail_world.specs.History.{Actor, Event, Legal, after}
 use Rattle.mail_world.specs.History.Life.{Alive}
-use Rattle.settle_law.specs.inside.Rests.{BeginsTurn}
+use Rattle.settle_law.specs.Rests.{BeginsTurn}
 use Rattle.settle_law.specs.Suffices.{IsKnown, desk_of}
 
 -- A known message that doesn't have its file of a channel has none there, whatever failed before.

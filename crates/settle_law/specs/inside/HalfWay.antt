@@ -1,5 +1,5 @@
 -- Numbers whose message file is there, but neither their todo file nor their info file (INTERNALS, "Queue structure").
-use Rattle.std.specs.Prelude.{◌≡◌, ◌≢◌, ◌<◌, ◌≤◌, ◌^◌, ℕ, Bool, true, false, List, [], ◌∷◌, Some, None, codes}
+use Rattle.std.specs.Prelude.{◌≡◌, ◌≢◌, ◌<◌, ◌≤◌, ◌^◌, ℕ, Bool, true, false, List, [], ◌∷◌, ◌++◌, Some, None, codes}
 use Rattle.address_rules.specs.declared.controls.Controls.{Controls}
 use Rattle.call_fs.specs.Disk.{Disk}
 use Rattle.call_fs.specs.declared.program.Port.TheVariants as port
@@ -9,7 +9,8 @@ use Rattle.queue_inject.specs.declared.injection.Arguments.{Arguments}
 use Rattle.queue_inject.specs.Table.{place_after as inject_after}
 use Rattle.queue_paths.specs.Names.{path}
 use Rattle.queue_paths.specs.Names.Name.{Of}
-use Rattle.queue_paths.specs.Names.Part.{Info, Mess, Todo}
+use Rattle.queue_paths.specs.Names.Part.{Info, Mess}
+use Rattle.queue_paths.specs.Parts.{in_todo, parts_of}
 use Rattle.queue_states.specs.States.{state_of}
 use Rattle.queue_states.specs.declared.state.State.TheVariants.{S2, S3}
 use Rattle.send_parts.specs.declared.row.Row.TheVariants as at
@@ -28,7 +29,7 @@ use Rattle.settle_law.specs.Well.{GoesWell}
 -- so it is in S2 and S3
 pub record IsHalfWay (d : Disk) (n : ℕ) : Type 0 where
   pub mess : d.names (path (Of Mess n)) ≢ None
-  pub no_todo : d.names (path (Of Todo n)) ≡ None
+  pub no_todo : in_todo (parts_of d.names n) ≡ None
   pub no_info : d.names (path (Of Info n)) ≡ None
 
 -- the cleaner is to give an answer
@@ -54,5 +55,5 @@ HalfWaysAreMinded = (controls : Controls) (d : Disk) (h : List Event) → GoesWe
 
 -- So none is left at a rest.
 abbrev pub NoneIsHalfWay : Type 0
-NoneIsHalfWay = (controls : Controls) (d : Disk) (deed : Deed) (before : List Deed) → IsRest controls d deed before
-    → (n : ℕ) → (state_of (after d (deed ∷ before)).disk n ≢ S2) × (state_of (after d (deed ∷ before)).disk n ≢ S3)
+NoneIsHalfWay = (controls : Controls) (d : Disk) (later : List Deed) (first : Deed) (before : List Deed) → IsRest controls d later first before
+    → (n : ℕ) → (state_of (after d (later ++ first ∷ before)).disk n ≢ S2) × (state_of (after d (later ++ first ∷ before)).disk n ≢ S3)

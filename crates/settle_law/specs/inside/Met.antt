@@ -11,7 +11,8 @@ use Rattle.call_fs.specs.declared.past.Own.{Own}
 use Rattle.mail_bytes.specs.Decimal.{digits}
 use Rattle.queue_paths.specs.Names.{path, split}
 use Rattle.queue_paths.specs.Names.Name.{Of}
-use Rattle.queue_paths.specs.Names.Part.{Info, Todo}
+use Rattle.queue_paths.specs.Names.Part.{Info}
+use Rattle.queue_paths.specs.Parts.{in_todo, parts_of}
 use Rattle.queue_states.specs.States.{state_of}
 use Rattle.queue_states.specs.declared.state.State.TheVariants.{S5}
 use Rattle.retry_law.specs.Left.{leaves_at}
@@ -35,7 +36,7 @@ use Rattle.todo_pass.specs.declared.row.Row.TheVariants as todo
 use Rattle.world_events.specs.declared.event.Program.TheVariants.{Sender}
 use Rattle.mail_world.specs.History.{Actor, Event, after}
 use Rattle.mail_world.specs.History.Life.{Alive}
-use Rattle.settle_law.specs.inside.Rests.{BeginsTurn}
+use Rattle.settle_law.specs.Rests.{BeginsTurn}
 use Rattle.settle_law.specs.Suffices.{IsKnown, desk_of}
 use Rattle.settle_law.specs.Well.{GoesWell}
 
@@ -100,7 +101,7 @@ StaysMet = (event : Own) (past : List Own) → IsRunBy (Next None) (event ∷ pa
 
 -- the message has an info file and no todo file
 abbrev pub IsFiled : Disk → ℕ → Type 0
-IsFiled d n = (d.names (path (Of Todo n)) ≡ None) × IsSome (d.names (path (Of Info n)))
+IsFiled d n = (in_todo (parts_of d.names n) ≡ None) × IsSome (d.names (path (Of Info n)))
 
 -- Each such message is met, and one that the cleaner was told to remove has no info file.
 pub record AreMet (d : Disk) (past : List Own) : Type 0 where

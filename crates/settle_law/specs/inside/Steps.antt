@@ -32,9 +32,9 @@ IdleRoundsRest = (d : Disk) (h : List Deed) (plan : Plan) (letter : Letter) (rou
 
 -- Such a rest is settled.
 abbrev pub RestsAreSettled : Type 0
-RestsAreSettled = (controls : Controls) (d : Disk) (deed : Deed) (before : List Deed) → IsRest controls d deed before → Settled (after d (deed ∷ before))
+RestsAreSettled = (controls : Controls) (d : Disk) (later : List Deed) (first : Deed) (before : List Deed) → IsRest controls d later first before → Settled (after d (later ++ first ∷ before))
 
 -- And if each report was of a success no message is left.
 abbrev pub RestsAreEmpty : Type 0
-RestsAreEmpty = (controls : Controls) (d : Disk) (deed : Deed) (before : List Deed) → IsRest controls d deed before → AllSucceed (history_of (deed ∷ before))
-    → AllGone (after d (deed ∷ before))
+RestsAreEmpty = (controls : Controls) (d : Disk) (later : List Deed) (first : Deed) (before : List Deed) → IsRest controls d later first before
+    → AllSucceed (history_of (later ++ first ∷ before)) → AllGone (after d (later ++ first ∷ before))

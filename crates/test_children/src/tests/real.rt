@@ -87,7 +87,8 @@ fn wrong<R: Wait + Drop, S: System>(
     }
 }
 
-/// The same over the system, where a child may run for so long after its input ended, in milliseconds, and files lie in `/tmp`.
+/// The same over the system, where a child may run for so long after its input ended, in milliseconds, and files lie in the directory in
+/// which it runs.
 fn wrong_over<R: Threads + Wait + Processes + Clock + Copy + Send + Sync + Drop + 'static>(
     rt: R,
     files: &HostRuntime,
@@ -102,7 +103,7 @@ where
     <R::Started as OpenProcess>::Stderr: Send + 'static,
 {
     let text = text(alloc)?;
-    let system = HostSystem::new(rt, files, 0, String::from_str(alloc, "/tmp")?);
+    let system = HostSystem::new(rt, files, 0, String::from_str(alloc, ".")?);
     let mut yard = Yard::new(rt, alloc, 64, system, drain)?;
     let told = wrong(&mut yard, alloc, part, text.as_slice());
     drop(yard);
@@ -131,5 +132,5 @@ fn much_that_is_counted(rt: HostRuntime) {
 
 #[test]
 fn ended_by_the_limit(rt: HostRuntime) {
-    assert!(rt; wrong_over(rt, &rt, rt.alloc(), 100, Part::Sleepers) == Ok(""));
+    assert!(rt; wrong_over(rt, &rt, rt.alloc(), 1000, Part::Sleepers) == Ok(""));
 }

@@ -2,7 +2,7 @@
 ghost use Rattle.std.specs.Prelude.{◌≡◌, ◌≤◌, All, IfOk, OnOk, length};
 ghost use Rattle.test_local.specs.Drops.{IsRunning};
 
-use call_fs::{CallFs, CrashFs, Got, Need, PIECE, Survival, UNREADY, perform};
+use call_fs::{Call, CallFs, CrashFs, Got, Need, PIECE, Survival, UNREADY, perform};
 use crash_fs::CrashDisk;
 use mail_bytes::Memory;
 use maildir_drop::{End, MaildirDrop};
@@ -302,6 +302,51 @@ fn a_machine_stop_leaves_the_whole_message_or_nothing(rt: HostRuntime) -> Result
         for how in SURVIVALS {
             assert!(rt; survives(rt.alloc(), steps, how), "after {steps} calls");
         }
+    }
+    Ok(())
+}
+
+/// The maildir's third directory, and a name in it that a reader gives.
+const CUR_DIR: &[u8] = b"h/Maildir/cur";
+
+const CUR: &[u8] = b"h/Maildir/cur/7.82.localhost:2,";
+
+/// A reader moves the mail that a drop has linked into `new` to `cur`, if it is there.
+fn move_on<D: CallFs>(alloc: Global, machine: &MaildirDrop, disk: &mut D)
+    requires { IsRunning machine.now (D.disk disk.old) }
+    ensures { IsRunning machine.now (D.disk disk.new) }
+{
+    let mut into = [0; PIECE];
+    let _linked = perform(alloc, disk, 5, Call::Link(NEW_1, CUR), &mut into);
+    let _unlinked = perform(alloc, disk, 5, Call::Unlink(NEW_1), &mut into);
+}
+
+/// Whether a drop ends well if a reader comes after so many calls of it, and the mail stands where he left it.
+fn is_read(alloc: Global, steps: usize) -> bool {
+    let Ok(mut disk) = made(alloc, &[TMP_DIR, NEW_DIR, CUR_DIR], &[], &[]) else {
+        return false;
+    };
+    let Ok(blocks) = blocks(alloc, &PARTS) else {
+        return false;
+    };
+    let Ok(mut machine) = MaildirDrop::new(alloc, DIR, 7, 82, b"localhost", blocks) else {
+        return false;
+    };
+    run(alloc, &mut machine, &mut disk, steps);
+    move_on(alloc, &machine, &mut disk);
+    run(alloc, &mut machine, &mut disk, 100);
+    let wanted = if steps < 5 {
+        FIRST
+    } else {
+        [Held::Nothing, Held::Message, Held::Nothing]
+    };
+    end_of(&machine) == Ended::Dropped(0) && under(&disk, &[NEW_1, CUR, TMP_1]) == wanted
+}
+
+#[test]
+fn a_reader_may_move_the_mail_once_it_is_linked(rt: HostRuntime) -> Result<(), Fail> {
+    for steps in 0..7 {
+        assert!(rt; is_read(rt.alloc(), steps), "after {steps} calls");
     }
     Ok(())
 }

@@ -1,4 +1,4 @@
-use Rattle.std.proofs.Common.{◌≡◌, Bool, true, ◌&&◌, ℕ, nat_lt, sym, ap, ◌∙◌, rules, tests}
+use Rattle.std.proofs.Common.{◌≡◌, Bool, true, ◌&&◌, ◌==◌, ℕ, sym, ap, ◌∙◌, rules, tests}
 use Rattle.std.specs.List.{count_by, list_all}
 use Rattle.std.proofs.lemmas.Iterator.{YieldsList-from_slice}
 use Rattle.std.proofs.lemmas.Iterator.Consumers.{YieldsList-from_filter, count_from_yields_List}
@@ -15,4 +15,4 @@ returns-then-all c =
     let count : c.count.result ≡ count_by is_first_kept events =
     count_from_yields_List c.filter.result c.count.result c.count.ensures.ran
     (YieldsList-from_filter _ is_first_kept (YieldsList-from_slice events cc) c.filter.ensures.closure (λ x r q k. search (rules, tests))) ∙ length-filter is_first_kept events in
-    ap (λ (n : ℕ). nat_lt n 2) count ∙ sym (ap (λ (b : Bool). b && nat_lt (count_by is_first_kept events) 2) all)
+    ap (λ (n : ℕ). n == 1) count ∙ sym (ap (λ (b : Bool). b && (count_by is_first_kept events == 1)) all)

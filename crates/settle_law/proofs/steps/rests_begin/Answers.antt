@@ -1,4 +1,4 @@
-use Rattle.settle_law.proofs.Strays.{rests_begin}
+use Rattle.settle_law.proofs.WholeTurns.{rests_begin}
 use Rattle.settle_law.proofs.steps.rests_begin.Goals as goal
 
 pub returns : goal.returns

@@ -1,4 +1,4 @@
-use Rattle.settle_law.proofs.Unqueued.{unqueued}
+use Rattle.settle_law.proofs.NoneQueued.{unqueued}
 use Rattle.settle_law.proofs.steps.rests_unqueued.Goals as goal
 
 pub returns : goal.returns
