@@ -1,15 +1,15 @@
 #!/usr/bin/env bash
-# bench/bounce.sh: has Python's email package read bounces as crates/test_bounce_once prints them, which is what the sender injects:
+# bench/bounce.sh: has Python's email package read bounces as crates/test_send prints them, which is what the sender injects:
 # to a sender, to one with the ending of a variable return path, and as a double bounce; with two recipients, one of them with
 # a newline in the address, and a report with empty lines. Checks the headers, that each address is named by the first line
 # of a paragraph and no other is, and that the message is returned whole. Exit status 1 if something differs.
-# BOUNCE names the program; without it that of crates/test_bounce_once is taken, which is proved and built first if it isn't there.
+# BOUNCE names the program; without it that of crates/test_send is taken, which is proved and built first if it isn't there.
 set -eu
 top=$(cd "$(dirname "$0")/.." && pwd)
 command -v python3 > /dev/null || { echo "skipped: there is no python3"; exit 0; }
 
-program=${BOUNCE:-$top/crates/test_bounce_once/out/test_bounce_once}
-[ -x "$program" ] || (cd "$top/crates/test_bounce_once" && rt run > /dev/null) || true
+program=${BOUNCE:-$top/crates/test_send/out/test_send}
+[ -x "$program" ] || (cd "$top/crates/test_send" && rt run > /dev/null) || true
 [ -x "$program" ] || { echo "there is no program to print bounces"; exit 1; }
 
 python3 - "$program" <<'END'

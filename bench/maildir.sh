@@ -1,9 +1,9 @@
 #!/usr/bin/env bash
 # bench/maildir.sh [N]: makes N drops (50 without it) into a fresh maildir on a real directory, each by a process of
-# crates/test_drop_once, and has outside readers look at it: Python's mailbox.Maildir, and mutt if it is installed. Checks that
+# crates/test_local, and has outside readers look at it: Python's mailbox.Maildir, and mutt if it is installed. Checks that
 # each finds just these messages with their bytes, that nothing is left in tmp, and that a second drop under a name that is
 # taken in tmp takes the next one and one under a name that is taken in new defers. Exit status 1 if something differs.
-# DROP names the program; without it that of crates/test_drop_once is taken, which is proved and built first if it isn't there.
+# DROP names the program; without it that of crates/test_local is taken, which is proved and built first if it isn't there.
 set -eu
 count=${1:-50}
 top=$(cd "$(dirname "$0")/.." && pwd)
@@ -12,8 +12,8 @@ work=$(mktemp -d)
 trap 'rm -rf "$work"' EXIT
 bad=0
 
-program=${DROP:-$top/crates/test_drop_once/out/test_drop_once}
-[ -x "$program" ] || (cd "$top/crates/test_drop_once" && rt run -- "$work" no/ 0 0 h "" > /dev/null) || true
+program=${DROP:-$top/crates/test_local/out/test_local}
+[ -x "$program" ] || (cd "$top/crates/test_local" && rt run -- "$work" no/ 0 0 h "" > /dev/null) || true
 [ -x "$program" ] || { echo "there is no program to make drops"; exit 1; }
 
 mkdir -p "$work/m/tmp" "$work/m/new" "$work/m/cur"

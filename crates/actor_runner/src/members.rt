@@ -26,7 +26,7 @@ fn member(number: u64) -> Member {
     }
 }
 
-/// Steps one member, as often as it is tried; a step that is refused counts as a try. It passes the gate before each try, outside its
+/// Steps one member, as often as it is tried; a step that is refused counts as a try. It passes the gate before the first, outside its
 /// turn. The conditions: the pass is of this yard, and there is a member with this number.
 pub(crate) fn step_member<D: CallFs, G: Gate, R: Wait>(
     rt: &R,
@@ -41,8 +41,8 @@ pub(crate) fn step_member<D: CallFs, G: Gate, R: Wait>(
     ensures pass { pass.new ≡ record pass.old { seen = pass.new.seen } }
 {
     let name = member(number).actor_name();
+    gate.pause(0, number + 1);
     for _ in 0..TRIES {
-        gate.pause(0, number + 1);
         let _ = yard.step(rt, alloc, pass, name.copy())?;
     }
     Ok(())

@@ -22,11 +22,11 @@ use Rattle.world_pipes.specs.Pipework.{Pipework, Tenant, is_member, programs_aft
 use Rattle.world_pipes.specs.Pipework.Tenant.{Runs, Remote}
 use Rattle.world_events.specs.declared.event.Program.{Program}
 use Rattle.world_events.specs.declared.event.Program.TheVariants.{Injector, Delivery}
-use Rattle.mail_world.specs.History.{Event, Actor, Life, State, Allowed, MayRead, MayFind, MayRun, MayDo, MayBear, MayEnd, MayReport, MayBegin, MayStart, IsLiving, TenantEnds, IsStatusOf, IsFed, IsProgramOf, ComesOf, EachAllowed, after, happens, acted, finished, begins, bouncer_in, bouncer_at, books_after, newborn, stopped, cut_off, start_of, slot_by}
+use Rattle.mail_world.specs.History.{Event, Actor, Life, State, Allowed, MayRead, MayFind, MayRun, MayDo, MayBear, MayEnd, MayReport, MayBegin, MayStart, IsLiving, TenantEnds, IsStatusOf, IsFed, IsProgramOf, ComesOf, EachAllowed, after, happens, acted, finished, begins, bouncer_in, bouncer_at, books_after, newborn, stopped, cut_off, start_of, slot_by, with_crew}
 use Rattle.mail_world.specs.History.Event.{Start, Act, Child, Generation, Report, End, Stop, Moment, Halt}
 use Rattle.mail_world.specs.History.Life.{Alive, Over, Stopped}
 use Rattle.mail_world.specs.Anew.{IsSameButInput, IsApart, AreApart, idle, AreAlikeBut, HistoriesBeginAnew}
-use Rattle.mail_world.proofs.Members.{member_contained}
+use Rattle.mail_world.proofs.Members.{are_four, member_contained}
 use Rattle.mail_world.proofs.Known.{both_put}
 
 -- Maps of actors
@@ -133,6 +133,10 @@ finished_none s a life (Some x) b gone = none_put s.actors a _ b gone
 abbrev pub AreThere : State → Type 0
 AreThere s = (a : List ℕ) (d : ℕ) (b : List ℕ) → s.pipework.programs a d ≡ Some (Runs b) → s.actors b ≡ None → ⊥
 
+none_crew : (names : List (List ℕ)) (crew : List Program) (actors : List ℕ → Option Actor) (b : List ℕ) → with_crew names crew actors b ≡ None → actors b ≡ None
+none_crew (o ∷ names) (program ∷ crew) actors b gone = none_put actors o (newborn program) b (none_crew names crew (put_at actors o (Some (newborn program))) b gone)
+none_crew names crew actors b gone = gone
+
 there_after : (s : State) (e : Event) → AreThere s → AreThere (happens s e)
 there_after s (Start o program) there a d b is gone = there a d b is (none_put s.actors o (newborn program) b gone)
 there_after s (Act o own wrote) there a d b is gone =
@@ -145,9 +149,8 @@ there_after s (Child parent own o program) there a d b is gone =
     (λ (w : s1.pipework.programs a d ≡ Some (Runs b)).
     there a d b (acted_runs s parent own 0 (s.actors parent) a d b w) (acted_none s parent own 0 (s.actors parent) b (none_put s1.actors o (newborn program) b gone)))
     (born_runs s1.pipework parent (slot_by own.due) o a d b (bytes_eq a parent && (d == slot_by own.due)) refl is)
-there_after s (Generation sender clean lspawn rspawn) there a d b is gone =
-    there a d b (runs_if (is_member a) None (s.pipework.programs a d) b (no_tenant b) is)
-    (none_put _ (codes "sender") (newborn sender) b (none_put _ (codes "clean") (newborn clean) b (none_put _ (codes "lspawn") (newborn lspawn) b (none_put _ (codes "rspawn") (newborn rspawn) b gone))))
+there_after s (Generation crew) there a d b is gone =
+    there a d b (runs_if (is_member a) None (s.pipework.programs a d) b (no_tenant b) is) (none_crew members crew s.actors b gone)
 there_after s (Report slot output) there a d b is gone =
     there a d b (runs_if (bytes_eq a (codes "rspawn") && (d == slot)) (Some (Remote true)) (s.pipework.programs a d) b (remote_tenant true b) is) gone
 there_after s (End o read ready status) there a d b is gone =
@@ -412,7 +415,7 @@ module _ (parent c : List ℕ) (p q : Program) (same : IsSameButInput p q) where
               (born_runs s1.pipework a (slot_by own.due) b o d c (bytes_eq o a && (d == slot_by own.due)) refl there),
         )
 
-    generation_goes : (sender clean lspawn rspawn : Program) → MayBegin s sender clean lspawn rspawn → Goes (Generation sender clean lspawn rspawn)
+    generation_goes : (sender clean lspawn rspawn : Program) → MayBegin s (sender ∷ clean ∷ lspawn ∷ rspawn ∷ []) → Goes (Generation (sender ∷ clean ∷ lspawn ∷ rspawn ∷ []))
     generation_goes sender clean lspawn rspawn h =
         let none : Contains members c → ⊥ = λ among. h.apart c (idle p life) among was (runs_alone p q same) in
         let far : (a : List ℕ) → is_member a ≡ true → a ≢ c = λ a member e. none (member_contained c (ap is_member (sym e) ∙ member)) in
@@ -452,7 +455,8 @@ module _ (parent c : List ℕ) (p q : Program) (same : IsSameButInput p q) where
     event_goes (Start a program) apart h = start_goes a program h
     event_goes (Act a own wrote) apart h = act_goes a own wrote apart.0 apart.1 h
     event_goes (Child a own b program) apart h = child_goes a own b program apart.0 apart.1 h
-    event_goes (Generation sender clean lspawn rspawn) apart h = generation_goes sender clean lspawn rspawn h
+    event_goes (Generation (sender ∷ clean ∷ lspawn ∷ rspawn ∷ [])) apart h = generation_goes sender clean lspawn rspawn h
+    event_goes (Generation crew) apart h = absurd (are_four crew h.kinds)
     event_goes (Report slot output) apart h = report_goes slot output h
     event_goes (End a read ready status) apart h = end_goes a read ready status apart h
     event_goes (Stop a) apart h = stop_goes a h

@@ -42,6 +42,7 @@ use Rattle.mail_world.proofs.Spans.{span_push, span_stays}
 use Rattle.mail_world.proofs.Piped.{whole_push}
 use Rattle.mail_world.proofs.Numbered.{still_count, numbered_begun}
 use Rattle.mail_world.proofs.Worlds.{on_told, one_pid, pid_push}
+use Rattle.world_events.specs.Programs.{crew_at}
 
 -- the members before, if there were any, live no more
 abbrev pub NoneLives : ℕ → List Held → Type 0
@@ -182,9 +183,9 @@ each_of P a b c d mails pa pb pc pd rest (suc (suc (suc (suc j)))) x is =
     let e : 4 + j ≡ suc (suc (suc (suc j))) = omega arith in subst (λ (n : ℕ). P n x) e (rest j x is)
 
 -- who is no member awaits its input, or not, as before
-begun_awaiting : (s : State) (p : ℕ) (a : List ℕ) → is_member a ≡ false → is_awaiting (happens s (Generation (Sender p) (Cleaner p) (LocalSpawner p) (RemoteSpawner p))) a ≡ is_awaiting s a
+begun_awaiting : (s : State) (p : ℕ) (a : List ℕ) → is_member a ≡ false → is_awaiting (happens s (Generation (crew_at p))) a ≡ is_awaiting s a
 begun_awaiting s p a other =
-    awaits_same s (happens s (Generation (Sender p) (Cleaner p) (LocalSpawner p) (RemoteSpawner p))) a refl (ap (λ (t : Bool). if t then fresh else s.pipework.pipes a port.Input) other)
+    awaits_same s (happens s (Generation (crew_at p))) a refl (ap (λ (t : Bool). if t then fresh else s.pipework.pipes a port.Input) other)
 
 -- a new member has nothing open
 new_opens : (d : Disk) (t : State) (x : Held) (name : List ℕ) (program : ℕ → Program) (p : ℕ) → IsNew x name program → t.actors name ≡ Some (newborn (program p))
@@ -241,7 +242,7 @@ begun_keeps told places crew actors four events p n q b w none few slots new nex
     later = events ++ k ∷ []
 
     t : State
-    t = happens s (Generation (Sender p) (Cleaner p) (LocalSpawner p) (RemoteSpawner p))
+    t = happens s (Generation (crew_at p))
 
     mails : List Held
     mails = drop crew actors
@@ -375,7 +376,7 @@ begun_piped crew mouths renewed actors four events p piped over new renews =
     s = known events
 
     t : State
-    t = happens s (Generation (Sender p) (Cleaner p) (LocalSpawner p) (RemoteSpawner p))
+    t = happens s (Generation (crew_at p))
 
     still : (a : List ℕ) → is_member a ≡ false → t.actors a ≡ s.actors a
     still a other = four_other s.actors (Sender p) (Cleaner p) (LocalSpawner p) (RemoteSpawner p) a other

@@ -31,7 +31,7 @@ use Rattle.queue_paths.proofs.Paths.{exact}
 use Rattle.queue_law.proofs.Looks.{mapped_some}
 use Rattle.world_events.specs.declared.event.Event.{Event as Kept}
 use Rattle.world_events.specs.declared.event.Program.{Program}
-use Rattle.world_events.specs.declared.event.Program.TheVariants.{Injector}
+use Rattle.world_events.specs.declared.event.Program.TheVariants.{Injector, Cleaner, Sender, LocalSpawner, RemoteSpawner}
 use Rattle.mail_world.specs.History.{Event, Actor, Injection, Books, Life, State, MayRun, newborn, next_of, own_call, stopped, acted, finished, begun, accept, linked, booked, bouncer_of, books_after, happens, after}
 use Rattle.mail_world.specs.History.Event.{Start, Act, Child, Generation, Report, End, Stop, Moment, Halt}
 use Rattle.mail_world.specs.History.Life.{Over, Stopped}
@@ -43,6 +43,7 @@ use Rattle.mail_world.proofs.Kept.{runs_always}
 use Rattle.mail_world.proofs.Owns.{IsPass, by_act, may_read}
 use Rattle.mail_world.proofs.Programs.{passes_none, program_starts_none}
 use Rattle.mail_world.proofs.Tests.{text_cases, same_text}
+use Rattle.world_events.specs.Programs.{crew_at}
 
 -- an injection of these books
 abbrev pub IsIn : Books → Injection → Type 0
@@ -392,19 +393,19 @@ all_mailed d (k ∷ events) ((Child parent own b program) ∷ h) told a x is =
     (λ a x is. more_mailed (mails_of h) (mail_by b (injection_of program)) a x.program
     (acted_run (IsMailed (mails_of h)) s parent own 0 (s.actors parent) refl (all_mailed d events h told.1) a x is))
     (new_mailed (mails_of h) b program) a x is
-all_mailed d (k ∷ events) ((Generation sender clean lspawn rspawn) ∷ h) told a x is =
-    let are = told.0.2 in
+all_mailed d (k ∷ events) ((Generation crew) ∷ h) told a x is =
     let s = after d h in
     let of : List ℕ → Program → Type 0 = IsMailed (mails_of h) in
-    let one = put_at s.actors (codes "sender") (Some (newborn sender)) in
-    let two = put_at one (codes "clean") (Some (newborn clean)) in
-    let three = put_at two (codes "lspawn") (Some (newborn lspawn)) in
-    put_run of three (codes "rspawn") (newborn rspawn)
-    (put_run of two (codes "lspawn") (newborn lspawn)
-    (put_run of one (codes "clean") (newborn clean)
-    (put_run of s.actors (codes "sender") (newborn sender) (all_mailed d events h told.1)
-    (subst (of (codes "sender")) (sym are.sender_is) tt)) (subst (of (codes "clean")) (sym are.clean_is) tt))
-    (subst (of (codes "lspawn")) (sym are.lspawn_is) tt)) (subst (of (codes "rspawn")) (sym are.rspawn_is) tt) a x is
+    let p : ℕ = told.0.0 in
+    let one = put_at s.actors (codes "sender") (Some (newborn (Sender p))) in
+    let two = put_at one (codes "clean") (Some (newborn (Cleaner p))) in
+    let three = put_at two (codes "lspawn") (Some (newborn (LocalSpawner p))) in
+    let all : AllRun of (happens s (Generation (crew_at p))).actors =
+    put_run of three (codes "rspawn") (newborn (RemoteSpawner p))
+    (put_run of two (codes "lspawn") (newborn (LocalSpawner p))
+    (put_run of one (codes "clean") (newborn (Cleaner p))
+    (put_run of s.actors (codes "sender") (newborn (Sender p)) (all_mailed d events h told.1) tt) tt) tt) tt in
+    subst (λ (programs : List Program). AllRun of (happens s (Generation programs)).actors) (sym told.0.2) all a x is
 all_mailed d (k ∷ events) ((Report slot output) ∷ h) told a x is = all_mailed d events h told.1 a x is
 all_mailed d (k ∷ events) ((End b read ready status) ∷ h) told a x is =
     finished_run (IsMailed (mails_of h)) (after d h) b (Over status) ((after d h).actors b) refl (all_mailed d events h told.1) a x is
@@ -537,7 +538,7 @@ each_told d (k ∷ events) ((Start b program) ∷ h) legal told q is =
 each_told d (k ∷ events) ((Act b own wrote) ∷ h) legal told q is =
     act_told d h b own wrote legal (all_mailed d events h told.1) (each_told d events h legal.0 told.1) q is
 each_told d (k ∷ events) ((Child parent own b program) ∷ h) legal told q is = absurd (bears_none d h parent own b program legal)
-each_told d (k ∷ events) ((Generation sender clean lspawn rspawn) ∷ h) legal told q is = absurd legal.1
+each_told d (k ∷ events) ((Generation crew) ∷ h) legal told q is = absurd legal.1
 each_told d (k ∷ events) ((Report slot output) ∷ h) legal told q is =
     let s = after d h in
     same_told h (Report slot output ∷ h) s s.books s.actors refl [] (sym (append-nil (mails_of h))) (λ a. refl) (λ a run. run) (each_told d events h legal.0 told.1) q is

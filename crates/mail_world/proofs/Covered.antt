@@ -10,7 +10,7 @@ abbrev pub IsLone : State → Event → Type 0
 IsLone s (Start a program) = Allowed s (Start a program)
 IsLone s (Act a own wrote) = Allowed s (Act a own wrote)
 IsLone s (Child parent own a program) = Allowed s (Child parent own a program)
-IsLone s (Generation sender clean lspawn rspawn) = ⊥
+IsLone s (Generation crew) = ⊥
 IsLone s (Report slot output) = Allowed s (Report slot output)
 IsLone s (End a read ready status) = Allowed s (End a read ready status)
 IsLone s (Stop a) = Allowed s (Stop a)
@@ -26,7 +26,7 @@ lone : (s : State) (e : Event) → Allowed s e → is_generation e ≡ false →
 lone s (Start a program) allowed none = allowed
 lone s (Act a own wrote) allowed none = allowed
 lone s (Child parent own a program) allowed none = allowed
-lone s (Generation sender clean lspawn rspawn) allowed none = absurd cc
+lone s (Generation crew) allowed none = absurd cc
 lone s (Report slot output) allowed none = allowed
 lone s (End a read ready status) allowed none = allowed
 lone s (Stop a) allowed none = allowed

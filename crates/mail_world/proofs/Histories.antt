@@ -19,7 +19,7 @@ use Rattle.call_fs.specs.declared.past.NeedData.TheVariants as needs
 use Rattle.call_fs.specs.declared.program.Port.TheVariants as port
 use Rattle.mail_bytes.specs.Told.{OnTold, Meets}
 use Rattle.world_events.specs.declared.event.Program.{Program}
-use Rattle.world_events.specs.declared.event.Program.TheVariants.{Injector, Cleaner, Sender, LocalSpawner, RemoteSpawner}
+use Rattle.world_events.specs.declared.event.Program.TheVariants.{Injector}
 use Rattle.world_events.specs.Inputs.{with_texts, start_with, with_inputs}
 use Rattle.call_fs.specs.declared.past.Own.{Own}
 use Rattle.world_events.specs.declared.event.Event.{Event as Kept}
@@ -42,6 +42,7 @@ use Rattle.mail_world.proofs.Passes.{passing}
 use Rattle.mail_world.proofs.Tests.{same_text, other_text}
 use Rattle.mail_world.specs.ByKind.{IsMail}
 use Rattle.mail_world.proofs.Programs.{mail_runs}
+use Rattle.world_events.specs.Programs.{crew_at}
 
 history_push : (o d : Disk) (events : List Kept) (p : ℕ) (h : List Event) (k : Kept) (e : Event)
     → IsPlain k → Leads o d events p h → Tells k e → Allowed (after o h) e → IsByName (after o h).disk e
@@ -262,14 +263,14 @@ generation_goes_on : (o d : Disk) (events : List Kept) (p : ℕ) (h : List Event
     → (e : Event) × Leads o d (events ++ kept.Generation p ∷ []) p (e ∷ h)
 generation_goes_on o d events p h is gone =
     let s = after o h in
-    let e : Event = Generation (Sender p) (Cleaner p) (LocalSpawner p) (RemoteSpawner p) in
+    let e : Event = Generation (crew_at p) in
     let same = after_known o events h is.told in
     let allowed : Allowed s e = record {
       over = λ a x among there. (gone a x (contained_member a among) (ap (λ (m : List ℕ → Option Actor). m a) (sym same.actors) ∙ there)).0;
       apart = λ a x among there. (gone a x (contained_member a among) (ap (λ (m : List ℕ → Option Actor). m a) (sym same.actors) ∙ there)).1;
-      kinds = (tt, tt, tt, tt);
+      kinds = (tt, (tt, (tt, (tt, tt))));
     } in
-    let told : Tells (kept.Generation p) e = (p, refl, record { sender_is = refl; clean_is = refl; lspawn_is = refl; rspawn_is = refl }) in
+    let told : Tells (kept.Generation p) e = (p, refl, refl) in
     let next = history_push o d events p h (kept.Generation p) e tt is told allowed tt in
     (e, record { allowed = next.allowed; told = next.told; named = next.named; disk = is.disk; moment = is.moment })
 
@@ -322,7 +323,7 @@ began_event c message envelope ks h k e is told began = by_event e is where
   by_event (Start a program) is = subst (TellsBegun c message envelope ks h (Start a program)) (sym is) (refl, began)
   by_event (Act a own wrote) is = subst (TellsBegun c message envelope ks h (Act a own wrote)) (sym is) (refl, began)
   by_event (Child parent own a program) is = subst (TellsBegun c message envelope ks h (Child parent own a program)) (sym is) (began_by_name c message envelope ks h parent own a program (bytes_eq a c) told began)
-  by_event (Generation sender clean lspawn rspawn) is = subst (TellsBegun c message envelope ks h (Generation sender clean lspawn rspawn)) (sym is.1) ((is.0, refl, is.2), began)
+  by_event (Generation crew) is = subst (TellsBegun c message envelope ks h (Generation crew)) (sym is.1) ((is.0, refl, is.2), began)
   by_event (Report slot output) is = subst (TellsBegun c message envelope ks h (Report slot output)) (sym is.2) ((is.0, is.1, refl, is.3), began)
   by_event (End a read ready status) is = subst (TellsBegun c message envelope ks h (End a read ready status)) (sym is) (refl, began)
   by_event (Stop a) is = subst (TellsBegun c message envelope ks h (Stop a)) (sym is) (refl, began)
@@ -345,7 +346,7 @@ apart_event parent c message envelope k (Child a own b program) h is apart =
       (far.0, far.1),
       ap (λ (t : Bool). if t then (Child a own b (with_texts message envelope program)) ∷ h else (Child a own b program ∷ begun_with c message envelope h)) (other_text b c far.2),
     )
-apart_event parent c message envelope k (Generation sender clean lspawn rspawn) h is apart = (tt, refl)
+apart_event parent c message envelope k (Generation crew) h is apart = (tt, refl)
 apart_event parent c message envelope k (Report slot output) h is apart = (tt, refl)
 apart_event parent c message envelope k (End a read ready status) h is apart = ((subst (IsApart parent c) is apart).1, refl)
 apart_event parent c message envelope k (Stop a) h is apart = (tt, refl)
@@ -375,7 +376,7 @@ begun_at parent own c program message envelope k (Child a other b runs) h here i
     }
 begun_at parent own c program message envelope k (Start a runs) h here is = let no : kept.Child parent own c program ≡ kept.Start a runs = sym here ∙ is in absurd (cc)
 begun_at parent own c program message envelope k (Act a other wrote) h here is = let no : kept.Child parent own c program ≡ kept.Act a other = sym here ∙ is in absurd (cc)
-begun_at parent own c program message envelope k (Generation sender clean lspawn rspawn) h here is = let no : kept.Child parent own c program ≡ kept.Generation is.0 = sym here ∙ is.1 in absurd (cc)
+begun_at parent own c program message envelope k (Generation crew) h here is = let no : kept.Child parent own c program ≡ kept.Generation is.0 = sym here ∙ is.1 in absurd (cc)
 begun_at parent own c program message envelope k (Report slot output) h here is = let no : kept.Child parent own c program ≡ kept.Report slot is.0 is.1 = sym here ∙ is.2 in absurd (cc)
 begun_at parent own c program message envelope k (End a read ready status) h here is = let no : kept.Child parent own c program ≡ kept.End a read ready status = sym here ∙ is in absurd (cc)
 begun_at parent own c program message envelope k (Stop a) h here is = let no : kept.Child parent own c program ≡ kept.Stop a = sym here ∙ is in absurd (cc)

@@ -264,7 +264,7 @@ kept controls s (Act a own wrote) I h =
     (λ read ready call told may. kept_call controls s I a read ready call told wrote may) (kept_pass controls s I a wrote) own h in
     record { inv = w.inv; rest = record { outside = λ _. w.outside; opens = w.opens; accepted = w.accepted; sorted = λ _. w.sorted } }
 kept controls s (Child parent own a program) I h = absurd (program_starts_none h.actor.program h.actor.past own.read own.ready h.asked (runs controls s I parent h.actor h.reads.is) (h.due ∙ h.starts))
-kept controls s (Generation sender clean lspawn rspawn) I h = absurd h
+kept controls s (Generation crew) I h = absurd h
 kept controls s (Report slot output) I h =
     keeps controls s (Report slot output) (kept_pipework controls s (with_report s.pipework slot output) I) refl refl refl refl
 kept controls s (End a read ready status) I h =

@@ -21,14 +21,16 @@ use Rattle.world_events.specs.declared.event.Event.{Event as Kept}
 use Rattle.world_events.specs.declared.event.Event.TheVariants as kept
 use Rattle.world_events.specs.declared.event.Program.{Program}
 use Rattle.world_events.specs.declared.event.Program.TheVariants.{Cleaner, Sender, LocalSpawner, RemoteSpawner}
-use Rattle.mail_world.specs.History.{Event, Actor, Life, State, newborn, stopped, cut_off, happens, acted, finished, begins, after, holder_after, unless_by, report_text, slot_by}
+use Rattle.mail_world.specs.History.{Event, Actor, Life, State, stopped, cut_off, happens, acted, finished, begins, after, holder_after, unless_by, report_text, slot_by, with_crew}
 use Rattle.mail_world.specs.History.Event.{Start, Act, Child, Generation, Report, End, Stop, Moment, Halt}
-use Rattle.mail_world.specs.World.{Tells, AreMembers}
+use Rattle.mail_world.specs.World.{Tells}
 use Rattle.mail_world.specs.Wired.{GivesWhole, IsWholeGiving, AreWholeGivings}
 use Rattle.mail_world.specs.Inside.{IsApart, HasJustStarted, event_of, nowhere, known}
 use Rattle.mail_world.specs.Anew.{idle}
 use Rattle.mail_world.proofs.Members.{four_other}
 use Rattle.mail_world.proofs.Tests.{text_cases, same_text, other_text}
+use Rattle.world_events.specs.Programs.{crew_at}
+use Rattle.actor_names.specs.MailNames.{members}
 
 -- What an event adds
 
@@ -93,23 +95,14 @@ finished_alike s t a life (Some x) c = record {
 }
 
 -- a generation started, whose members are told by the moment
-members_alike : (s t : State) (start : ℕ) (sender clean lspawn rspawn : Program) → AreMembers start sender clean lspawn rspawn → AreAlike s t
-    → AreAlike (happens s (Generation sender clean lspawn rspawn)) (happens t (event_of (kept.Generation start)))
-members_alike s t start sender clean lspawn rspawn are c =
-    let all : (sender clean lspawn rspawn : Program) → AreAlike (happens s (Generation sender clean lspawn rspawn)) (happens t (Generation sender clean lspawn rspawn)) =
-    λ sender clean lspawn rspawn. record {
+members_alike : (s t : State) (start : ℕ) (crew : List Program) → crew ≡ crew_at start → AreAlike s t → AreAlike (happens s (Generation crew)) (happens t (event_of (kept.Generation start)))
+members_alike s t start crew are c =
+    let all : AreAlike (happens s (Generation crew)) (happens t (Generation crew)) = record {
       holder = c.holder;
       now = c.now;
-      actors = put_alike _ _ (codes "rspawn") (Some (newborn rspawn)) (put_alike _ _ (codes "lspawn") (Some (newborn lspawn))
-          (put_alike _ _ (codes "clean") (Some (newborn clean)) (put_alike s.actors t.actors (codes "sender") (Some (newborn sender)) c.actors)));
+      actors = ap (λ (m : List ℕ → Option Actor). with_crew members crew m) c.actors;
     } in
-    let told : State → Program → Program → Program → Program → Type 0 = λ t sender clean lspawn rspawn. AreAlike (happens s (Generation sender clean lspawn rspawn)) t in
-    let one = happens t (event_of (kept.Generation start)) in
-    subst (λ (sender : Program). told one sender clean lspawn rspawn) (sym are.sender_is)
-    (subst (λ (clean : Program). told one (Sender start) clean lspawn rspawn) (sym are.clean_is)
-    (subst (λ (lspawn : Program). told one (Sender start) (Cleaner start) lspawn rspawn) (sym are.lspawn_is)
-    (subst (λ (rspawn : Program). told one (Sender start) (Cleaner start) (LocalSpawner start) rspawn) (sym are.rspawn_is)
-    (all (Sender start) (Cleaner start) (LocalSpawner start) (RemoteSpawner start)))))
+    subst (λ (programs : List Program). AreAlike (happens s (Generation crew)) (happens t (Generation programs))) are all
 
 happens_alike : (s t : State) (k : Kept) (e : Event) → Tells k e → AreAlike s t → AreAlike (happens s e) (happens t (event_of k))
 happens_alike s t k (Start a program) told c =
@@ -127,9 +120,9 @@ happens_alike s t k (Child parent own a program) told c =
     (let one = subst (λ (x : Option Actor). AreAlike (acted s parent own 0 (s.actors parent)) (acted t parent own 0 x))
     (ap (λ (m : List ℕ → Option Actor). m parent) c.actors) (acted_alike s t parent own 0 0 (s.actors parent) c) in
     record { holder = one.holder; now = one.now; actors = put_alike _ _ a _ one.actors })
-happens_alike s t k (Generation sender clean lspawn rspawn) told c =
-    subst (λ (k : Kept). AreAlike (happens s (Generation sender clean lspawn rspawn)) (happens t (event_of k))) (sym told.1)
-    (members_alike s t told.0 sender clean lspawn rspawn told.2 c)
+happens_alike s t k (Generation crew) told c =
+    subst (λ (k : Kept). AreAlike (happens s (Generation crew)) (happens t (event_of k))) (sym told.1)
+    (members_alike s t told.0 crew told.2 c)
 happens_alike s t k (Report slot output) told c =
     subst (λ (k : Kept). AreAlike (happens s (Report slot output)) (happens t (event_of k))) (sym told.2) (record { holder = c.holder; now = c.now; actors = c.actors })
 happens_alike s t k (End a read ready status) told c =
@@ -225,8 +218,8 @@ happens_pipework s t k (Child parent own a program) told whole c same =
     (ap (λ (w : Pipework). with_child w parent (slot_by own.due) a)
     (subst (λ (x : Option Actor). (acted s parent own 0 (s.actors parent)).pipework ≡ (acted t parent own 0 x).pipework)
     (ap (λ (m : List ℕ → Option Actor). m parent) c.actors) (acted_pipework s t parent own 0 0 (s.actors parent) gives same)))
-happens_pipework s t k (Generation sender clean lspawn rspawn) told whole c same =
-    subst (λ (k : Kept). (happens s (Generation sender clean lspawn rspawn)).pipework ≡ (happens t (event_of k)).pipework) (sym told.1) (ap with_generation same)
+happens_pipework s t k (Generation crew) told whole c same =
+    subst (λ (k : Kept). (happens s (Generation crew)).pipework ≡ (happens t (event_of k)).pipework) (sym told.1) (ap with_generation same)
 happens_pipework s t k (Report slot output) told whole c same =
     subst (λ (k : Kept). (happens s (Report slot output)).pipework ≡ (happens t (event_of k)).pipework) (sym told.2)
     (ap (λ (p : Pipework). with_report p slot output) same ∙ ap (λ (bytes : List ℕ). with_report t.pipework slot bytes) told.3)

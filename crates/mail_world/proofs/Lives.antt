@@ -15,6 +15,7 @@ use Rattle.call_fs.proofs.Maps.{put_at_same, put_at_other}
 use Rattle.world_events.specs.declared.event.Event.{Event as Kept}
 use Rattle.world_events.specs.declared.event.Event.TheVariants as kept
 use Rattle.world_events.specs.declared.event.Program.{Program}
+use Rattle.world_events.specs.declared.event.Program.TheVariants.{Cleaner, Sender, LocalSpawner, RemoteSpawner}
 use Rattle.world_events.specs.Inputs.{with_texts, start_with, with_inputs}
 use Rattle.mail_world.specs.Pipework.{is_member}
 use Rattle.mail_world.specs.History.{Event, Actor, Life, State, Allowed, Legal, newborn, stopped, acted, finished, started_by, happens, after}
@@ -26,7 +27,7 @@ use Rattle.queue_law.proofs.Tests.{text_cases, same_text, other_text}
 use Rattle.mail_world.proofs.Owns.{may_read}
 use Rattle.mail_world.proofs.Spans.{span_still, span_begins, span_ends, span_inputs}
 use Rattle.mail_world.proofs.Halts.{never_alive}
-use Rattle.mail_world.proofs.Members.{whether, member_contained, four_other, four_new}
+use Rattle.mail_world.proofs.Members.{are_four, whether, member_contained, four_other, four_new}
 
 -- who was started
 
@@ -95,9 +96,10 @@ happens_started s k (Child parent own b program) a told =
     let t = acted s parent own 0 (s.actors parent) in
     subst (λ (k : Kept). (is_some (s.actors a) || starts a k) ≡ is_some ((happens s (Child parent own b program)).actors a)) (sym told)
     (ap (λ (t : Bool). t || bytes_eq b a) (sym (acted_there s parent own 0 (s.actors parent) a refl)) ∙ started_there t.actors b _ a)
-happens_started s k (Generation sender clean lspawn rspawn) a told =
-    subst (λ (k : Kept). (is_some (s.actors a) || starts a k) ≡ is_some ((happens s (Generation sender clean lspawn rspawn)).actors a)) (sym told.1)
-    (members_there s.actors sender clean lspawn rspawn a)
+happens_started s k (Generation crew) a told =
+    subst (λ (k : Kept). (is_some (s.actors a) || starts a k) ≡ is_some ((happens s (Generation crew)).actors a)) (sym told.1)
+    (subst (λ (programs : List Program). (is_some (s.actors a) || is_member a) ≡ is_some ((happens s (Generation programs)).actors a)) (sym told.2)
+    (members_there s.actors (Sender told.0) (Cleaner told.0) (LocalSpawner told.0) (RemoteSpawner told.0) a))
 happens_started s k (Report slot output) a told =
     subst (λ (k : Kept). (is_some (s.actors a) || starts a k) ≡ is_some (s.actors a)) (sym told.2) (or-false (is_some (s.actors a)))
 happens_started s k (End b read ready status) a told =
@@ -161,7 +163,7 @@ starts_alike : (k : Kept) (e : Event) → Tells k e → starts_in k ≡ started_
 starts_alike k (Start a program) told = ap starts_in told
 starts_alike k (Act a own w) told = ap starts_in told
 starts_alike k (Child parent own a program) told = ap starts_in told
-starts_alike k (Generation sender clean lspawn rspawn) told = ap starts_in told.1
+starts_alike k (Generation crew) told = ap starts_in told.1
 starts_alike k (Report slot output) told = ap starts_in told.2
 starts_alike k (End a read ready status) told = ap starts_in told
 starts_alike k (Stop a) told = ap starts_in told
@@ -299,8 +301,8 @@ happens_suits s n k (Child parent own b program) a span told allowed was =
     (λ same. start_suits a one n span _ (ap (λ (c : List ℕ). bytes_eq c a) (sym same) ∙ same_text a) refl
     (subst (Suits span) (ap s.actors same ∙ allowed.new) was))
     (acted_suits s parent own 0 allowed.actor a span allowed.reads.is was))
-happens_suits s n k (Generation sender clean lspawn rspawn) a span told allowed was =
-    subst (λ (k : Kept). Suits (span_after a k n span) ((happens s (Generation sender clean lspawn rspawn)).actors a)) (sym told.1)
+happens_suits s n k (Generation (sender ∷ clean ∷ lspawn ∷ rspawn ∷ [])) a span told allowed was =
+    subst (λ (k : Kept). Suits (span_after a k n span) ((happens s (Generation (sender ∷ clean ∷ lspawn ∷ rspawn ∷ []))).actors a)) (sym told.1)
     (⊎_elim
     (λ is. let new = four_new s.actors sender clean lspawn rspawn a is in
     subst (Suits (span_after a (kept.Generation told.0) n span)) (sym new.1)
@@ -308,6 +310,7 @@ happens_suits s n k (Generation sender clean lspawn rspawn) a span told allowed 
     (λ other. subst (Suits (span_after a (kept.Generation told.0) n span)) (sym (four_other s.actors sender clean lspawn rspawn a other))
     (suits_still a (kept.Generation told.0) n span (s.actors a) other refl was))
     (whether (is_member a)))
+happens_suits s n k (Generation crew) a span told allowed was = absurd (are_four crew allowed.kinds)
 happens_suits s n k (Report slot output) a span told allowed was =
     subst (λ (k : Kept). Suits (span_after a k n span) (s.actors a)) (sym told.2) (suits_still a (kept.Report slot told.0 told.1) n span (s.actors a) refl refl was)
 happens_suits s n k (End b read ready status) a span told allowed was =

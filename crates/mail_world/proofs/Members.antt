@@ -1,14 +1,47 @@
 -- The names of the members of a generation.
-use Rattle.std.proofs.Common.{◌≡◌, ℕ, List, true, false, Option, Some, refl, ap, ◌∙◌, ⊎_elim, codes}
+use Rattle.std.proofs.Common.{◌≡◌, ◌≢◌, ℕ, List, [], ◌∷◌, Bool, true, false, ◌||◌, Option, Some, refl, sym, ap, ◌∙◌, ⊎_elim, bytes_eq, codes}
+use Rattle.std.specs.List.{list_any}
+use Rattle.actor_names.specs.MailNames.{members}
 use Rattle.call_fs.specs.Maps.{put_at}
 use Rattle.call_fs.proofs.Maps.{put_at_other}
 use Rattle.world_events.specs.declared.event.Program.{Program}
 use Rattle.mail_world.specs.Pipework.{is_member}
-use Rattle.mail_world.specs.History.{Actor, newborn}
+use Rattle.world_events.specs.Programs.{generation}
+use Rattle.mail_world.specs.History.{Actor, AreRunBy, newborn, with_crew}
 -- their names
-pub use Rattle.world_pipes.proofs.Members.{whether, other_than, IsOneOfFour, member_cases, member_contained, contained_member, mail_is_none, if_its}
+pub use Rattle.world_pipes.proofs.Members.{text_cases, whether, other_than, IsOneOfFour, member_cases, member_contained, contained_member, mail_is_none, if_its}
 
--- The four actors of a generation start
+-- The actors of a generation start
+
+or_neither : (p q : Bool) → (p || q) ≡ false → (p ≡ false) × (q ≡ false)
+or_neither false false h = (refl, refl)
+or_neither p q h = absurd (cc)
+
+-- whoever has none of these names is as before
+crew_others : (names : List (List ℕ)) (crew : List Program) (actors : List ℕ → Option Actor) (a : List ℕ) → list_any (bytes_eq a) names ≡ false → with_crew names crew actors a ≡ actors a
+crew_others (b ∷ names) (program ∷ crew) actors a none =
+    let parts = or_neither (bytes_eq a b) (list_any (bytes_eq a) names) none in
+    let apart : a ≢ b = ⊎_elim (λ w. let both : true ≡ false = sym w.1 ∙ parts.0 in absurd (cc)) (λ w. w.0) (text_cases a b) in
+    crew_others names crew (put_at actors b (Some (newborn program))) a parts.1 ∙ put_at_other actors b (Some (newborn program)) a apart
+crew_others names crew actors a none = refl
+
+-- so whoever is no member
+pub crew_other : (actors : List ℕ → Option Actor) (crew : List Program) (a : List ℕ) → is_member a ≡ false → with_crew members crew actors a ≡ actors a
+crew_other actors crew a named = crew_others members crew actors a named
+
+-- Four of them
+
+abbrev pub IsFour : List Program → Type 0
+IsFour (sender ∷ clean ∷ lspawn ∷ rspawn ∷ []) = Unit {0}
+IsFour crew = ⊥
+
+pub are_four : (crew : List Program) → AreRunBy generation crew → IsFour crew
+are_four (sender ∷ clean ∷ lspawn ∷ rspawn ∷ []) kinds = tt
+are_four [] kinds = kinds
+are_four (sender ∷ []) kinds = kinds.1
+are_four (sender ∷ clean ∷ []) kinds = kinds.1.1
+are_four (sender ∷ clean ∷ lspawn ∷ []) kinds = kinds.1.1.1
+are_four (sender ∷ clean ∷ lspawn ∷ rspawn ∷ more ∷ others) kinds = kinds.1.1.1.1
 
 abbrev pub with_four : (List ℕ → Option Actor) → Program → Program → Program → Program → List ℕ → Option Actor
 with_four actors sender clean lspawn rspawn =

@@ -1,5 +1,5 @@
 -- The books of a world are those of each legal history that its events tell.
-use Rattle.std.proofs.Common.{◌≡◌, ◌⊎◌, inr, ℕ, List, [], ◌∷◌, ◌++◌, length, map, reverse, Bool, true, false, ◌&&◌, ◌||◌, is_some, Option, Some, None, refl, sym, ap, ◌∙◌, subst, ⊎_elim, bytes_eq, codes, append-nil}
+use Rattle.std.proofs.Common.{◌≡◌, ◌⊎◌, inr, ℕ, List, [], ◌∷◌, ◌++◌, length, map, reverse, Bool, true, false, ◌&&◌, ◌||◌, is_some, Option, Some, None, refl, sym, ap, ◌∙◌, subst, ⊎_elim, bytes_eq, append-nil}
 use Rattle.std.specs.Prelude.{if◌then◌else◌, IsSome}
 use Rattle.std.specs.List.{AllZip}
 use Rattle.std.specs.Option.{option_map}
@@ -33,16 +33,17 @@ use Rattle.world_events.specs.declared.event.Program.TheVariants.{Injector}
 use Rattle.world_events.specs.declared.books.Entry.{Entry}
 use Rattle.world_events.specs.declared.books.Life.{Life as ToldLife}
 use Rattle.world_events.specs.declared.books.Life.TheVariants as left
-use Rattle.mail_world.specs.History.{Event, Actor, Life, State, MayRun, MayBegin, newborn, next_of, stopped, cut_off as ends_as, acted, finished, happens, after, Legal}
+use Rattle.mail_world.specs.History.{Event, Actor, Life, State, MayRun, MayBegin, newborn, next_of, stopped, cut_off as ends_as, acted, finished, happens, after, Legal, with_crew}
 use Rattle.mail_world.specs.History.Event.{Start, Act, Child, Generation, Report, End, Stop, Moment, Halt}
 use Rattle.mail_world.specs.History.Life.{Alive, Over, Stopped}
 use Rattle.mail_world.specs.Pipework.{is_member}
 use Rattle.mail_world.specs.World.{Tells, with_inputs}
 use Rattle.mail_world.specs.ByKind.{injection_of}
 use Rattle.mail_world.specs.Books.{entry_by, entered_by, queues, queues_by, number_by, newer, acted_on, cut_off, noted, books_of, is_to_todo, is_accepting, is_accepting_by, is_accepted, number_of, mail_by, mails_of, told_life, life_in, entry_in, books_in, BooksAreTheModels}
-use Rattle.mail_world.proofs.Members.{whether, member_contained, if_its, with_four, four_other}
+use Rattle.mail_world.proofs.Members.{whether, member_contained, if_its, crew_other}
 use Rattle.mail_world.proofs.Owns.{MayCall, IsPass, by_act, may_read}
 use Rattle.mail_world.proofs.Tests.{text_cases, same_text, other_text}
+use Rattle.actor_names.specs.MailNames.{members}
 
 -- Which calls accept a mail: an injector's link to todo is one of its intd.
 
@@ -134,15 +135,9 @@ some_stopped None h = h
 some_stopped (Some x) h = refl
 
 -- after the start of a generation
-some_four : (actors : List ℕ → Option Actor) (sender clean lspawn rspawn : Program) (a : List ℕ) → IsSome (actors a)
-    → IsSome (put_at (put_at (put_at (put_at actors (codes "sender") (Some (newborn sender))) (codes "clean") (Some (newborn clean)))
-    (codes "lspawn") (Some (newborn lspawn))) (codes "rspawn") (Some (newborn rspawn)) a)
-some_four actors sender clean lspawn rspawn a there =
-    let one = put_at actors (codes "sender") (Some (newborn sender)) in
-    let two = put_at one (codes "clean") (Some (newborn clean)) in
-    let three = put_at two (codes "lspawn") (Some (newborn lspawn)) in
-    some_put three (codes "rspawn") (newborn rspawn) a (inr (some_put two (codes "lspawn") (newborn lspawn) a
-    (inr (some_put one (codes "clean") (newborn clean) a (inr (some_put actors (codes "sender") (newborn sender) a (inr there)))))))
+some_crew : (names : List (List ℕ)) (crew : List Program) (actors : List ℕ → Option Actor) (a : List ℕ) → IsSome (actors a) → IsSome (with_crew names crew actors a)
+some_crew (b ∷ names) (program ∷ crew) actors a there = some_crew names crew (put_at actors b (Some (newborn program))) a (some_put actors b (newborn program) a (inr there))
+some_crew names crew actors a there = there
 
 -- an actor that is there, and was started alone
 abbrev pub RunsAlone : Option Actor → Type 0
@@ -177,17 +172,15 @@ alone_stopped None alone = alone
 alone_stopped (Some x) alone = alone
 
 -- so it is no member of a generation that may start
-alone_other : (s : State) (sender clean lspawn rspawn : Program) (a : List ℕ) (o : Option Actor) → s.actors a ≡ o → MayBegin s sender clean lspawn rspawn → RunsAlone o → is_member a ≡ false
-alone_other s sender clean lspawn rspawn a None is may alone = absurd alone
-alone_other s sender clean lspawn rspawn a (Some x) is may alone = ⊎_elim
+alone_other : (s : State) (crew : List Program) (a : List ℕ) (o : Option Actor) → s.actors a ≡ o → MayBegin s crew → RunsAlone o → is_member a ≡ false
+alone_other s crew a None is may alone = absurd alone
+alone_other s crew a (Some x) is may alone = ⊎_elim
     (λ member. absurd (may.apart a x (member_contained a member) is alone))
     (λ other. other)
     (whether (is_member a))
 
-alone_four : (s : State) (sender clean lspawn rspawn : Program) (a : List ℕ) → MayBegin s sender clean lspawn rspawn → RunsAlone (s.actors a)
-    → with_four s.actors sender clean lspawn rspawn a ≡ s.actors a
-alone_four s sender clean lspawn rspawn a may alone =
-    four_other s.actors sender clean lspawn rspawn a (alone_other s sender clean lspawn rspawn a (s.actors a) refl may alone)
+alone_crew : (s : State) (crew : List Program) (a : List ℕ) → MayBegin s crew → RunsAlone (s.actors a) → with_crew members crew s.actors a ≡ s.actors a
+alone_crew s crew a may alone = crew_other s.actors crew a (alone_other s crew a (s.actors a) refl may alone)
 
 -- the actor of a mail is there, and was started alone
 abbrev pub IsThere : State → List ℕ × Arguments → Type 0
@@ -241,10 +234,10 @@ mails_there d (k ∷ events) ((Child parent own b program) ∷ h) legal told =
     (λ same. absurd (none_alone (s.actors b) legal.1.new (subst (λ (c : List ℕ). RunsAlone (s.actors c)) (sym same) there)))
     (alone_acted s parent own 0 (s.actors parent) a refl there)) (mails_there d events h legal.0 told.1))
     (bred_there t b program (put_at_same u.actors b (Some (newborn program))))
-mails_there d (k ∷ events) ((Generation sender clean lspawn rspawn) ∷ h) legal told =
+mails_there d (k ∷ events) ((Generation crew) ∷ h) legal told =
     let s = after d h in
-    all_there s (happens s (Generation sender clean lspawn rspawn)) (mails_of h)
-    (λ a there. subst RunsAlone (sym (alone_four s sender clean lspawn rspawn a legal.1 there)) there) (mails_there d events h legal.0 told.1)
+    all_there s (happens s (Generation crew)) (mails_of h)
+    (λ a there. subst RunsAlone (sym (alone_crew s crew a legal.1 there)) there) (mails_there d events h legal.0 told.1)
 mails_there d (k ∷ events) ((Report slot output) ∷ h) legal told =
     all_there (after d h) (happens (after d h) (Report slot output)) (mails_of h) (λ a there. there) (mails_there d events h legal.0 told.1)
 mails_there d (k ∷ events) ((End b read ready status) ∷ h) legal told =
@@ -287,10 +280,10 @@ quiet d (k ∷ events) ((Child parent own b program) ∷ h) legal told a none =
     let u = acted s parent own 0 (s.actors parent) in
     quiet d events h legal.0 told.1 a
     (none_before (s.actors a) ((happens s (Child parent own b program)).actors a) (λ there. some_put u.actors b _ a (inr (some_acted s parent own 0 (s.actors parent) a there))) none)
-quiet d (k ∷ events) ((Generation sender clean lspawn rspawn) ∷ h) legal told a none =
+quiet d (k ∷ events) ((Generation crew) ∷ h) legal told a none =
     let s = after d h in
     quiet d events h legal.0 told.1 a
-    (none_before (s.actors a) ((happens s (Generation sender clean lspawn rspawn)).actors a) (λ there. some_four s.actors sender clean lspawn rspawn a there) none)
+    (none_before (s.actors a) ((happens s (Generation crew)).actors a) (λ there. some_crew members crew s.actors a there) none)
 quiet d (k ∷ events) ((Report slot output) ∷ h) legal told a none = quiet d events h legal.0 told.1 a none
 quiet d (k ∷ events) ((End b read ready status) ∷ h) legal told a none =
     let s = after d h in
@@ -436,12 +429,12 @@ told_so d (k ∷ events) ((Child parent own b program) ∷ h) legal told =
     ∙ start_life u.actors b _ mail.0 (acted_new s parent own 0 (s.actors parent) b refl legal.1.new) (some_acted s parent own 0 (s.actors parent) mail.0 (alone_is (s.actors mail.0) there))))
     (quiet d events h legal.0 told.1 b legal.1.new) (ap life_in (sym (put_at_same u.actors b _)))
     (told_so d events h legal.0 told.1) (mails_there d events h legal.0 told.1)
-told_so d (k ∷ events) ((Generation sender clean lspawn rspawn) ∷ h) legal told =
+told_so d (k ∷ events) ((Generation crew) ∷ h) legal told =
     let s = after d h in
-    let e : Event = Generation sender clean lspawn rspawn in
+    let e : Event = Generation crew in
     more_books k (kept.Generation told.0.0) (books_of events) (entry_in s h) (entry_in (happens s e) (e ∷ h)) s (mails_of h)
     told.0.1 refl (told_so d events h legal.0 told.1) (mails_there d events h legal.0 told.1)
-    (λ mail there. ap (λ life. made mail (number_of mail.0 h) (is_accepted mail.0 h) life) (ap life_in (sym (alone_four s sender clean lspawn rspawn mail.0 legal.1 there))))
+    (λ mail there. ap (λ life. made mail (number_of mail.0 h) (is_accepted mail.0 h) life) (ap life_in (sym (alone_crew s crew mail.0 legal.1 there))))
 told_so d (k ∷ events) ((Report slot output) ∷ h) legal told =
     let s = after d h in
     more_books k (kept.Report slot told.0.0 told.0.1) (books_of events) (entry_in s h) (entry_in (happens s (Report slot output)) (Report slot output ∷ h)) s (mails_of h)

@@ -25,6 +25,7 @@ use Rattle.mail_world.specs.Pipework.{is_member}
 use Rattle.mail_world.proofs.Bounces.{forward_mail}
 use Rattle.mail_world.proofs.Members.{whether, IsOneOfFour, member_cases, four_other, four_sender, four_clean, four_lspawn, four_rspawn}
 use Rattle.mail_world.proofs.Tests.{text_cases}
+use Rattle.world_events.specs.Programs.{crew_at}
 
 -- Counts
 
@@ -158,7 +159,7 @@ numbered_halt s t halted old a x there delivers =
 -- a generation starts
 module _ (s : State) (p : ℕ) where
   abbrev t : State
-  t = happens s (Generation (Sender p) (Cleaner p) (LocalSpawner p) (RemoteSpawner p))
+  t = happens s (Generation (crew_at p))
 
   never : (program : Program) (x : Actor) → (IsDelivery program → ⊥) → ◌≡◌ {A = Option Actor} (Some (newborn program)) (Some x) → IsDelivery x.program → ⊥
   never program x other both delivers = let same : newborn program ≡ x = cc in other (subst (λ (x : Actor). IsDelivery x.program) (sym same) delivers)

@@ -176,7 +176,7 @@ linked_told d (k ∷ events) ((Act b own wrote) ∷ h) legal told q is agreed =
     let mine : t ≡ true → said b ≡ true = λ e. ap (λ c. (c && t) || is_accepted b h) (same_text b) ∙ ap (λ c. c || is_accepted b h) e in
     subst (λ (o : Option Actor). AreLinked (acted s b own wrote o).books said) (sym reads.1.is) (on reads.0 reads.1.is said before mine) q is agreed
 linked_told d (k ∷ events) ((Child parent own b program) ∷ h) legal told q is agreed = absurd (bears_none d h parent own b program legal)
-linked_told d (k ∷ events) ((Generation sender clean lspawn rspawn) ∷ h) legal told q is agreed = linked_told d events h legal.0 told.1 q is agreed
+linked_told d (k ∷ events) ((Generation crew) ∷ h) legal told q is agreed = linked_told d events h legal.0 told.1 q is agreed
 linked_told d (k ∷ events) ((Report slot output) ∷ h) legal told q is agreed = linked_told d events h legal.0 told.1 q is agreed
 linked_told d (k ∷ events) ((End b read ready status) ∷ h) legal told q is agreed =
     subst (λ (books : Books). AreLinked books (λ a. is_accepted a h)) (sym (finished_books (after d h) b (Over status) ((after d h).actors b)))
@@ -332,7 +332,7 @@ row_told d (k ∷ events) ((Act b own wrote) ∷ h) legal told a agreed =
     subst (λ (o : Option Actor). HasRow ((acted s b own wrote o).actors a)) (sym reads.1.is)
     (act_row s b own wrote reads.0 (is_accepting_by own.due own.came) (is_accepted a h) a reads.1.is (on reads.0 reads.1.is) (row_told d events h legal.0 told.1 a) agreed)
 row_told d (k ∷ events) ((Child parent own b program) ∷ h) legal told a agreed = absurd (bears_none d h parent own b program legal)
-row_told d (k ∷ events) ((Generation sender clean lspawn rspawn) ∷ h) legal told a agreed = absurd legal.1
+row_told d (k ∷ events) ((Generation crew) ∷ h) legal told a agreed = absurd legal.1
 row_told d (k ∷ events) ((Report slot output) ∷ h) legal told a agreed = row_told d events h legal.0 told.1 a agreed
 row_told d (k ∷ events) ((End b read ready status) ∷ h) legal told a agreed =
     finish_row (after d h) b (Over status) ((after d h).actors b) a refl (row_told d events h legal.0 told.1 a agreed)

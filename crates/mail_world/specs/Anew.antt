@@ -19,7 +19,7 @@ abbrev pub IsApart : List ℕ → List ℕ → Event → Type 0
 IsApart parent c (Start a program) = Unit {0}
 IsApart parent c (Act a own wrote) = (a ≢ parent) × (a ≢ c)
 IsApart parent c (Child a own b program) = (a ≢ parent) × (a ≢ c)
-IsApart parent c (Generation sender clean lspawn rspawn) = Unit {0}
+IsApart parent c (Generation crew) = Unit {0}
 IsApart parent c (Report slot output) = Unit {0}
 IsApart parent c (End a read ready status) = a ≢ c
 IsApart parent c (Stop a) = Unit {0}

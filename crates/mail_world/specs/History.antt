@@ -39,7 +39,9 @@ use Rattle.local_parts.specs.Arguments.{local_args}
 use Rattle.remote_spawn.specs.Table.{Next as SpawnsNext}
 use Rattle.world_events.specs.declared.event.Program.{Program}
 use Rattle.world_events.specs.declared.event.Program.TheVariants.{Injector, Cleaner, Sender, LocalSpawner, RemoteSpawner, Delivery}
-use Rattle.world_events.specs.Programs.{StartsAlone, class_of}
+use Rattle.actor_names.specs.declared.member.Member.{Member}
+use Rattle.actor_names.specs.declared.member.Member.TheVariants as member
+use Rattle.world_events.specs.Programs.{StartsAlone, class_of, generation}
 use Rattle.actor_names.specs.MailNames.{members}
 use Rattle.mail_world.specs.Pipework.{Pipework, Tenant, Slot, is_ready, Yields, no_pipework, slot_of, pipework_after, with_child, without_writer, with_generation, with_report}
 use Rattle.mail_world.specs.Pipework.Tenant.{Runs, Remote}
@@ -52,15 +54,15 @@ pub use Rattle.world_events.specs.Starting.{starts_program}
 pub use Rattle.queue_law.specs.Books.{own_call, last_read, Injection, Books, begun, accept, linked, booked, booked_all, held_by}
 
 -- One event. `own` is an event of the actor's own past, and the start of a child is its parent's too. `wrote` is how many
--- bytes a failed write had written, or a failed giving had given, which no program is told. A generation is its four
--- members, which start together. A report is the end of the remote program in a slot, with all that it wrote; with which status
+-- bytes a failed write had written, or a failed giving had given, which no program is told. A generation is what its
+-- members run, in their order, who start together. A report is the end of the remote program in a slot, with all that it wrote; with which status
 -- it ended is told when that is taken. `contents` is what a machine stop left of each file; `how` is what it was called, and
 -- limits nothing.
 pub data Event : Type 0 where
   Start : (actor : List ℕ) (program : Program) → Event
   Act : (actor : List ℕ) (own : Own) (wrote : ℕ) → Event
   Child : (parent : List ℕ) (own : Own) (actor : List ℕ) (program : Program) → Event
-  Generation : (sender clean lspawn rspawn : Program) → Event
+  Generation : (crew : List Program) → Event
   Report : (slot : ℕ) (output : List ℕ) → Event
   End : (actor : List ℕ) (read : ℕ) (ready : Ready) (status : ℕ) → Event
   Stop : (actor : List ℕ) → Event
@@ -76,7 +78,7 @@ abbrev pub started_by : Event → ℕ
 started_by (Start a program) = 1
 started_by (Act a own wrote) = if starts_program own.due own.came then 1 else 0
 started_by (Child parent own a program) = 1
-started_by (Generation sender clean lspawn rspawn) = length members
+started_by (Generation crew) = length members
 started_by (Report slot output) = 0
 started_by (End a read ready status) = 0
 started_by (Stop a) = 0
@@ -240,15 +242,24 @@ slot_by due = 0
 abbrev pub bears : State → List ℕ → Own → List ℕ → Program → State
 bears s parent own a program = begins s a program (with_child s.pipework parent (slot_by own.due) a)
 
+-- the actors when each of these programs has started under its name
+abbrev pub with_crew : List (List ℕ) → List Program → (List ℕ → Option Actor) → List ℕ → Option Actor
+with_crew (a ∷ names) (program ∷ crew) actors = with_crew names crew (put_at actors a (Some (newborn program)))
+with_crew names crew actors = actors
+
 -- the state after one event more
 abbrev pub happens : State → Event → State
 happens s (Start a program) = begins s a program s.pipework
 happens s (Act a own wrote) = acted s a own wrote (s.actors a)
 happens s (Child parent own a program) = bears (acted s parent own 0 (s.actors parent)) parent own a program
-happens s (Generation sender clean lspawn rspawn) =
-    let pipework = with_generation s.pipework in
-    begins (begins (begins (begins s (codes "sender") sender pipework) (codes "clean") clean pipework) (codes "lspawn") lspawn pipework)
-    (codes "rspawn") rspawn pipework
+happens s (Generation crew) = record {
+  disk = s.disk;
+  holder = s.holder;
+  now = s.now;
+  actors = with_crew members crew s.actors;
+  books = s.books;
+  pipework = with_generation s.pipework;
+}
 happens s (Report slot output) = record {
   disk = s.disk;
   holder = s.holder;
@@ -432,11 +443,24 @@ abbrev pub IsDelivery : Program → Type 0
 IsDelivery (Delivery start args) = Unit {0}
 IsDelivery other = ⊥
 
+-- which program a member runs
+abbrev pub RunsAs : Member → Program → Type 0
+RunsAs member.Sender program = IsSender program
+RunsAs member.Cleaner program = IsCleaner program
+RunsAs member.LocalSpawner program = IsLocalSpawner program
+RunsAs member.RemoteSpawner program = IsRemoteSpawner program
+
+-- these members run these programs, each its own
+abbrev pub AreRunBy : List Member → List Program → Type 0
+AreRunBy [] [] = Unit {0}
+AreRunBy (one ∷ others) (program ∷ crew) = RunsAs one program × AreRunBy others crew
+AreRunBy others crew = ⊥
+
 -- A generation starts only when no member of the old one lives, and if no program that starts alone had one of their names.
-pub record MayBegin (s : State) (sender clean lspawn rspawn : Program) : Type 0 where
+pub record MayBegin (s : State) (crew : List Program) : Type 0 where
   pub over : (a : List ℕ) (x : Actor) → Contains members a → s.actors a ≡ Some x → x.life ≢ Alive
   pub apart : (a : List ℕ) (x : Actor) → Contains members a → s.actors a ≡ Some x → MayRun x.program → ⊥
-  pub kinds : IsSender sender × IsCleaner clean × IsLocalSpawner lspawn × IsRemoteSpawner rspawn
+  pub kinds : AreRunBy generation crew
 
 -- a report comes only for a slot in which the living remote spawner has a program without one
 pub record MayReport (s : State) (slot : ℕ) : Type 0 where
@@ -460,7 +484,7 @@ abbrev pub Allowed : State → Event → Type 0
 Allowed s (Start a program) = MayStart s a program
 Allowed s (Act a own wrote) = MayDo s a own wrote
 Allowed s (Child parent own a program) = MayBear s parent own a program
-Allowed s (Generation sender clean lspawn rspawn) = MayBegin s sender clean lspawn rspawn
+Allowed s (Generation crew) = MayBegin s crew
 Allowed s (Report slot output) = MayReport s slot
 Allowed s (End a read ready status) = MayEnd s a read ready status
 Allowed s (Stop a) = IsLiving s a

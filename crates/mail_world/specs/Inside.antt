@@ -22,7 +22,7 @@ use Rattle.call_fs.specs.declared.program.Port.{Port}
 use Rattle.mail_world.specs.Pipework.{Pipework, fresh, is_member}
 use Rattle.mail_world.specs.Pipework.Tenant.{Runs}
 use Rattle.mail_world.specs.ByKind.{IsMail, IsAlone, BearsIn, Follows, present_of, found_of, looked_of, need_of, takes_of, awaits_of}
-use Rattle.mail_world.specs.History.{Event, Actor, Life, State, latest, next_of, IsSender, IsCleaner, IsLocalSpawner, IsRemoteSpawner, IsDelivery}
+use Rattle.mail_world.specs.History.{Event, Actor, Life, State, latest, next_of, RunsAs, IsDelivery}
 use Rattle.mail_world.specs.Wired.{seat, IsOwnPort, AreWired, IsSlotOf, HaveSlots, HaveChildren, AreOver, AreWholeGivings}
 use Rattle.local_deliver.specs.Deeds.{starts}
 use Rattle.mail_world.specs.History.Life.{Alive, Over, Stopped}
@@ -32,7 +32,6 @@ use Rattle.actor_names.specs.ChildNames.{bounce_name, delivery_name, forward_of}
 use Rattle.actor_names.specs.MailNames.{members}
 use Rattle.actor_names.specs.Members.{member_at}
 use Rattle.actor_names.specs.declared.member.Member.{Member}
-use Rattle.actor_names.specs.declared.member.Member.TheVariants as member
 use Rattle.mail_world.specs.World.{Leads, Span, Counts, span_of, was_started, next_pid, counts_in}
 use Rattle.mail_world.specs.World.Span.{Unborn, Lasting, OverAt}
 -- lists of open descriptors
@@ -52,13 +51,6 @@ abbrev pub life_by : Option ℕ → Option ℕ → Life
 life_by None status = Alive
 life_by (Some at) (Some status) = Over status
 life_by (Some at) None = Stopped
-
--- which program a member runs
-abbrev pub RunsAs : Member → Program → Type 0
-RunsAs member.Sender program = IsSender program
-RunsAs member.Cleaner program = IsCleaner program
-RunsAs member.LocalSpawner program = IsLocalSpawner program
-RunsAs member.RemoteSpawner program = IsRemoteSpawner program
 
 -- which one runs there if this member has its seat there; nobody else has one
 abbrev pub RunsSeated : Option Member → Program → Type 0

@@ -4,7 +4,7 @@ use Rattle.call_fs.specs.Disk.{Disk}
 use Rattle.call_fs.specs.Apply.{empty_file}
 use Rattle.world_events.specs.declared.event.Event.{Event as Kept}
 use Rattle.world_events.specs.declared.event.Event.TheVariants as kept
-use Rattle.world_events.specs.declared.event.Program.TheVariants.{Cleaner, Sender, LocalSpawner, RemoteSpawner}
+use Rattle.world_events.specs.Programs.{crew_at}
 use Rattle.world_events.specs.Inputs.{with_inputs}
 use Rattle.mail_world.specs.History.{Event, State, after, report_text}
 use Rattle.mail_world.specs.History.Event.{Start, Act, Child, Generation, Report, End, Stop, Moment, Halt}
@@ -15,7 +15,7 @@ event_of (kept.Start a program) = Start a program
 event_of (kept.Act a own) = Act a own 0
 event_of (kept.Child a own c program) = Child a own c program
 event_of (kept.Feed a own c message envelope) = Act a own 0
-event_of (kept.Generation start) = Generation (Sender start) (Cleaner start) (LocalSpawner start) (RemoteSpawner start)
+event_of (kept.Generation start) = Generation (crew_at start)
 event_of (kept.Report slot letter text) = Report slot (report_text letter text)
 event_of (kept.End a read ready status) = End a read ready status
 event_of (kept.Stop a) = Stop a

@@ -26,7 +26,7 @@ abbrev pub is_halt : Event → Bool
 is_halt (Start a program) = false
 is_halt (Act a own wrote) = false
 is_halt (Child parent own a program) = false
-is_halt (Generation sender clean lspawn rspawn) = false
+is_halt (Generation crew) = false
 is_halt (Report slot output) = false
 is_halt (End a read ready status) = false
 is_halt (Stop a) = false
@@ -43,7 +43,7 @@ abbrev pub doer : State → Event → Option Program
 doer s (Start a program) = None
 doer s (Act a own wrote) = program_of (s.actors a)
 doer s (Child parent own a program) = program_of (s.actors parent)
-doer s (Generation sender clean lspawn rspawn) = None
+doer s (Generation crew) = None
 doer s (Report slot output) = None
 doer s (End a read ready status) = program_of (s.actors a)
 doer s (Stop a) = program_of (s.actors a)
@@ -55,7 +55,7 @@ abbrev pub IsOther : Event → List ℕ → Type 0
 IsOther (Start a program) o = Unit {0}
 IsOther (Act a own wrote) o = o ≢ a
 IsOther (Child parent own a program) o = o ≢ parent
-IsOther (Generation sender clean lspawn rspawn) o = Unit {0}
+IsOther (Generation crew) o = Unit {0}
 IsOther (Report slot output) o = Unit {0}
 IsOther (End a read ready status) o = o ≢ a
 IsOther (Stop a) o = o ≢ a

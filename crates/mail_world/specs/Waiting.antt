@@ -20,7 +20,7 @@ abbrev pub is_generation : Event → Bool
 is_generation (Start a program) = false
 is_generation (Act a own wrote) = false
 is_generation (Child parent own a program) = false
-is_generation (Generation sender clean lspawn rspawn) = true
+is_generation (Generation crew) = true
 is_generation (Report slot output) = false
 is_generation (End a read ready status) = false
 is_generation (Stop a) = false

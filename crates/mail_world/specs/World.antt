@@ -17,7 +17,8 @@ use Rattle.call_fs.specs.Disk.{Disk}
 use Rattle.world_events.specs.declared.event.Event.{Event as Kept}
 use Rattle.world_events.specs.declared.event.Event.TheVariants as kept
 use Rattle.world_events.specs.declared.event.Program.{Program}
-use Rattle.world_events.specs.declared.event.Program.TheVariants.{Injector, Cleaner, Sender, LocalSpawner, RemoteSpawner}
+use Rattle.world_events.specs.declared.event.Program.TheVariants.{Injector, Cleaner}
+use Rattle.world_events.specs.Programs.{crew_at}
 use Rattle.world_pipes.specs.Pipes.{offered}
 use Rattle.mail_world.specs.Pipework.{Tenant, is_member}
 use Rattle.mail_world.specs.Pipework.Tenant.{Remote, Runs}
@@ -38,20 +39,13 @@ pub use Rattle.world_events.specs.Planned.{IsPlannedOwn}
 -- the kept events with the input of each child in its start, where a history has it
 pub use Rattle.world_events.specs.Inputs.{with_inputs}
 
--- the four programs of a generation that started at this moment
-pub record AreMembers (start : ℕ) (sender clean lspawn rspawn : Program) : Type 0 where
-  pub sender_is : sender ≡ Sender start
-  pub clean_is : clean ≡ Cleaner start
-  pub lspawn_is : lspawn ≡ LocalSpawner start
-  pub rspawn_is : rspawn ≡ RemoteSpawner start
-
 -- A kept event tells an event: all of it but how much a failed write had written, which no program is told. A giving to a child is
 -- told by the event that `with_inputs` makes of it. A world keeps of a report its letter and its text, which stand for an output.
 abbrev pub Tells : Kept → Event → Type 0
 Tells event (Start a program) = event ≡ kept.Start a program
 Tells event (Act a own wrote) = event ≡ kept.Act a own
 Tells event (Child parent own a program) = event ≡ kept.Child parent own a program
-Tells event (Generation sender clean lspawn rspawn) = (start : ℕ) × (event ≡ kept.Generation start) × AreMembers start sender clean lspawn rspawn
+Tells event (Generation crew) = (start : ℕ) × (event ≡ kept.Generation start) × (crew ≡ crew_at start)
 Tells event (Report slot output) = (letter : ℕ) × (text : List ℕ) × (event ≡ kept.Report slot letter text) × (output ≡ report_text letter text)
 Tells event (End a read ready status) = event ≡ kept.End a read ready status
 Tells event (Stop a) = event ≡ kept.Stop a
@@ -63,7 +57,7 @@ abbrev pub IsByName : Disk → Event → Type 0
 IsByName d (Start a program) = Unit {0}
 IsByName d (Act a own wrote) = Unit {0}
 IsByName d (Child parent own a program) = Unit {0}
-IsByName d (Generation sender clean lspawn rspawn) = Unit {0}
+IsByName d (Generation crew) = Unit {0}
 IsByName d (Report slot output) = Unit {0}
 IsByName d (End a read ready status) = Unit {0}
 IsByName d (Stop a) = Unit {0}

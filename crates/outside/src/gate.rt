@@ -3,7 +3,7 @@
 /// A gate at which threads can be held. It answers nothing, so it can change nothing but when a step is made.
 pub trait Gate {
     /// Called before each step: by the thread of a mail with that mail's number and the step's, both from 1; by the
-    /// k-th thread of another kind with 0 and k, k from 1, before each try of a step.
+    /// k-th thread of another kind with 0 and k, k from 1, before its first try of a step.
     fn pause(&self, mail: u64, step: u64);
 }
 

@@ -23,7 +23,9 @@ use local_parts::TEMPORARY;
 use mail_bytes::Memory;
 use mem_fs::MemFs;
 use outside::{Gate, MemPosts, MemSpawner, OpenGate, Posts, Sink, Source, Spawner};
-use proc_runner::{ChildPosts, Children, Opener, PatientSystem, Shared, read_own_input, share};
+use proc_runner::{
+    ChildPosts, Children, Opener, PatientSystem, Shared, System, read_own_input, share,
+};
 use queue_limits::{NO_START, USAGE};
 use resting_gates::{
     LONGEST_DRAIN, LONGEST_IDLE, RestingGate, SHORTEST_DRAIN, SendingGate, drain_limit, idle_limit,
@@ -319,7 +321,7 @@ where
     }
 }
 
-/// The same, with these posts, and children that may run for so long and whose channels this opener opens.
+/// The same, with these posts, children that may run for so long, and what opens their channels.
 fn run_with_posts<
     C: TopCall,
     R: Threads + Wait + Processes + Clock + Copy + Send + Sync + Drop + 'static,
@@ -346,31 +348,63 @@ where
     ensures { IfOk result (λ status. IsStatusOf (C.does call.now) words.now status) }
 {
     match system(rt, handle, alloc, told) {
-        Ok(system) => match Children::new(handle, alloc, system, opener, limit) {
-            Ok(mut children) => {
-                let called = run_resting(
-                    call,
-                    rt,
-                    handle,
-                    alloc,
-                    words,
-                    told,
-                    limits,
-                    lock,
-                    queue,
-                    posts,
-                    &mut children,
-                );
-                drop(children);
-                called
-            }
-            Err(why) => {
-                drop(queue);
-                Err(why)
-            }
-        },
+        Ok(system) => run_with_system(
+            call, rt, handle, alloc, words, told, limits, lock, limit, system, opener, queue, posts,
+        ),
         Err(why) => {
             drop(opener);
+            drop(queue);
+            Err(why)
+        }
+    }
+}
+
+/// The same, with children as processes of this system.
+fn run_with_system<
+    C: TopCall,
+    R: Threads + Wait + Copy + Send + Drop + 'static,
+    P: Posts,
+    S: System,
+>(
+    call: &C,
+    rt: &HostRuntime,
+    handle: R,
+    alloc: Global,
+    words: &[String],
+    told: &Told,
+    limits: Limits,
+    lock: &MemberLock,
+    limit: u64,
+    system: S,
+    opener: Opener,
+    queue: Shared,
+    posts: &mut P,
+) -> Result<u8, Memory>
+where
+    S::Process: Send + Sync + 'static,
+    S::Input: Send + 'static,
+    S::Output: Send + 'static,
+    ensures { IfOk result (λ status. IsStatusOf (C.does call.now) words.now status) }
+{
+    match Children::new(handle, alloc, system, opener, limit) {
+        Ok(mut children) => {
+            let called = run_resting(
+                call,
+                rt,
+                handle,
+                alloc,
+                words,
+                told,
+                limits,
+                lock,
+                queue,
+                posts,
+                &mut children,
+            );
+            drop(children);
+            called
+        }
+        Err(why) => {
             drop(queue);
             Err(why)
         }

@@ -61,7 +61,7 @@ mail_told : (k : Kept) (e : Event) → Tells k e → mail_in k ≡ mail_of e
 mail_told k (Start a program) told = ap mail_in told
 mail_told k (Act a own w) told = ap mail_in told
 mail_told k (Child parent own a program) told = ap mail_in told
-mail_told k (Generation sender clean lspawn rspawn) told = ap mail_in told.1
+mail_told k (Generation crew) told = ap mail_in told.1
 mail_told k (Report slot output) told = ap mail_in told.2
 mail_told k (End a read ready status) told = ap mail_in told
 mail_told k (Stop a) told = ap mail_in told
@@ -83,7 +83,7 @@ end_told : (a : List ℕ) (k : Kept) (e : Event) → Tells k e → is_end a k �
 end_told a k (Start b program) told = ap (is_end a) told
 end_told a k (Act b own w) told = ap (is_end a) told
 end_told a k (Child parent own b program) told = ap (is_end a) told
-end_told a k (Generation sender clean lspawn rspawn) told = ap (is_end a) told.1
+end_told a k (Generation crew) told = ap (is_end a) told.1
 end_told a k (Report slot output) told = ap (is_end a) told.2
 end_told a k (End b read ready status) told = ap (is_end a) told
 end_told a k (Stop b) told = ap (is_end a) told

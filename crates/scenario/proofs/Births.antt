@@ -31,7 +31,7 @@ use Rattle.mail_world.proofs.Awaiting.{awaits_same, report_awaits, runs_still}
 use Rattle.mail_world.proofs.Halts.{never_alive}
 use Rattle.mail_world.proofs.Histories.{legal_by, legal_opens, legal_allowed}
 use Rattle.mail_world.proofs.Looks.{mapped_some}
-use Rattle.mail_world.proofs.Members.{whether, four_new, four_other}
+use Rattle.mail_world.proofs.Members.{whether, crew_other, four_new, four_other}
 use Rattle.queue_law.proofs.Tests.{same_text, other_text, text_cases}
 use Rattle.scenario.proofs.Carried.{put_actor}
 use Rattle.scenario.proofs.GivenInputs.{GivesNot, input_not}
@@ -42,7 +42,7 @@ use Rattle.scenario.proofs.GivenInputs.{GivesNot, input_not}
 abbrev pub StartsNot : List ℕ → Event → Type 0
 StartsNot b (Start a program) = b ≢ a
 StartsNot b (Child parent own a program) = b ≢ a
-StartsNot b (Generation sender clean lspawn rspawn) = is_member b ≡ false
+StartsNot b (Generation crew) = is_member b ≡ false
 StartsNot b other = Unit {0}
 
 put_not : (actors : List ℕ → Option Actor) (a b : List ℕ) (x y : Actor) → actors a ≡ Some x → actors b ≡ None → put_at actors a (Some y) b ≡ None
@@ -63,7 +63,7 @@ still_none s (Act a own wrote) b other none = acted_not s a own wrote (s.actors 
 still_none s (Child parent own a program) b other none =
     let before = acted s parent own 0 (s.actors parent) in
     put_at_other before.actors a (Some (newborn program)) b other ∙ acted_not s parent own 0 (s.actors parent) b refl none
-still_none s (Generation sender clean lspawn rspawn) b other none = four_other s.actors sender clean lspawn rspawn b other ∙ none
+still_none s (Generation crew) b other none = crew_other s.actors crew b other ∙ none
 still_none s (Report slot output) b other none = none
 still_none s (End a read ready status) b other none = finished_not s a (Over status) (s.actors a) b refl none
 still_none s (Stop a) b other none = finished_not s a Stopped (s.actors a) b refl none
@@ -109,7 +109,7 @@ one_apart p c (Act a own wrote) beside = beside
 one_apart p c (Child a own b program) beside = (beside.0, beside.1.0)
 one_apart p c (End a read ready status) beside = beside
 one_apart p c (Start a program) beside = tt
-one_apart p c (Generation sender clean lspawn rspawn) beside = tt
+one_apart p c (Generation crew) beside = tt
 one_apart p c (Report slot output) beside = tt
 one_apart p c (Stop a) beside = tt
 one_apart p c (Moment m) beside = tt
@@ -311,9 +311,9 @@ module _ (s : State) (h : List Event) (a : List ℕ) (x : Actor) (own : Own) (c 
       (put_actor parted.actors c p (newborn program) y here)
 
 -- a generation
-pub generation_begun : (s : State) (h : List Event) (sender clean lspawn rspawn : Program) → BegunIf s h → BegunIf (happens s (Generation sender clean lspawn rspawn)) (Generation sender clean lspawn rspawn ∷ h)
+pub generation_begun : (s : State) (h : List Event) (sender clean lspawn rspawn : Program) → BegunIf s h → BegunIf (happens s (Generation (sender ∷ clean ∷ lspawn ∷ rspawn ∷ []))) (Generation (sender ∷ clean ∷ lspawn ∷ rspawn ∷ []) ∷ h)
 generation_begun s h sender clean lspawn rspawn begun p y here alive borne =
-    let t = happens s (Generation sender clean lspawn rspawn) in
+    let t = happens s (Generation (sender ∷ clean ∷ lspawn ∷ rspawn ∷ [])) in
     ⊎_elim
     (λ member.
     let it = four_new s.actors sender clean lspawn rspawn p member in
@@ -321,7 +321,7 @@ generation_begun s h sender clean lspawn rspawn begun p y here alive borne =
     absurd (subst (λ (z : Actor). HasBorneLast z.past) (sym one) borne))
     (λ named.
     let b = begun p y (sym (four_other s.actors sender clean lspawn rspawn p named) ∙ here) alive borne in
-    begun_more s t h (Generation sender clean lspawn rspawn) p b tt
+    begun_more s t h (Generation (sender ∷ clean ∷ lspawn ∷ rspawn ∷ [])) p b tt
     (ap (λ (t : Bool). if t then None else s.pipework.programs p 0) named) refl
     (awaits_same s t b.child refl (ap (λ (t : Bool). if t then fresh else s.pipework.pipes b.child port.Input) b.named)))
     (whether (is_member p))
@@ -397,7 +397,7 @@ module _ (given message envelope p c : List ℕ) (own : Own) (program : Program)
     by false still = pushed p c own program (Child a other b started) (begun_with given message envelope rest) (Child a other b started ∷ begun_with given message envelope rest) refl beside.0 still
   told_anew ((Start a started) ∷ later) before beside = further (Start a started) later before refl beside (told_anew later before beside.1)
   told_anew ((Act a other wrote) ∷ later) before beside = further (Act a other wrote) later before refl beside (told_anew later before beside.1)
-  told_anew ((Generation sender clean lspawn rspawn) ∷ later) before beside = further (Generation sender clean lspawn rspawn) later before refl beside (told_anew later before beside.1)
+  told_anew ((Generation crew) ∷ later) before beside = further (Generation crew) later before refl beside (told_anew later before beside.1)
   told_anew ((Report slot output) ∷ later) before beside = further (Report slot output) later before refl beside (told_anew later before beside.1)
   told_anew ((End a read ready status) ∷ later) before beside = further (End a read ready status) later before refl beside (told_anew later before beside.1)
   told_anew ((Stop a) ∷ later) before beside = further (Stop a) later before refl beside (told_anew later before beside.1)

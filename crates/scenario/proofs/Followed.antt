@@ -40,6 +40,7 @@ use Rattle.scenario.specs.inside.Fates.{AreNamed, Follows, HasDone, IsHeard, IsR
 use Rattle.mail_world.proofs.Coming.{may_come}
 use Rattle.mail_world.proofs.Programs.{mail_runs}
 use Rattle.scenario.proofs.KeptEvents.{act_told, child_told}
+use Rattle.world_events.specs.Programs.{crew_at}
 
 -- what an actor did by an event of its own, and by the start of a child
 pub act_done : (s : State) (a : List ℕ) (own : Own) (wrote : ℕ) → MayDo s a own wrote → HasDone s a own
@@ -126,7 +127,7 @@ is_member_lspawn = (2, omega arith, refl)
 is_member_rspawn : Contains members (codes "rspawn")
 is_member_rspawn = (3, omega arith, refl)
 
-named_generation : (s : State) (start : ℕ) → AreNamed s → AreNamed (happens s (Generation (Sender start) (Cleaner start) (LocalSpawner start) (RemoteSpawner start)))
+named_generation : (s : State) (start : ℕ) → AreNamed s → AreNamed (happens s (Generation (crew_at start)))
 named_generation s start named =
     let pipework = with_generation s.pipework in
     let one = begins s (codes "sender") (Sender start) pipework in
@@ -148,9 +149,8 @@ named_event s k (Act a own wrote) told mail may named = named_acted s a own wrot
 named_event s k (Child parent own a program) told mail may named =
     named_put (acted s parent own 0 (s.actors parent)) (happens s (Child parent own a program)) a (newborn program) refl
     (named_start a program mail.0 mail.1) (named_acted s parent own 0 (s.actors parent) refl named)
-named_event s k (Generation sender clean lspawn rspawn) told mail may named =
-    let are = told.2 in
-    rw (are.sender_is, are.clean_is, are.lspawn_is, are.rspawn_is) (named_generation s told.0 named)
+named_event s k (Generation crew) told mail may named =
+    rw (told.2) (named_generation s told.0 named)
 named_event s k (Report slot output) told mail may named = named_same s (happens s (Report slot output)) refl named
 named_event s k (End a read ready status) told mail may named = named_finished s a (Over status) (s.actors a) refl named
 named_event s k (Stop a) told mail may named = named_finished s a Stopped (s.actors a) refl named
@@ -173,7 +173,7 @@ moment_event : (s : State) (k : Kept) (e : Event) → Tells k e → Allowed s e 
 moment_event s k (Start a program) told may is = is
 moment_event s k (Act a own wrote) told may is = subst IsMoment (sym (now_acted s a own wrote (s.actors a))) is
 moment_event s k (Child parent own a program) told may is = subst IsMoment (sym (now_acted s parent own 0 (s.actors parent))) is
-moment_event s k (Generation sender clean lspawn rspawn) told may is = is
+moment_event s k (Generation crew) told may is = is
 moment_event s k (Report slot output) told may is = is
 moment_event s k (End a read ready status) told may is = subst IsMoment (sym (now_finished s a (Over status) (s.actors a))) is
 moment_event s k (Stop a) told may is = subst IsMoment (sym (now_finished s a Stopped (s.actors a))) is
@@ -245,7 +245,7 @@ follows_other : (f : Following) (s : State) (k : Kept) (e : Event) → IsOther k
 follows_other f s k (Start a program) other told mail h = follows_begins f s a program s.pipework mail.0 h
 follows_other f s k (Act a own wrote) other told mail h = absurd (subst IsOther told other)
 follows_other f s k (Child parent own a program) other told mail h = absurd (subst IsOther told other)
-follows_other f s k (Generation sender clean lspawn rspawn) other told mail h = absurd (subst IsOther told.1 other)
+follows_other f s k (Generation crew) other told mail h = absurd (subst IsOther told.1 other)
 follows_other f s k (Report slot output) other told mail h = record { fates = h.fates; heard = h.heard }
 follows_other f s k (End a read ready status) other told mail h = follows_finished f s a (Over status) (s.actors a) refl h
 follows_other f s k (Stop a) other told mail h = follows_finished f s a Stopped (s.actors a) refl h
@@ -253,7 +253,7 @@ follows_other f s k (Moment m) other told mail h = record { fates = h.fates; hea
 follows_other f s k (Halt how contents) other told mail h = record { fates = h.fates; heard = heard_stopped f.sender (s.actors (codes "sender")) h.heard }
 
 -- a new generation
-new_sender : (s : State) (start : ℕ) → (happens s (Generation (Sender start) (Cleaner start) (LocalSpawner start) (RemoteSpawner start))).actors (codes "sender") ≡ Some (newborn (Sender start))
+new_sender : (s : State) (start : ℕ) → (happens s (Generation (crew_at start))).actors (codes "sender") ≡ Some (newborn (Sender start))
 new_sender s start =
     let one = put_at s.actors (codes "sender") (Some (newborn (Sender start))) in
     let two = put_at one (codes "clean") (Some (newborn (Cleaner start))) in
@@ -275,13 +275,12 @@ pub follows_generation : (old new : Following) (s : State) (e : Event) (start : 
 follows_generation old new s (Start a program) start m told fates is stands h = absurd (cc)
 follows_generation old new s (Act a own wrote) start m told fates is stands h = absurd (cc)
 follows_generation old new s (Child parent own a program) start m told fates is stands h = absurd (cc)
-follows_generation old new s (Generation sender clean lspawn rspawn) start m told fates is stands h =
-    let are = told.2 in
+follows_generation old new s (Generation crew) start m told fates is stands h =
     let p = told.0 in
-    rw (are.sender_is, are.clean_is, are.lspawn_is, are.rspawn_is) (record {
+    rw (told.2) (record {
       fates = subst (λ (f : Fates). AreFates f s.books) (sym fates) h.fates;
       heard =
-          let o = (happens s (Generation (Sender p) (Cleaner p) (LocalSpawner p) (RemoteSpawner p))).actors (codes "sender") in
+          let o = (happens s (Generation (crew_at p))).actors (codes "sender") in
           subst (λ (m : Option Machine). IsHeard m o) (sym is) (subst (IsHeard (Some m)) (sym (new_sender s p)) ((p, refl), stands, tt));
     })
 follows_generation old new s (Report slot output) start m told fates is stands h = let kept_is = told.2 in absurd (cc)

@@ -509,7 +509,7 @@ goes_generation d h so none =
               let dead = All-contains (λ b. lives_in (s.actors b) ≡ false) members a (none_alive s members none) member in
               false≢true (sym dead ∙ ap lives_in is ∙ lives_actor x alive);
           apart = λ a x member is. member_apart a x.program (so.carries.kinds a x is) member;
-          kinds = (tt, tt, tt, tt);
+          kinds = (tt, (tt, (tt, (tt, tt))));
         },
       );
       carries = generation_carries s so.carries;

@@ -16,7 +16,7 @@ pub no_feed : (a : List ℕ) (own : Own) (c message envelope : List ℕ) (e : Ev
 no_feed a own c message envelope (Start b program) told = absurd (cc)
 no_feed a own c message envelope (Act b other wrote) told = absurd (cc)
 no_feed a own c message envelope (Child parent other b program) told = absurd (cc)
-no_feed a own c message envelope (Generation sender clean lspawn rspawn) told = (let kept_is = told.1 in absurd (cc))
+no_feed a own c message envelope (Generation crew) told = (let kept_is = told.1 in absurd (cc))
 no_feed a own c message envelope (Report slot output) told = (let kept_is = told.2 in absurd (cc))
 no_feed a own c message envelope (End b read ready status) told = absurd (cc)
 no_feed a own c message envelope (Stop b) told = absurd (cc)

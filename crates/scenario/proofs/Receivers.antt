@@ -164,7 +164,7 @@ one_told k (Start a program) ks h told same = subst (λ (k : Kept). Shows (k ∷
 one_told k (Child parent own a program) ks h told same =
     subst (λ (k : Kept). Shows (k ∷ ks) (Child parent own a program ∷ h)) (sym told) (one_begun a true (injection_of program) (receivers_in ks) (mails_of h) same)
 one_told k (Act a own wrote) ks h told same = subst (λ (k : Kept). Shows (k ∷ ks) h) (sym told) same
-one_told k (Generation sender clean lspawn rspawn) ks h told same = subst (λ (k : Kept). Shows (k ∷ ks) h) (sym told.1) same
+one_told k (Generation crew) ks h told same = subst (λ (k : Kept). Shows (k ∷ ks) h) (sym told.1) same
 one_told k (Report slot output) ks h told same = subst (λ (k : Kept). Shows (k ∷ ks) h) (sym told.2) same
 one_told k (End a read ready status) ks h told same = subst (λ (k : Kept). Shows (k ∷ ks) h) (sym told) same
 one_told k (Stop a) ks h told same = subst (λ (k : Kept). Shows (k ∷ ks) h) (sym told) same
@@ -187,7 +187,7 @@ whole_event : (k : Kept) (e : Event) → Tells k e → IsNamedStart e → IsWhol
 whole_event k (Start a program) told mail = subst IsWhole (sym told) tt
 whole_event k (Act a own wrote) told mail = subst IsWhole (sym told) tt
 whole_event k (Child parent own a program) told mail = subst IsWhole (sym told) mail.1
-whole_event k (Generation sender clean lspawn rspawn) told mail = subst IsWhole (sym told.1) tt
+whole_event k (Generation crew) told mail = subst IsWhole (sym told.1) tt
 whole_event k (Report slot output) told mail = subst IsWhole (sym told.2) tt
 whole_event k (End a read ready status) told mail = subst IsWhole (sym told) tt
 whole_event k (Stop a) told mail = subst IsWhole (sym told) tt

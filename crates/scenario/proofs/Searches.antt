@@ -21,7 +21,7 @@ search_told : (k : Kept) (e : Event) → Tells k e → is_search_kept k ≡ is_s
 search_told k (Start a program) told = ap is_search_kept told
 search_told k (Act a own w) told = ap is_search_kept told
 search_told k (Child parent own a program) told = ap is_search_kept told
-search_told k (Generation sender clean lspawn rspawn) told = ap is_search_kept told.1
+search_told k (Generation crew) told = ap is_search_kept told.1
 search_told k (Report slot output) told = ap is_search_kept told.2
 search_told k (End a read ready status) told = ap is_search_kept told
 search_told k (Stop a) told = ap is_search_kept told
@@ -32,7 +32,7 @@ first_told : (k : Kept) (e : Event) → Tells k e → is_first_kept k ≡ is_fir
 first_told k (Start a program) told = ap is_first_kept told
 first_told k (Act a own w) told = ap is_first_kept told
 first_told k (Child parent own a program) told = ap is_first_kept told
-first_told k (Generation sender clean lspawn rspawn) told = ap is_first_kept told.1
+first_told k (Generation crew) told = ap is_first_kept told.1
 first_told k (Report slot output) told = ap is_first_kept told.2
 first_told k (End a read ready status) told = ap is_first_kept told
 first_told k (Stop a) told = ap is_first_kept told

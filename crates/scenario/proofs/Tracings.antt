@@ -56,7 +56,7 @@ line_told : (k : Kept) (e : Event) → Tells k e → kept_line k ≡ event_line 
 line_told k (Start a program) told = ap kept_line told
 line_told k (Act a own w) told = ap kept_line told
 line_told k (Child parent own a program) told = ap kept_line told
-line_told k (Generation sender clean lspawn rspawn) told = ap kept_line told.1
+line_told k (Generation crew) told = ap kept_line told.1
 line_told k (Report slot output) told = ap kept_line told.2 ∙ ap (λ (bytes : List ℕ). report_line slot (letter_in bytes)) (sym told.3)
 line_told k (End a read ready status) told = ap kept_line told
 line_told k (Stop a) told = ap kept_line told

@@ -170,7 +170,7 @@ abbrev pub plan_by : Event → Plan → Plan
 plan_by (Start a program) plan = plan
 plan_by (Act a own wrote) plan = plan_left_of own.due own.came plan
 plan_by (Child parent own a program) plan = plan
-plan_by (Generation sender clean lspawn rspawn) plan = plan
+plan_by (Generation crew) plan = plan
 plan_by (Report slot output) plan = plan
 plan_by (End a read ready status) plan = plan
 plan_by (Stop a) plan = plan

@@ -21,7 +21,7 @@ abbrev pub event_line : Event → List ℕ
 event_line (Start a program) = start_line a
 event_line (Act a own wrote) = act_line a own.due own.came
 event_line (Child parent own a program) = start_line a
-event_line (Generation sender clean lspawn rspawn) = flat_map start_line members
+event_line (Generation crew) = flat_map start_line members
 event_line (Report slot output) = report_line slot (letter_in output)
 event_line (End a read ready status) = end_line a status
 event_line (Stop a) = stop_line a

@@ -5,7 +5,7 @@ use Rattle.call_fs.specs.Disk.{Disk}
 use Rattle.call_fs.specs.Plan.{Plan}
 use Rattle.actor_names.specs.MailNames.{members}
 use Rattle.world_events.specs.declared.books.Entry.{Entry}
-use Rattle.world_events.specs.declared.event.Program.TheVariants.{Cleaner, Sender, LocalSpawner, RemoteSpawner}
+use Rattle.world_events.specs.Programs.{crew_at}
 use Rattle.mail_world.specs.Books.{books_in}
 use Rattle.mail_world.specs.Generations.{lives_in, is_unreported, lowest_unreported}
 use Rattle.mail_world.specs.History.{Event, State, report_text}
@@ -30,7 +30,7 @@ first_alive s (a ∷ later) = if lives_in (s.actors a) then Some a else first_al
 
 -- the four programs of a generation that starts at this moment
 abbrev pub generation_at : ℕ → Event
-generation_at now = Generation (Sender now) (Cleaner now) (LocalSpawner now) (RemoteSpawner now)
+generation_at now = Generation (crew_at now)
 
 -- what the start of a generation adds, and what it prints, by the first member of the one before that lives
 abbrev pub generation_events : ℕ → Option (List ℕ) → List Deed
@@ -56,7 +56,7 @@ abbrev pub started_in : Event → List (List ℕ)
 started_in (Start a program) = a ∷ []
 started_in (Act a own wrote) = []
 started_in (Child parent own a program) = a ∷ []
-started_in (Generation sender clean lspawn rspawn) = members
+started_in (Generation crew) = members
 started_in (Report slot output) = []
 started_in (End a read ready status) = []
 started_in (Stop a) = []

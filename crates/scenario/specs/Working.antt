@@ -121,7 +121,7 @@ abbrev pub is_quiet : Event → Bool
 is_quiet (Start a program) = true
 is_quiet (Act a own wrote) = not (has_failed own.came)
 is_quiet (Child parent own a program) = not (has_failed own.came)
-is_quiet (Generation sender clean lspawn rspawn) = true
+is_quiet (Generation crew) = true
 is_quiet (Report slot output) = true
 is_quiet (End a read ready status) = true
 is_quiet (Stop a) = false

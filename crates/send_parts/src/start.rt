@@ -339,19 +339,16 @@ fn info_row(is_info: bool, split: u64, n: u64) -> StartRow
 fn local_stated(way: Way, split: u64, n: u64, birth: u64) -> StartRow
     ensures { result ≡ by_way way (StartRow.StatRemote split n birth true) (StartRow.StatRemote split n birth false) }
 {
-    let there = StartRow::StatRemote {
-        split,
-        n,
-        birth,
-        local: true,
-    };
-    let missing = StartRow::StatRemote {
-        split,
-        n,
-        birth,
-        local: false,
-    };
-    by_way(way, there, missing)
+    let local = matches!(way, Way::Fine);
+    match way {
+        Way::Fine | Way::Absent => StartRow::StatRemote {
+            split,
+            n,
+            birth,
+            local,
+        },
+        way => start_failed(way),
+    }
 }
 
 /// After the stat of a file of the remote channel. After an `Err` all is as before.

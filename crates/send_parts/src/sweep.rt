@@ -81,17 +81,9 @@ fn mess_stated(way: Way, split: u64, n: u64, moment: u64, now: u64) -> SweepRow
 fn todo_stated(way: Way, split: u64, n: u64) -> SweepRow
     ensures { result ≡ todo_stated way split n }
 {
+    let todo = matches!(way, Way::Fine);
     match way {
-        Way::Fine => SweepRow::StatInfo {
-            split,
-            n,
-            todo: true,
-        },
-        Way::Absent => SweepRow::StatInfo {
-            split,
-            n,
-            todo: false,
-        },
+        Way::Fine | Way::Absent => SweepRow::StatInfo { split, n, todo },
         _ => SweepRow::Next { split },
     }
 }

@@ -114,7 +114,7 @@ deed_alike d before (Came (Act a own wrote)) search =
     search_alike (after d before) a own wrote ((bytes_eq-Decides a (codes "sender")).0 parts.0) parts.1
 deed_alike d before (Came (Start a program)) search = absurd (cc)
 deed_alike d before (Came (Child parent own a program)) search = absurd (cc)
-deed_alike d before (Came (Generation sender clean lspawn rspawn)) search = absurd (cc)
+deed_alike d before (Came (Generation crew)) search = absurd (cc)
 deed_alike d before (Came (Report slot output)) search = absurd (cc)
 deed_alike d before (Came (End a read ready status)) search = absurd (cc)
 deed_alike d before (Came (Stop a)) search = absurd (cc)

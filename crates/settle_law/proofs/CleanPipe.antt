@@ -167,7 +167,7 @@ event_open (Start a program) s U may well served = λ it. U (newborn_lived s (ha
 event_open (Act a own wrote) s U may well served = subst (λ (o : Option Actor). IsOpen (acted s a own wrote o)) (sym may.reads.is) (acted_open s U a own wrote may.actor may.reads.is)
 event_open (Child parent own a program) s U may well served =
     subst (λ (o : Option Actor). IsOpen (bears (acted s parent own 0 o) parent own a program)) (sym may.reads.is) (child_open s U parent own a program may)
-event_open (Generation sender clean lspawn rspawn) s U may well served = λ it. refl
+event_open (Generation crew) s U may well served = λ it. refl
 event_open (Report slot output) s U may well served = λ it.
     ap (λ (pipe : Pipe). pipe.shut) (away_same s.pipework.pipes (Some (mouth (codes "rspawn") (port.Program slot))) (λ pipe. closed (given output pipe)) (codes "sender") port.Clean refl)
     ∙ U (record { actor = it.actor; is = it.is; alive = it.alive; sends = it.sends })

@@ -50,7 +50,7 @@ event_dirs : (s : State) (e : Event) → (happens s e).disk.dirs ≡ s.disk.dirs
 event_dirs s (Start a program) = refl
 event_dirs s (Act a own wrote) = acted_dirs s a own wrote (s.actors a)
 event_dirs s (Child parent own a program) = acted_dirs s parent own 0 (s.actors parent)
-event_dirs s (Generation sender clean lspawn rspawn) = refl
+event_dirs s (Generation crew) = refl
 event_dirs s (Report slot output) = refl
 event_dirs s (End a read ready status) = finished_dirs s a (Over status) (s.actors a)
 event_dirs s (Stop a) = finished_dirs s a Stopped (s.actors a)

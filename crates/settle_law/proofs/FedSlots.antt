@@ -38,7 +38,7 @@ use Rattle.mail_world.specs.History.{Actor, Allowed, Event, Legal, Life, MayBear
 use Rattle.mail_world.specs.History.Event.{Start, Act, Child, Generation, Report, End, Stop, Moment, Halt}
 use Rattle.mail_world.specs.History.Life.{Alive, Over}
 use Rattle.mail_world.proofs.Coming.{may_come}
-use Rattle.mail_world.proofs.Members.{four_other}
+use Rattle.mail_world.proofs.Members.{are_four, four_other}
 use Rattle.world_law.specs.Inv.{Bears, Inv}
 use Rattle.world_law.proofs.Histories.{always}
 use Rattle.world_law.proofs.Pipes.{away_same}
@@ -248,11 +248,11 @@ module _ (controls : Controls) (s : State) (F : AreFed s.actors s.pipework) (par
 
 -- A generation starts
 
-generation_fed : (s : State) → AreFed s.actors s.pipework → (sender clean lspawn rspawn : Program) → Allowed s (Generation sender clean lspawn rspawn)
-    → let t = happens s (Generation sender clean lspawn rspawn) in AreFed t.actors t.pipework
+generation_fed : (s : State) → AreFed s.actors s.pipework → (sender clean lspawn rspawn : Program) → Allowed s (Generation (sender ∷ clean ∷ lspawn ∷ rspawn ∷ []))
+    → let t = happens s (Generation (sender ∷ clean ∷ lspawn ∷ rspawn ∷ [])) in AreFed t.actors t.pipework
 generation_fed s F sender clean lspawn rspawn may b slot at_it =
     let f = F b slot at_it in
-    let t : State = happens s (Generation sender clean lspawn rspawn) in
+    let t : State = happens s (Generation (sender ∷ clean ∷ lspawn ∷ rspawn ∷ [])) in
     let pipe_left = same_if (is_member b) fresh (s.pipework.pipes b port.Input) (no_member (is_member b) b refl f.apart) in
     record {
       apart = f.apart;
@@ -347,7 +347,8 @@ event_fed (Child parent own a program) controls s R J F may well =
     subst (λ (o : Option Actor). FedIn (bears (acted s parent own 0 o) parent own a program)) (sym may.reads.is)
     (child_fed controls s F parent own a program may (R parent may.actor may.reads.is, (may.due, born_comes s parent own a program may))
     (subst (λ (o : Option Actor). Inv controls (bears (acted s parent own 0 o) parent own a program)) may.reads.is J))
-event_fed (Generation sender clean lspawn rspawn) controls s R J F may well = generation_fed s F sender clean lspawn rspawn may
+event_fed (Generation (sender ∷ clean ∷ lspawn ∷ rspawn ∷ [])) controls s R J F may well = generation_fed s F sender clean lspawn rspawn may
+event_fed (Generation crew) controls s R J F may well = absurd (are_four crew may.kinds)
 event_fed (Report slot output) controls s R J F may well = report_fed s F slot output may.runs
 event_fed (End a read found status) controls s R J F may well =
     subst (λ (o : Option Actor). FedIn (finished s a (Over status) o)) (sym may.reads.is)

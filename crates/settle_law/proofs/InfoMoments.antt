@@ -161,7 +161,7 @@ infos_bounded controls d are (Child parent own a program ∷ h) legal =
     let s : State = after d h in
     let may : MayBear s parent own a program = legal.1 in
     born_bounded s (infos_bounded controls d are h legal.0) parent own may.asked may.starts (s.actors parent)
-infos_bounded controls d are (Generation sender clean lspawn rspawn ∷ h) legal = infos_bounded controls d are h legal.0
+infos_bounded controls d are (Generation crew ∷ h) legal = infos_bounded controls d are h legal.0
 infos_bounded controls d are (Report slot output ∷ h) legal = infos_bounded controls d are h legal.0
 infos_bounded controls d are (End a read ready status ∷ h) legal = let s : State = after d h in finished_bounded s (infos_bounded controls d are h legal.0) a (Over status) (s.actors a)
 infos_bounded controls d are (Stop a ∷ h) legal = let s : State = after d h in finished_bounded s (infos_bounded controls d are h legal.0) a Stopped (s.actors a)

@@ -130,7 +130,7 @@ module _ (P : ℕ → Arguments → Type 0) where
   happens_of (Child parent own a program) s links may S =
       subst (λ (o : Option Actor). OfAll (acted s parent own 0 o).books) (sym may.reads.is)
       (acted_of s parent own 0 may.actor (links parent may.actor may.reads.is own.read own.ready) may.due S)
-  happens_of (Generation sender clean lspawn rspawn) s links may S = S
+  happens_of (Generation crew) s links may S = S
   happens_of (Report slot output) s links may S = S
   happens_of (End a read ready status) s links may S = finished_of s a (Over status) (s.actors a) S
   happens_of (Stop a) s links may S = finished_of s a Stopped (s.actors a) S

@@ -30,6 +30,7 @@ use Rattle.queue_paths.proofs.Parts.{intd_missing, todo_missing}
 use Rattle.program_law.specs.Sender.Control.{AreControls}
 use Rattle.world_events.specs.declared.event.Program.{Program}
 use Rattle.world_events.specs.declared.event.Program.TheVariants.{Injector}
+use Rattle.mail_world.proofs.Members.{are_four}
 use Rattle.mail_world.proofs.Coming.{may_come}
 use Rattle.mail_world.proofs.Histories.{legal_opens}
 use Rattle.mail_world.specs.History.{Actor, Allowed, ComesOf, Event, Legal, Life, MayBear, MayDo, MayEnd, State, acted, after, finished, happens, newborn, next_of}
@@ -186,8 +187,9 @@ event_fine (Child parent own a program) controls s I A R may well =
     put_fine (acted s parent own 0 (s.actors parent)).actors a (newborn program)
     (subst (λ (o : Option Actor). AllFine (acted s parent own 0 o).actors) (sym may.reads.is)
     (put_fine s.actors parent (record { program = x.program; past = own ∷ x.past; life = x.life }) R (bears_so s parent own a program may x.program (R parent x may.reads.is)))) (born_fine program)
-event_fine (Generation sender clean lspawn rspawn) controls s I A R may well =
+event_fine (Generation (sender ∷ clean ∷ lspawn ∷ rspawn ∷ [])) controls s I A R may well =
     put_fine _ _ (newborn rspawn) (put_fine _ _ (newborn lspawn) (put_fine _ _ (newborn clean) (put_fine _ _ (newborn sender) R (born_fine sender)) (born_fine clean)) (born_fine lspawn)) (born_fine rspawn)
+event_fine (Generation crew) controls s I A R may well = absurd (are_four crew may.kinds)
 event_fine (Report slot output) controls s I A R may well = R
 event_fine (End a read ready status) controls s I A R may well =
     let x : Actor = may.actor in

@@ -5,8 +5,6 @@ use Rattle.call_fs.specs.declared.calls.CallData.TheVariants as call
 use Rattle.call_fs.specs.declared.calls.Answer.{Answer}
 use Rattle.call_fs.specs.declared.past.NeedData.TheVariants as needs
 use Rattle.call_fs.specs.Apply.{Fits}
-use Rattle.queue_clean.specs.declared.command.Command.{Command}
-use Rattle.queue_clean.specs.declared.command.Command.TheVariants.{Foop, Todo as TodoCommand}
 use Rattle.queue_clean.specs.declared.row.Row.{Row}
 use Rattle.queue_clean.specs.declared.row.Row.TheVariants as at
 use Rattle.queue_clean.specs.Commands.{first_name, message_of, second_name}
@@ -20,6 +18,7 @@ use Rattle.queue_law.specs.Senders.{called_queue}
 use Rattle.queue_law.specs.Steps.{LeavesLater}
 use Rattle.queue_law.proofs.Changes.{unlinks_one}
 use Rattle.program_law.proofs.Sender.Gone.{file_call}
+use Rattle.program_law.proofs.Sender.Spares.{later_far, second_far}
 
 -- A number is preprocessed, or it isn't
 
@@ -61,19 +60,6 @@ pub by_about : (q r : Queue) → ((n : ℕ) → about r n ≡ about q n) → Lea
 by_about q r same part n e = ap (λ (w : About). w.parts part) (same n)
 
 -- An unlink of the cleaner
-
-later_far : (part : Part) (n m : ℕ) → is_later part ≡ true → (Of part n ≢ Of Intd m) × (Of part n ≢ Of Mess m) × (Of part n ≢ Of Todo m)
-later_far Info n m e = (λ f. absurd (cc), λ f. absurd (cc), λ f. absurd (cc))
-later_far Local n m e = (λ f. absurd (cc), λ f. absurd (cc), λ f. absurd (cc))
-later_far Remote n m e = (λ f. absurd (cc), λ f. absurd (cc), λ f. absurd (cc))
-later_far Bounce n m e = (λ f. absurd (cc), λ f. absurd (cc), λ f. absurd (cc))
-later_far Mess n m e = absurd (cc)
-later_far Intd n m e = absurd (cc)
-later_far Todo n m e = absurd (cc)
-
-second_far : (part : Part) (n : ℕ) (command : Command) → is_later part ≡ true → Of part n ≢ second_name command
-second_far part n (Foop m) e = (later_far part n m e).1
-second_far part n (TodoCommand m) e = (later_far part n m e).2
 
 module _ (q : Queue) (a : List ℕ) (read wrote : ℕ) (told : Answer) where
   abbrev after : CallData → Queue

@@ -46,7 +46,7 @@ use Rattle.world_events.specs.declared.event.Program.TheVariants.{Injector, Clea
 use Rattle.mail_world.specs.History.{Actor, Allowed, ComesOf, Event, IsCleaner, IsProgramOf, IsSender, Legal, MayBear, MayRun, State, acted, after, bears, finished, happens, newborn, next_of, slot_by}
 use Rattle.mail_world.specs.History.Event.{Start, Act, Child, Generation, Report, End, Stop, Moment, Halt}
 use Rattle.mail_world.specs.History.Life.{Alive, Over}
-use Rattle.mail_world.proofs.Members.{four_clean, four_lspawn, four_rspawn, member_contained}
+use Rattle.mail_world.proofs.Members.{are_four, four_clean, four_lspawn, four_rspawn, member_contained}
 use Rattle.world_law.specs.Inv.{Inv}
 use Rattle.world_law.specs.Spawned.{IsSpawner}
 use Rattle.world_law.proofs.Histories.{always}
@@ -288,11 +288,11 @@ module _ (controls : Controls) (s : State) (I : Inv controls s) (m : Servant) (L
 
 -- A generation
 
-begun_lives : (m : Servant) (s : State) (sender clean lspawn rspawn : Program) → Allowed s (Generation sender clean lspawn rspawn) → LivesIn m (happens s (Generation sender clean lspawn rspawn))
+begun_lives : (m : Servant) (s : State) (sender clean lspawn rspawn : Program) → Allowed s (Generation (sender ∷ clean ∷ lspawn ∷ rspawn ∷ [])) → LivesIn m (happens s (Generation (sender ∷ clean ∷ lspawn ∷ rspawn ∷ [])))
 begun_lives Cleans s sender clean lspawn rspawn may x there living sends = record {
   servant = newborn clean;
   is = four_clean s.actors sender clean lspawn rspawn;
-  serves = let it = is_cleaner clean may.kinds.1 in subst IsCleaner (sym it.1) tt;
+  serves = let it = is_cleaner clean may.kinds.1.0 in subst IsCleaner (sym it.1) tt;
   lives = inl refl;
   unshut = refl;
   takes = refl;
@@ -300,7 +300,7 @@ begun_lives Cleans s sender clean lspawn rspawn may x there living sends = recor
 begun_lives (Spawns Local) s sender clean lspawn rspawn may x there living sends = record {
   servant = newborn lspawn;
   is = four_lspawn s.actors sender clean lspawn rspawn;
-  serves = let it = is_local lspawn may.kinds.2 in subst (IsSpawner Local) (sym it.1) tt;
+  serves = let it = is_local lspawn may.kinds.1.1.0 in subst (IsSpawner Local) (sym it.1) tt;
   lives = inl refl;
   unshut = refl;
   takes = refl;
@@ -308,7 +308,7 @@ begun_lives (Spawns Local) s sender clean lspawn rspawn may x there living sends
 begun_lives (Spawns Remote) s sender clean lspawn rspawn may x there living sends = record {
   servant = newborn rspawn;
   is = four_rspawn s.actors sender clean lspawn rspawn;
-  serves = let it = is_remote rspawn may.kinds.3 in subst (IsSpawner Remote) (sym it.1) tt;
+  serves = let it = is_remote rspawn may.kinds.1.1.1.0 in subst (IsSpawner Remote) (sym it.1) tt;
   lives = inl refl;
   unshut = refl;
   takes = refl;
@@ -377,7 +377,8 @@ event_lives (Act a own wrote) controls s I R W m L may well =
     (acted_lives controls s I m L a own wrote may.actor may.reads.is may.reads.alive (λ is_open. no_end s a own.due own.came wrote may.came is_open))
 event_lives (Child parent own a program) controls s I R W m L may well =
     subst (λ (o : Option Actor). LivesIn m (bears (acted s parent own 0 o) parent own a program)) (sym may.reads.is) (child_lives controls s I m L parent own a program may)
-event_lives (Generation sender clean lspawn rspawn) controls s I R W m L may well = begun_lives m s sender clean lspawn rspawn may
+event_lives (Generation (sender ∷ clean ∷ lspawn ∷ rspawn ∷ [])) controls s I R W m L may well = begun_lives m s sender clean lspawn rspawn may
+event_lives (Generation crew) controls s I R W m L may well = absurd (are_four crew may.kinds)
 event_lives (Report slot output) controls s I R W m L may well = report_lives m s L slot output
 event_lives (End a read ready status) controls s I R W m L may well =
     subst (λ (o : Option Actor). LivesIn m (finished s a (Over status) o)) (sym may.reads.is) (ended_lives m s L R W a may.actor may.reads.is status read ready may.due)

@@ -17,6 +17,7 @@ use Rattle.queue_paths.specs.Names.{Part}
 use Rattle.send_core.specs.Table.{Next}
 use Rattle.world_events.specs.declared.event.Program.TheVariants.{Sender}
 use Rattle.world_events.specs.declared.event.Program.{Program}
+use Rattle.mail_world.proofs.Members.{are_four}
 use Rattle.mail_world.specs.History.Event.{Start, Act, Child, Generation, Report, End, Stop, Moment, Halt}
 use Rattle.mail_world.specs.History.Life.{Alive, Over, Stopped}
 use Rattle.mail_world.specs.History.{Actor, Allowed, Event, IsSender, Legal, Life, MayBear, MayDo, State, acted, after, cut_off, disk_after, finished, happens, newborn, stopped}
@@ -126,8 +127,9 @@ module _ (controls : Controls) (ok : Event → Bool) (P : Disk → List Own → 
       let t : State = acted s parent own 0 (s.actors parent) in
       put_new t.disk t.actors a program
       (subst (λ (o : Option Actor). AllHold (acted s parent own 0 o).disk (acted s parent own 0 o).actors) (sym may.reads.is) (bears_held s R parent own a program may))
-  event_held (Generation sender clean lspawn rspawn) s I R good may =
+  event_held (Generation (sender ∷ clean ∷ lspawn ∷ rspawn ∷ [])) s I R good may =
       put_new s.disk _ _ rspawn (put_new s.disk _ _ lspawn (put_new s.disk _ _ clean (put_new s.disk s.actors _ sender R)))
+  event_held (Generation crew) s I R good may = absurd (are_four crew may.kinds)
   event_held (Report slot output) s I R good may = R
   event_held (End a read ready status) s I R good may = ended s R a (Over status) (over_dead status) (s.actors a)
   event_held (Stop a) s I R good may = ended s R a Stopped stopped_dead (s.actors a)

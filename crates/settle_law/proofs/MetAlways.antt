@@ -22,6 +22,7 @@ use Rattle.send_core.specs.declared.desk.Desk.{Desk}
 use Rattle.send_parts.specs.declared.row.Row.{Row}
 use Rattle.world_events.specs.declared.event.Program.TheVariants.{Sender}
 use Rattle.world_events.specs.declared.event.Program.{Program}
+use Rattle.mail_world.proofs.Members.{are_four}
 use Rattle.mail_world.specs.History.Event.{Start, Act, Child, Generation, Report, End, Stop, Moment, Halt}
 use Rattle.mail_world.specs.History.Life.{Alive, Over, Stopped}
 use Rattle.mail_world.specs.History.{Actor, Allowed, Event, IsSender, Legal, Life, MayBear, MayDo, State, acted, after, cut_off, disk_after, finished, happens, newborn, stopped}
@@ -179,8 +180,9 @@ event_met controls (Child parent own a program) s I R may =
     let t : State = acted s parent own 0 (s.actors parent) in
     put_new t.disk t.actors a program
     (subst (λ (o : Option Actor). AllMet (acted s parent own 0 o).disk (acted s parent own 0 o).actors) (sym may.reads.is) (bears_all s R parent own a program may))
-event_met controls (Generation sender clean lspawn rspawn) s I R may =
+event_met controls (Generation (sender ∷ clean ∷ lspawn ∷ rspawn ∷ [])) s I R may =
     put_new s.disk _ _ rspawn (put_new s.disk _ _ lspawn (put_new s.disk _ _ clean (put_new s.disk s.actors _ sender R)))
+event_met controls (Generation crew) s I R may = absurd (are_four crew may.kinds)
 event_met controls (Report slot output) s I R may = R
 event_met controls (End a read ready status) s I R may = ended s R a (Over status) (over_dead status) (s.actors a)
 event_met controls (Stop a) s I R may = ended s R a Stopped stopped_dead (s.actors a)

@@ -32,7 +32,7 @@ use Rattle.mail_world.specs.History.{Actor, Allowed, Event, IsCleaner, IsSender,
 use Rattle.mail_world.specs.History.Event.{Start, Act, Child, Generation, Report, End, Stop, Moment, Halt}
 use Rattle.mail_world.specs.History.Life.{Alive, Over}
 use Rattle.mail_world.proofs.Histories.{legal_opens}
-use Rattle.mail_world.proofs.Members.{four_other, member_contained}
+use Rattle.mail_world.proofs.Members.{are_four, four_other, member_contained}
 use Rattle.world_law.specs.Crew.{place_in}
 use Rattle.world_law.specs.Standing.{number_at}
 use Rattle.world_law.proofs.Histories.{always}
@@ -169,13 +169,13 @@ module _ (controls : Controls) (s : State) (H : Holds controls s) where
           let w = clean_there z start is alive runs in
           Waits z start (stays (codes "sender") z is) alive runs row small empty (ap (λ (o : Option Actor). is_answer (place_in o).row) (stays (codes "clean") w.actor w.is ∙ sym w.is) ∙ free)
 
-  generation_minds : (sender clean lspawn rspawn : Program) → Allowed s (Generation sender clean lspawn rspawn) → Minds (happens s (Generation sender clean lspawn rspawn))
+  generation_minds : (sender clean lspawn rspawn : Program) → Allowed s (Generation (sender ∷ clean ∷ lspawn ∷ rspawn ∷ [])) → Minds (happens s (Generation (sender ∷ clean ∷ lspawn ∷ rspawn ∷ [])))
   generation_minds sender clean lspawn rspawn may n half = by (H.minds n (record { mess = half.mess; no_todo = half.no_todo; no_info = half.no_info }))
     where
       over : (z : Actor) → s.actors (codes "sender") ≡ Some z → z.life ≡ Alive → ⊥
       over z is alive = may.over (codes "sender") z (member_contained (codes "sender") refl) is alive
 
-      by : IsMinded s n → IsMinded (happens s (Generation sender clean lspawn rspawn)) n
+      by : IsMinded s n → IsMinded (happens s (Generation (sender ∷ clean ∷ lspawn ∷ rspawn ∷ []))) n
       by (Injects b z args is alive runs number) =
           let off = no_member (is_member b) b refl (λ member. may.apart b z member is (subst MayRun (sym runs) tt)) in
           Injects b z args (four_other s.actors sender clean lspawn rspawn b off ∙ is) alive runs number
@@ -261,7 +261,8 @@ event_minds (Act a own wrote) controls d h legal well H =
     (acts_minded controls (after d h) H a own wrote legal.1 well (λ args is c due. injections_are_in_time d a own wrote h legal legal.1.actor legal.1.reads.is args is c due))
 event_minds (Child parent own a program) controls d h legal well H =
     subst (λ (o : Option Actor). Minds (bears (acted (after d h) parent own 0 o) parent own a program)) (sym legal.1.reads.is) (child_minds controls (after d h) H parent own a program legal.1)
-event_minds (Generation sender clean lspawn rspawn) controls d h legal well H = generation_minds controls (after d h) H sender clean lspawn rspawn legal.1
+event_minds (Generation (sender ∷ clean ∷ lspawn ∷ rspawn ∷ [])) controls d h legal well H = generation_minds controls (after d h) H sender clean lspawn rspawn legal.1
+event_minds (Generation crew) controls d h legal well H = absurd (are_four crew legal.1.kinds)
 event_minds (Report slot output) controls d h legal well H = report_minds controls (after d h) H slot output
 event_minds (End a read ready status) controls d h legal well H =
     subst (λ (o : Option Actor). Minds (finished (after d h) a (Over status) o)) (sym legal.1.reads.is)

@@ -13,6 +13,7 @@ use Rattle.program_law.specs.Sender.Control.{AreControls}
 use Rattle.send_core.specs.Table.{Next}
 use Rattle.world_events.specs.declared.event.Program.{Program}
 use Rattle.world_events.specs.declared.event.Program.TheVariants.{Sender}
+use Rattle.mail_world.proofs.Members.{are_four}
 use Rattle.mail_world.specs.History.{Actor, Allowed, Event, Legal, Life, MayBear, MayDo, State, acted, after, finished, happens, newborn, next_of, stopped}
 use Rattle.mail_world.specs.History.Event.{Start, Act, Child, Generation, Report, End, Stop, Moment, Halt}
 use Rattle.mail_world.specs.History.Life.{Over, Stopped}
@@ -65,8 +66,9 @@ module _ (controls : Controls) (ok : Event → Bool) (Q : State → Type 0) (P :
       put_holds (acted s parent own 0 (s.actors parent)).actors a (newborn program)
       (subst (λ (o : Option Actor). AllHold (acted s parent own 0 o).actors) (sym may.reads.is)
       (done s R ran parent own 0 may.actor may.reads.is (λ start is held. bears s I w parent own a program may start is (runs s R ran parent may.actor may.reads.is start is) held))) (born program)
-  event_holds (Generation sender clean lspawn rspawn) s I w ran R well may =
+  event_holds (Generation (sender ∷ clean ∷ lspawn ∷ rspawn ∷ [])) s I w ran R well may =
       put_holds _ _ (newborn rspawn) (put_holds _ _ (newborn lspawn) (put_holds _ _ (newborn clean) (put_holds _ _ (newborn sender) R (born sender)) (born clean)) (born lspawn)) (born rspawn)
+  event_holds (Generation crew) s I w ran R well may = absurd (are_four crew may.kinds)
   event_holds (Report slot output) s I w ran R well may = R
   event_holds (End a read ready status) s I w ran R well may = ended s R ran a (Over status) (s.actors a) refl
   event_holds (Stop a) s I w ran R well may = ended s R ran a Stopped (s.actors a) refl

@@ -37,7 +37,7 @@ use Rattle.mail_world.specs.History.Event.{Start, Act, Child, Generation, Report
 use Rattle.mail_world.specs.History.Life.{Alive, Over}
 use Rattle.mail_world.specs.Untouched.{queue}
 use Rattle.mail_world.proofs.Coming.{may_come}
-use Rattle.mail_world.proofs.Members.{four_lspawn, four_rspawn, four_sender}
+use Rattle.mail_world.proofs.Members.{are_four, four_lspawn, four_rspawn, four_sender}
 use Rattle.world_law.specs.Crew.{IsNamed}
 use Rattle.world_law.specs.Fares.{SenderFares}
 use Rattle.world_law.specs.Inv.{Inv}
@@ -341,17 +341,17 @@ module _ (P : Channel → Option (List Own) → Option (List Own) → (told asks
   begun_so : (c : Channel) (sends spawns : Option (List Own)) → sends ≡ Some [] → spawns ≡ Some [] → P c sends spawns [] []
   begun_so c sends spawns sent spawned = same c (Some []) sends (Some []) spawns [] [] [] [] sent spawned refl refl (K.begins c)
 
-  generations_so : (c : Channel) (s : State) (sender clean lspawn rspawn : Program) → Allowed s (Generation sender clean lspawn rspawn) → In c (happens s (Generation sender clean lspawn rspawn))
+  generations_so : (c : Channel) (s : State) (sender clean lspawn rspawn : Program) → Allowed s (Generation (sender ∷ clean ∷ lspawn ∷ rspawn ∷ [])) → In c (happens s (Generation (sender ∷ clean ∷ lspawn ∷ rspawn ∷ [])))
   generations_so c s sender clean lspawn rspawn may =
       let one = is_sender sender may.kinds.0 in
-      let three = is_local lspawn may.kinds.2 in
-      let four = is_remote rspawn may.kinds.3 in
-      subst (λ (p : Program). In c (happens s (Generation p clean lspawn rspawn))) (sym one.1)
-      (subst (λ (p : Program). In c (happens s (Generation (Sender one.0) clean p rspawn))) (sym three.1)
-      (subst (λ (p : Program). In c (happens s (Generation (Sender one.0) clean (LocalSpawner three.0) p))) (sym four.1)
+      let three = is_local lspawn may.kinds.1.1.0 in
+      let four = is_remote rspawn may.kinds.1.1.1.0 in
+      subst (λ (p : Program). In c (happens s (Generation (p ∷ clean ∷ lspawn ∷ rspawn ∷ [])))) (sym one.1)
+      (subst (λ (p : Program). In c (happens s (Generation (Sender one.0 ∷ clean ∷ p ∷ rspawn ∷ [])))) (sym three.1)
+      (subst (λ (p : Program). In c (happens s (Generation (Sender one.0 ∷ clean ∷ LocalSpawner three.0 ∷ p ∷ [])))) (sym four.1)
       (by c one.0 three.0 four.0)))
     where
-      by : (k : Channel) (first third last : ℕ) → In k (happens s (Generation (Sender first) clean (LocalSpawner third) (RemoteSpawner last)))
+      by : (k : Channel) (first third last : ℕ) → In k (happens s (Generation (Sender first ∷ clean ∷ LocalSpawner third ∷ RemoteSpawner last ∷ [])))
       by Local first third last = begun_so Local _ _ (ap sends_past (four_sender s.actors (Sender first) clean (LocalSpawner third) (RemoteSpawner last)))
           (ap (spawns_past Local) (four_lspawn s.actors (Sender first) clean (LocalSpawner third) (RemoteSpawner last)))
       by Remote first third last = begun_so Remote _ _ (ap sends_past (four_sender s.actors (Sender first) clean (LocalSpawner third) (RemoteSpawner last)))
@@ -379,7 +379,8 @@ module _ (P : Channel → Option (List Own) → Option (List Own) → (told asks
       (λ e. offered_by (s.pipework.pipes a port.Input) own.came (subst (λ (n : NeedData). ComesOf s a n own.came wrote) e may.came)) well short may.actor may.reads.is may.due may.reads.alive
       may.reads.no_later c h may.actor.program refl)
   event_so (Child parent own a program) controls s I R short c h may well = children_so controls s I R parent own a program may short c h
-  event_so (Generation sender clean lspawn rspawn) controls s I R short c h may well = generations_so c s sender clean lspawn rspawn may
+  event_so (Generation (sender ∷ clean ∷ lspawn ∷ rspawn ∷ [])) controls s I R short c h may well = generations_so c s sender clean lspawn rspawn may
+  event_so (Generation crew) controls s I R short c h may well = absurd (are_four crew may.kinds)
   event_so (Report slot output) controls s I R short c h may well = report_so c s h slot output
   event_so (End a read ready status) controls s I R short c h may well = ends_so c s h a (Over status) (s.actors a) refl
   event_so (Stop a) controls s I R short c h may well = absurd (cc)

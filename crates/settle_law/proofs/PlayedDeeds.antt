@@ -77,7 +77,7 @@ through_picks plan (deed ∷ before) small = event_picks (plan_through plan befo
 
 -- an event of no actor
 abbrev pub IsOfNone : Event → Type 0
-IsOfNone (Generation sender clean lspawn rspawn) = Unit {0}
+IsOfNone (Generation crew) = Unit {0}
 IsOfNone (Report slot output) = Unit {0}
 IsOfNone (Stop a) = Unit {0}
 IsOfNone (Moment m) = Unit {0}

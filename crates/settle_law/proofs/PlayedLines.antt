@@ -51,7 +51,7 @@ event_well : (e : Event) → is_untroubled e ≡ true → is_numbered e ≡ true
 event_well (Start a program) well small = small
 event_well (Act a own wrote) well small = came_so own.came well small
 event_well (Child parent own a program) well small = small
-event_well (Generation sender clean lspawn rspawn) well small = refl
+event_well (Generation crew) well small = refl
 event_well (Report slot output) well small = refl
 event_well (End a read ready status) well small = well
 event_well (Stop a) well small = absurd (cc)

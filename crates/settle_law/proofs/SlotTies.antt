@@ -41,7 +41,7 @@ use Rattle.mail_world.specs.History.{Actor, Allowed, ComesOf, Event, IsProgramOf
 use Rattle.mail_world.specs.History.Event.{Start, Act, Child, Generation, Report, End, Stop, Moment, Halt}
 use Rattle.mail_world.specs.History.Life.{Over}
 use Rattle.mail_world.proofs.Coming.{may_come}
-use Rattle.mail_world.proofs.Members.{four_new}
+use Rattle.mail_world.proofs.Members.{are_four, four_new}
 use Rattle.queue_law.proofs.Tests.{other_text, same_text}
 use Rattle.world_law.specs.Spawned.{IsSpawner, spawner_name}
 use Rattle.world_law.proofs.PostPipes.{programs_left}
@@ -266,7 +266,7 @@ is_spawner_member : (c : Channel) → is_member (spawner_name c) ≡ true
 is_spawner_member Local = refl
 is_spawner_member Remote = refl
 
-generation_ties : (s : State) (sender clean lspawn rspawn : Program) → let t = happens s (Generation sender clean lspawn rspawn) in Ties t.actors t.pipework
+generation_ties : (s : State) (sender clean lspawn rspawn : Program) → let t = happens s (Generation (sender ∷ clean ∷ lspawn ∷ rspawn ∷ [])) in Ties t.actors t.pipework
 generation_ties s sender clean lspawn rspawn c z there it slot =
     let w = four_new s.actors sender clean lspawn rspawn (spawner_name c) (is_spawner_member c) in
     ap (λ (o : Actor). runs_in (programs o.past) slot) (sym (some_actor (newborn w.0) z (sym w.1 ∙ there))) ∙ none_run slot
@@ -321,7 +321,8 @@ event_ties (Start a program) s R T may well = start_ties s T a program may.runs
 event_ties (Act a own wrote) s R T may well = subst (λ (o : Option Actor). TiedIn (acted s a own wrote o)) (sym may.reads.is) (acts_tie s T R a own wrote may well)
 event_ties (Child parent own a program) s R T may well =
     subst (λ (o : Option Actor). TiedIn (bears (acted s parent own 0 o) parent own a program)) (sym may.reads.is) (child_ties s T R parent own a program may)
-event_ties (Generation sender clean lspawn rspawn) s R T may well = generation_ties s sender clean lspawn rspawn
+event_ties (Generation (sender ∷ clean ∷ lspawn ∷ rspawn ∷ [])) s R T may well = generation_ties s sender clean lspawn rspawn
+event_ties (Generation crew) s R T may well = absurd (are_four crew may.kinds)
 event_ties (Report slot output) s R T may well = report_ties s T slot output may.runs
 event_ties (End a read ready status) s R T may well = ends_tie s T a (Over status) (s.actors a) refl
 event_ties (Stop a) s R T may well = absurd (cc)

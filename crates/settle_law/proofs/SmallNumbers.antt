@@ -33,6 +33,7 @@ use Rattle.queue_paths.specs.Names.Name.{Of}
 use Rattle.queue_paths.specs.Names.Part.{Mess, Todo}
 use Rattle.queue_paths.proofs.Paths.{parse-path}
 use Rattle.world_events.specs.declared.event.Program.{Program}
+use Rattle.mail_world.proofs.Members.{are_four}
 use Rattle.mail_world.specs.History.{Actor, Allowed, ComesOf, Event, Legal, Life, State, acted, after, finished, happens, newborn, next_of, stopped}
 use Rattle.mail_world.specs.History.Event.{Start, Act, Child, Generation, Report, End, Stop, Moment, Halt}
 use Rattle.mail_world.specs.History.Life.{Over, Stopped}
@@ -115,8 +116,9 @@ event_well (Act a own wrote) s W well may =
     (both_true (came_well own.came) (came_counted own.came) well (comes_counted s a own.due own.came wrote may.came (may_come s a own.due own.came wrote may.came)))
 event_well (Child parent own a program) s W well may =
     put_well (acted s parent own 0 (s.actors parent)).actors a (newborn program) (acted_well s W parent own 0 (s.actors parent) refl (ap (λ (g : GotData). came_well g && came_counted g) may.came)) refl
-event_well (Generation sender clean lspawn rspawn) s W well may =
+event_well (Generation (sender ∷ clean ∷ lspawn ∷ rspawn ∷ [])) s W well may =
     put_well _ _ (newborn rspawn) (put_well _ _ (newborn lspawn) (put_well _ _ (newborn clean) (put_well _ _ (newborn sender) W refl) refl) refl) refl
+event_well (Generation crew) s W well may = absurd (are_four crew may.kinds)
 event_well (Report slot output) s W well may = W
 event_well (End a read ready status) s W well may = finished_well s W a (Over status) (s.actors a) refl
 event_well (Stop a) s W well may = finished_well s W a Stopped (s.actors a) refl

@@ -16,7 +16,7 @@ use Rattle.mail_world.specs.History.Event.{Start, Act, Child, Generation, Report
 use Rattle.mail_world.specs.History.Life.{Over, Stopped}
 use Rattle.mail_world.specs.History.{after as after_events}
 use Rattle.mail_world.specs.World.{begun_with}
-use Rattle.mail_world.proofs.Members.{four_other}
+use Rattle.mail_world.proofs.Members.{crew_other}
 use Rattle.world_events.specs.Inputs.{with_texts}
 use Rattle.scenario.specs.Deeds.{Deed, after, event_in, history_of}
 use Rattle.scenario.specs.Deeds.Deed.{Came, Fed}
@@ -59,7 +59,7 @@ still_none s (Start b program) a other none = begun_none s.actors b program a ot
 still_none s (Act b own wrote) a other none = acted_none s b own wrote (s.actors b) a refl none
 still_none s (Child parent own b program) a other none =
     begun_none (acted s parent own 0 (s.actors parent)).actors b program a other (acted_none s parent own 0 (s.actors parent) a refl none)
-still_none s (Generation sender clean lspawn rspawn) a other none = four_other s.actors sender clean lspawn rspawn a other ∙ none
+still_none s (Generation crew) a other none = crew_other s.actors crew a other ∙ none
 still_none s (Report slot output) a other none = none
 still_none s (End b read ready status) a other none = finished_none s b (Over status) (s.actors b) a refl none
 still_none s (Stop b) a other none = finished_none s b Stopped (s.actors b) a refl none
@@ -89,8 +89,8 @@ begun_starts c message envelope ((Child parent own a program) ∷ h) = by (bytes
     by false rest = ap (λ (l : List (List ℕ)). l ++ a ∷ []) rest
 begun_starts c message envelope ((Start a program) ∷ h) = ap (λ (l : List (List ℕ)). l ++ a ∷ []) (begun_starts c message envelope h)
 begun_starts c message envelope ((Act a own wrote) ∷ h) = ap (λ (l : List (List ℕ)). l ++ []) (begun_starts c message envelope h)
-begun_starts c message envelope ((Generation sender clean lspawn rspawn) ∷ h) =
-    ap (λ (l : List (List ℕ)). l ++ started_in (Generation sender clean lspawn rspawn)) (begun_starts c message envelope h)
+begun_starts c message envelope ((Generation crew) ∷ h) =
+    ap (λ (l : List (List ℕ)). l ++ started_in (Generation crew)) (begun_starts c message envelope h)
 begun_starts c message envelope ((Report slot output) ∷ h) = ap (λ (l : List (List ℕ)). l ++ []) (begun_starts c message envelope h)
 begun_starts c message envelope ((End a read ready status) ∷ h) = ap (λ (l : List (List ℕ)). l ++ []) (begun_starts c message envelope h)
 begun_starts c message envelope ((Stop a) ∷ h) = ap (λ (l : List (List ℕ)). l ++ []) (begun_starts c message envelope h)
@@ -115,7 +115,7 @@ search_starts : (deed : Deed) → is_search_deed deed ≡ true → started_in (e
 search_starts (Came (Act a own wrote)) search = refl
 search_starts (Came (Start a program)) search = absurd (cc)
 search_starts (Came (Child parent own a program)) search = absurd (cc)
-search_starts (Came (Generation sender clean lspawn rspawn)) search = absurd (cc)
+search_starts (Came (Generation crew)) search = absurd (cc)
 search_starts (Came (Report slot output)) search = refl
 search_starts (Came (End a read ready status)) search = refl
 search_starts (Came (Stop a)) search = refl

@@ -101,7 +101,7 @@ ends_idle d before (Came (Act a own wrote)) search idle =
     }
 ends_idle d before (Came (Start a program)) search idle = absurd (cc)
 ends_idle d before (Came (Child parent own a program)) search idle = absurd (cc)
-ends_idle d before (Came (Generation sender clean lspawn rspawn)) search idle = absurd (cc)
+ends_idle d before (Came (Generation crew)) search idle = absurd (cc)
 ends_idle d before (Came (Report slot output)) search idle = absurd (cc)
 ends_idle d before (Came (End a read ready status)) search idle = absurd (cc)
 ends_idle d before (Came (Stop a)) search idle = absurd (cc)

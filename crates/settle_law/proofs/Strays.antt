@@ -39,6 +39,7 @@ use Rattle.send_parts.specs.declared.rows.Search.TheVariants as search
 use Rattle.send_parts.specs.Files.{from_one, message_number}
 use Rattle.world_events.specs.declared.event.Program.{Program}
 use Rattle.world_events.specs.declared.event.Program.TheVariants.{Cleaner, Sender, Delivery}
+use Rattle.mail_world.proofs.Members.{are_four}
 use Rattle.mail_world.specs.Generations.{idled_by, idled_in}
 use Rattle.mail_world.specs.History.{Actor, Allowed, ComesOf, Event, Legal, Life, MayBear, State, acted, after, finished, happens, newborn, next_of}
 use Rattle.mail_world.specs.History.Event.{Start, Act, Child, Generation, Report, End, Stop, Moment, Halt}
@@ -141,7 +142,7 @@ no_halt (Halt how contents) well = absurd (cc)
 no_halt (Start a program) well = refl
 no_halt (Act a own wrote) well = refl
 no_halt (Child parent own a program) well = refl
-no_halt (Generation sender clean lspawn rspawn) well = refl
+no_halt (Generation crew) well = refl
 no_halt (Report slot output) well = refl
 no_halt (End a read ready status) well = refl
 no_halt (Stop a) well = refl
@@ -238,8 +239,9 @@ event_gave (Child parent own a program) s none G may well =
   where
     starts : MayBear s parent own a program → GivesStray own → ⊥
     starts may g = let both : needs.Start may.asked ≡ needs.File (call.NextName (codes "todo") g.after) = sym may.starts ∙ g.due in cc
-event_gave (Generation sender clean lspawn rspawn) s none G may well =
+event_gave (Generation (sender ∷ clean ∷ lspawn ∷ rspawn ∷ [])) s none G may well =
     put_gave _ _ (newborn rspawn) (put_gave _ _ (newborn lspawn) (put_gave _ _ (newborn clean) (put_gave _ _ (newborn sender) G tt) tt) tt) tt
+event_gave (Generation crew) s none G may well = absurd (are_four crew may.kinds)
 event_gave (Report slot output) s none G may well = G
 event_gave (End a read ready status) s none G may well = finished_gave s G a (Over status) (s.actors a) refl
 event_gave (Stop a) s none G may well = absurd (cc)

@@ -16,6 +16,7 @@ use Rattle.send_known.specs.declared.channel.Channel.TheVariants.{Local, Remote}
 use Rattle.send_parts.specs.Channels.{port_of}
 use Rattle.world_events.specs.declared.event.Program.{Program}
 use Rattle.world_events.specs.declared.event.Program.TheVariants.{Sender}
+use Rattle.mail_world.proofs.Members.{are_four}
 use Rattle.mail_world.specs.History.{Actor, Allowed, Event, IsSender, Legal, Life, State, acted, after, finished, happens, newborn, stopped}
 use Rattle.mail_world.specs.History.Event.{Start, Act, Child, Generation, Report, End, Stop, Moment, Halt}
 use Rattle.mail_world.specs.History.Life.{Alive, Over, Stopped}
@@ -68,8 +69,9 @@ event_holds (Act a own wrote) s R well may =
 event_holds (Child parent own a program) s R well may =
     put_holds (acted s parent own 0 (s.actors parent)).actors a (newborn program)
     (subst (λ (o : Option Actor). AllHold (acted s parent own 0 o).actors) (sym may.reads.is) (done s R parent own 0 may.actor may.reads.is (λ spawns. ap tells_success may.starts))) (begins a program)
-event_holds (Generation sender clean lspawn rspawn) s R well may =
+event_holds (Generation (sender ∷ clean ∷ lspawn ∷ rspawn ∷ [])) s R well may =
     put_holds _ (codes "rspawn") (newborn rspawn) (put_holds _ (codes "lspawn") (newborn lspawn) (put_holds _ (codes "clean") (newborn clean) (put_holds _ (codes "sender") (newborn sender) R (begins (codes "sender") sender)) (begins (codes "clean") clean)) (begins (codes "lspawn") lspawn)) (begins (codes "rspawn") rspawn)
+event_holds (Generation crew) s R well may = absurd (are_four crew may.kinds)
 event_holds (Report slot output) s R well may = R
 event_holds (End a read ready status) s R well may = ended s R a (Over status) (s.actors a) refl
 event_holds (Stop a) s R well may = ended s R a Stopped (s.actors a) refl

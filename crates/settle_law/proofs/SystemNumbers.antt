@@ -12,6 +12,7 @@ use Rattle.queue_inject.specs.declared.injection.Arguments.{Arguments}
 use Rattle.queue_law.specs.Books.{Injection}
 use Rattle.world_events.specs.declared.event.Program.{Program}
 use Rattle.world_events.specs.declared.event.Program.TheVariants.{Injector, Cleaner, Sender, LocalSpawner, RemoteSpawner}
+use Rattle.mail_world.proofs.Members.{are_four}
 use Rattle.mail_world.specs.History.{Actor, Allowed, Event, IsCleaner, IsLocalSpawner, IsRemoteSpawner, IsSender, Legal, Life, State, acted, after, finished, happens, newborn, stopped}
 use Rattle.mail_world.specs.History.Event.{Start, Act, Child, Generation, Report, End, Stop, Moment, Halt}
 use Rattle.mail_world.specs.History.Life.{Over, Stopped}
@@ -66,11 +67,12 @@ event_has (Start a program) s W well may = put_has s.actors a (newborn program) 
 event_has (Act a own wrote) s W well may = acted_has s W a own wrote (s.actors a) refl
 event_has (Child parent own a program) s W well may =
     put_has (acted s parent own 0 (s.actors parent)).actors a (newborn program) (acted_has s W parent own 0 (s.actors parent) refl) well
-event_has (Generation sender clean lspawn rspawn) s W well may =
+event_has (Generation (sender ∷ clean ∷ lspawn ∷ rspawn ∷ [])) s W well may =
     put_has _ _ (newborn rspawn)
     (put_has _ _ (newborn lspawn)
-    (put_has _ _ (newborn clean) (put_has _ _ (newborn sender) W (sender_has sender may.kinds.0)) (cleaner_has clean may.kinds.1))
-    (local_has lspawn may.kinds.2)) (remote_has rspawn may.kinds.3)
+    (put_has _ _ (newborn clean) (put_has _ _ (newborn sender) W (sender_has sender may.kinds.0)) (cleaner_has clean may.kinds.1.0))
+    (local_has lspawn may.kinds.1.1.0)) (remote_has rspawn may.kinds.1.1.1.0)
+event_has (Generation crew) s W well may = absurd (are_four crew may.kinds)
 event_has (Report slot output) s W well may = W
 event_has (End a read ready status) s W well may = finished_has s W a (Over status) (s.actors a) refl
 event_has (Stop a) s W well may = finished_has s W a Stopped (s.actors a) refl

@@ -43,7 +43,7 @@ use Rattle.mail_world.specs.History.{Actor, Allowed, ComesOf, Event, IsSender, L
 use Rattle.mail_world.specs.History.Event.{Start, Act, Child, Generation, Report, End, Stop, Moment, Halt}
 use Rattle.mail_world.specs.History.Life.{Alive, Over}
 use Rattle.mail_world.proofs.Coming.{may_come}
-use Rattle.mail_world.proofs.Members.{four_other, member_contained}
+use Rattle.mail_world.proofs.Members.{are_four, four_other, member_contained}
 use Rattle.queue_law.proofs.Tests.{other_text, same_text}
 use Rattle.world_law.specs.Crew.{IsNamed, is_alive}
 use Rattle.world_law.specs.Inv.{Bears, Inv}
@@ -500,9 +500,9 @@ pub no_member : (t : Bool) (n : List ℕ) → is_member n ≡ t → (Contains me
 no_member true n is apart = absurd (apart (member_contained n is))
 no_member false n is apart = is
 
-module _ (controls : Controls) (s : State) (I : Inv controls s) (T : Tended s.actors s.pipework) (sender clean lspawn rspawn : Program) (J : Inv controls (happens s (Generation sender clean lspawn rspawn))) where
+module _ (controls : Controls) (s : State) (I : Inv controls s) (T : Tended s.actors s.pipework) (sender clean lspawn rspawn : Program) (J : Inv controls (happens s (Generation (sender ∷ clean ∷ lspawn ∷ rspawn ∷ [])))) where
   abbrev begun : State
-  begun = happens s (Generation sender clean lspawn rspawn)
+  begun = happens s (Generation (sender ∷ clean ∷ lspawn ∷ rspawn ∷ []))
 
   was : (e : List ℕ) (d : ℕ) (t : Tenant) → begun.pipework.programs e d ≡ Some t → (is_member e ≡ false) × (s.pipework.programs e d ≡ Some t)
   was e d t is = if_none (is_member e) (s.pipework.programs e d) t is
@@ -656,7 +656,8 @@ event_tended (Child parent own a program) controls s I R J T may well =
     subst (λ (o : Option Actor). TendedIn (bears (acted s parent own 0 o) parent own a program)) (sym may.reads.is)
     (child_tended controls s I T parent own a program may (R parent may.actor may.reads.is, (may.due, born_comes s parent own a program may))
     (subst (λ (o : Option Actor). Inv controls (bears (acted s parent own 0 o) parent own a program)) may.reads.is J))
-event_tended (Generation sender clean lspawn rspawn) controls s I R J T may well = generation_tended controls s I T sender clean lspawn rspawn J
+event_tended (Generation (sender ∷ clean ∷ lspawn ∷ rspawn ∷ [])) controls s I R J T may well = generation_tended controls s I T sender clean lspawn rspawn J
+event_tended (Generation crew) controls s I R J T may well = absurd (are_four crew may.kinds)
 event_tended (Report slot output) controls s I R J T may well = report_tended controls s I T slot output
 event_tended (End a read ready status) controls s I R J T may well = ends_by s T a (Over status) (s.actors a) refl
 event_tended (Stop a) controls s I R J T may well = absurd (cc)

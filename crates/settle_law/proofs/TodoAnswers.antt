@@ -50,7 +50,7 @@ use Rattle.world_pipes.specs.Pipework.{Pipe, Pipework, Tenant, Yields, child_out
 use Rattle.world_pipes.specs.Pipework.Tenant.{Remote as Far, Runs}
 use Rattle.world_events.specs.declared.event.Program.{Program}
 use Rattle.world_events.specs.declared.event.Program.TheVariants.{Cleaner, Sender}
-use Rattle.mail_world.proofs.Members.{four_sender}
+use Rattle.mail_world.proofs.Members.{are_four, four_sender}
 use Rattle.mail_world.specs.History.{Actor, Allowed, ComesOf, Event, IsSender, Life, MayBear, State, acted, after, bears, finished, happens, newborn, next_of, slot_by}
 use Rattle.mail_world.specs.History.Event.{Start, Act, Child, Generation, Report, End, Stop, Moment, Halt}
 use Rattle.mail_world.specs.History.Life.{Alive, Over}
@@ -443,7 +443,8 @@ module _ (controls : Controls) (s : State) (I : Inv controls s) (F : Fine s) (sm
       (acted_fine controls s I F small served a own wrote may.actor may.reads.is may.reads.alive may.due (inl may.came) well)
   event_fine (Child parent own a program) may well =
       subst (λ (o : Option Actor). Fine (bears (acted s parent own 0 o) parent own a program)) (sym may.reads.is) (child_fine parent own a program may)
-  event_fine (Generation sender clean lspawn rspawn) may well = λ n waits. absurd (newborn_waits sender n (sym (ap awaits_in (four_sender s.actors sender clean lspawn rspawn)) ∙ waits))
+  event_fine (Generation (sender ∷ clean ∷ lspawn ∷ rspawn ∷ [])) may well = λ n waits. absurd (newborn_waits sender n (sym (ap awaits_in (four_sender s.actors sender clean lspawn rspawn)) ∙ waits))
+  event_fine (Generation crew) may well = absurd (are_four crew may.kinds)
   event_fine (Report slot output) may well = λ n waits.
       let A = F n waits in
       (A.0, subst (λ (pipe : Pipe). IsPlus pipe.bytes) (sym (away_same s.pipework.pipes (Some (mouth (codes "rspawn") (port.Program slot))) (λ pipe. closed (given output pipe)) (codes "sender") port.Clean refl)) A.1)

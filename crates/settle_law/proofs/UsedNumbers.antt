@@ -137,7 +137,7 @@ unused_next : (s : State) (e : Event) (n : ℕ) → Lacks (made_of e) n → IsUn
 unused_next s (Start a program) n lacks unused = unused
 unused_next s (Act a own wrote) n lacks unused = unused_acted s a own wrote (s.actors a) n lacks unused
 unused_next s (Child parent own a program) n lacks unused = unused_acted s parent own 0 (s.actors parent) n lacks unused
-unused_next s (Generation sender clean lspawn rspawn) n lacks unused = unused
+unused_next s (Generation crew) n lacks unused = unused
 unused_next s (Report slot output) n lacks unused = unused
 unused_next s (End a read ready status) n lacks unused = unused_finished s a (Over status) (s.actors a) n unused
 unused_next s (Stop a) n lacks unused = unused_finished s a Stopped (s.actors a) n unused

@@ -29,6 +29,7 @@ use Rattle.mail_bytes.specs.Decimal.{number_of}
 use Rattle.spawn_protocol.proofs.Requests.{some_reading}
 use Rattle.world_events.specs.declared.event.Program.{Program}
 use Rattle.world_events.specs.declared.event.Program.TheVariants.{Delivery, LocalSpawner, RemoteSpawner, Sender}
+use Rattle.mail_world.proofs.Members.{are_four}
 use Rattle.mail_world.specs.History.{Actor, Allowed, Event, IsCleaner, IsLocalSpawner, IsProgramOf, IsRemoteSpawner, IsSender, Legal, Life, MayBear, MayRun, State, acted, after, finished, happens, newborn, next_of, stopped}
 use Rattle.mail_world.specs.History.Event.{Act, Child, End, Generation, Halt, Moment, Report, Start, Stop}
 use Rattle.mail_world.specs.History.Life.{Over, Stopped}
@@ -181,10 +182,11 @@ next_fits (Start a program) s ran all may = put_fits s.actors a (newborn program
 next_fits (Act a own wrote) s ran all may = acted_fits s ran all a own wrote (s.actors a) refl
 next_fits (Child parent own a program) s ran all may =
     put_fits (acted s parent own 0 (s.actors parent)).actors a (newborn program) (acted_fits s ran all parent own 0 (s.actors parent) refl) (child_fits s ran all parent own a program may)
-next_fits (Generation sender clean lspawn rspawn) s ran all may =
+next_fits (Generation (sender ∷ clean ∷ lspawn ∷ rspawn ∷ [])) s ran all may =
     let kinds = may.kinds in
-    put_fits _ _ (newborn rspawn) (put_fits _ _ (newborn lspawn) (put_fits _ _ (newborn clean) (put_fits _ _ (newborn sender) all (sender_fits sender kinds.0)) (cleaner_fits clean kinds.1))
-    (lspawn_fits lspawn kinds.2)) (rspawn_fits rspawn kinds.3)
+    put_fits _ _ (newborn rspawn) (put_fits _ _ (newborn lspawn) (put_fits _ _ (newborn clean) (put_fits _ _ (newborn sender) all (sender_fits sender kinds.0)) (cleaner_fits clean kinds.1.0))
+    (lspawn_fits lspawn kinds.1.1.0)) (rspawn_fits rspawn kinds.1.1.1.0)
+next_fits (Generation crew) s ran all may = absurd (are_four crew may.kinds)
 next_fits (Report slot output) s ran all may = all
 next_fits (End a read ready status) s ran all may = finished_fits s ran all a (Over status) (s.actors a) refl
 next_fits (Stop a) s ran all may = finished_fits s ran all a Stopped (s.actors a) refl

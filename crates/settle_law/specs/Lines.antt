@@ -28,7 +28,7 @@ abbrev pub is_untroubled : Event → Bool
 is_untroubled (Start a program) = true
 is_untroubled (Act a own wrote) = not (has_failed own.came)
 is_untroubled (Child parent own a program) = true
-is_untroubled (Generation sender clean lspawn rspawn) = true
+is_untroubled (Generation crew) = true
 is_untroubled (Report slot output) = true
 is_untroubled (End a read ready status) = is_well_ended status
 is_untroubled (Stop a) = false

@@ -47,7 +47,7 @@ abbrev pub goes_well : Event → Bool
 goes_well (Start a program) = has_system_numbers program
 goes_well (Act a own wrote) = came_well own.came
 goes_well (Child parent own a program) = has_system_numbers program
-goes_well (Generation sender clean lspawn rspawn) = true
+goes_well (Generation crew) = true
 goes_well (Report slot output) = true
 goes_well (End a read ready status) = is_well_ended status
 goes_well (Stop a) = false

@@ -1,2 +1,4 @@
 -- a drop that runs over a disk
-pub mod Running
+pub mod RunningDrops
+-- a delivery that runs over a disk
+pub mod RunningDeliveries

@@ -1,5 +1,13 @@
+mod cases;
 mod choices;
+mod commands;
 mod drops;
 mod fault_texts;
+mod forwards;
+mod homes;
+mod instructions;
+mod messages;
 mod paths;
 mod plans;
+mod rows;
+mod running;

@@ -56,8 +56,8 @@
 //! are one byte, and `%*` is the byte of the line `times`, as often as it says. The line printed of the file says how many rows
 //! came as they should, after those that didn't.
 //!
-//! Then threads of `work` meet at the gate, and `meeting ok` is printed if all of them were held there at once, and each member's
-//! thread then stepped it before the last of the mails that were held there had ended.
+//! Then threads of `work` meet at the gate, and `meeting ok` is printed if all of them were held there at once, and one then came to
+//! its next mail while another one's mail was still held.
 //!
 //! `NAME.sh` is a script of sh(1), played at last. The line printed of it is `NAME ok` if it ends with 0 and prints the text of
 //! `NAME.out`, and else `NAME differs`. Its parent is this same program, which does what `qmail` does if it is told words: so there

@@ -14,6 +14,7 @@ mod folds;
 mod injections;
 mod injector;
 mod long_messages;
+mod made_scripts;
 mod name_disk;
 mod netstring_heads;
 mod paces;

@@ -2,9 +2,10 @@
 //! 500,000. What came of it is printed. A reading or a search whose time grows with the square of the lines takes minutes for so
 //! many, and one that looks at each of them once takes seconds; bench/users.sh compares the times of two files.
 //!
-//! Tests of the spawners' rules: the letters of local deliveries, and the file users/assign. They stand in a crate of their own,
-//! with nothing else in it, so that the crates that they call are proved without them. Each test is data: rows with the answers
-//! that are expected, which few functions play.
+//! Tests of the spawners: their steps, the letters of local deliveries, and the file users/assign; and of what they are asked,
+//! when and how they answer: the retry schedule, requests and reports. They stand in a crate of their own, with nothing else in
+//! it, so that the crates that they call are proved without them. Each test is data: rows or steps with the answers that are
+//! expected, which few functions play.
 #![tactic(auto)]
 
 mod long_file;

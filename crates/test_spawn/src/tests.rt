@@ -1,2 +1,12 @@
+mod cuts;
+mod dues;
+mod local;
 mod local_letters;
+mod remote;
+mod remote_reports;
+mod reports;
+mod requests;
+mod retries;
+mod steps;
+mod users;
 mod users_files;

@@ -1,9 +1,13 @@
 //! Threads add to one number in turn, each one a turn, and the sum is printed: so many threads with so many turns each. With two words
 //! on the command line it does so once, with that many threads and that many turns each; with 0 threads the turns are taken without a
 //! yard. Whatever the order of the turns, what is printed is the same.
+//!
+//! Tests of the queue of pieces: two readers in threads of their own, and one that takes.
 #![tactic(auto)]
 
 mod tally;
+#[cfg(test)]
+mod tests;
 mod turns;
 
 use std::{env, io};

@@ -1,5 +1,5 @@
 -- The programs that actors run.
-use Rattle.std.specs.Prelude.{Option, Some, None}
+use Rattle.std.specs.Prelude.{ℕ, List, [], ◌∷◌, Option, Some, None}
 use Rattle.actor_names.specs.declared.member.Member.{Member}
 use Rattle.actor_names.specs.declared.member.Member.TheVariants as member
 use Rattle.queue_inject.specs.declared.injection.Arguments.{Arguments}
@@ -35,3 +35,10 @@ StartsAlone other = ⊥
 abbrev pub IsNoMember : Class → Type 0
 IsNoMember (Seated member) = ⊥
 IsNoMember other = Unit {0}
+
+-- the members of a generation, in their order, and what they run if it starts at this moment
+abbrev pub generation : List Member
+generation = member.Sender ∷ member.Cleaner ∷ member.LocalSpawner ∷ member.RemoteSpawner ∷ []
+
+abbrev pub crew_at : ℕ → List Program
+crew_at start = Sender start ∷ Cleaner start ∷ LocalSpawner start ∷ RemoteSpawner start ∷ []

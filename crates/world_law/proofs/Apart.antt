@@ -13,13 +13,14 @@ use Rattle.send_core.specs.Past.Happening.{Gives}
 use Rattle.send_known.specs.declared.channel.Channel.TheVariants.{Local}
 use Rattle.send_runs.specs.Reports.{given_by}
 use Rattle.world_events.specs.declared.event.Program.{Program}
-use Rattle.mail_world.specs.History.{Actor, Allowed, Event, Legal, Life, State, acted, after, finished, happens, newborn, slot_by, stopped}
+use Rattle.mail_world.specs.History.{Actor, Allowed, Event, Legal, Life, State, acted, after, finished, happens, newborn, slot_by, stopped, with_crew}
 use Rattle.mail_world.specs.History.Event.{Act, Child, End, Generation, Halt, Moment, Report, Start, Stop}
 use Rattle.mail_world.specs.History.Life.{Over, Stopped}
 use Rattle.world_law.specs.Carried.{DeliveriesAreApart}
 use Rattle.world_law.specs.Started.{AllStay, Stays, WasAsked, WasStartedFor}
 use Rattle.world_law.proofs.Born.{IsBorn}
 use Rattle.world_law.proofs.Tenants.{some_actor}
+use Rattle.actor_names.specs.MailNames.{members}
 
 cons_parts : (x y : Event) (xs ys : List Event) → x ∷ xs ≡ y ∷ ys → (x ≡ y) × (xs ≡ ys)
 cons_parts x y xs ys e = (cc, cc)
@@ -79,6 +80,10 @@ put_there actors a b y there = ⊎_elim
     (λ (c : (b ≢ a) × (put_at actors a (Some y) b ≡ actors b)). ap is_some c.1 ∙ there)
     (put_at_cases actors a (Some y) b)
 
+crew_there : (names : List (List ℕ)) (crew : List Program) (actors : List ℕ → Option Actor) (b : List ℕ) → is_some (actors b) ≡ true → is_some (with_crew names crew actors b) ≡ true
+crew_there (a ∷ names) (program ∷ crew) actors b there = crew_there names crew (put_at actors a (Some (newborn program))) b (put_there actors a b (newborn program) there)
+crew_there names crew actors b there = there
+
 abbrev IsThere : State → List ℕ → Type 0
 IsThere s b = is_some (s.actors b) ≡ true
 
@@ -99,8 +104,7 @@ module _ (s : State) (b : List ℕ) (there : IsThere s b) where
   stays_there (Start a program) = put_there s.actors a b (newborn program) there
   stays_there (Act a own wrote) = acts_there a own wrote (s.actors a)
   stays_there (Child parent own a program) = put_there (acted s parent own 0 (s.actors parent)).actors a b (newborn program) (acts_there parent own 0 (s.actors parent))
-  stays_there (Generation sender clean lspawn rspawn) =
-      put_there _ _ b (newborn rspawn) (put_there _ _ b (newborn lspawn) (put_there _ _ b (newborn clean) (put_there _ _ b (newborn sender) there)))
+  stays_there (Generation crew) = crew_there members crew s.actors b there
   stays_there (Report slot output) = there
   stays_there (End a read ready status) = ends_there a (Over status) (s.actors a)
   stays_there (Stop a) = ends_there a Stopped (s.actors a)

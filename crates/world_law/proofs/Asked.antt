@@ -20,7 +20,7 @@ use Rattle.world_events.specs.declared.event.Program.TheVariants.{Sender}
 use Rattle.mail_world.specs.History.{Actor, Event, IsSender, Legal, MayBear, MayDo, State, acted, after, bears, finished, happens, newborn, next_of, stopped}
 use Rattle.mail_world.specs.History.Event.{Act, Child, End, Generation, Halt, Moment, Report, Start, Stop}
 use Rattle.mail_world.specs.History.Life.{Over, Stopped}
-use Rattle.mail_world.proofs.Members.{four_sender}
+use Rattle.mail_world.proofs.Members.{are_four, four_sender}
 use Rattle.world_law.specs.Crew.{IsNamed}
 use Rattle.world_law.specs.Started.{Stays, WasAsked}
 use Rattle.world_law.proofs.Born.{gives_sender, others_stay}
@@ -195,8 +195,9 @@ module _ (slot : ℕ) (t : Task) where
         (asked_always h legal.0 (subst Given (put_seen past_of (after d h).actors a (newborn program) (codes "sender") (sym (ap past_of legal.1.new))) w))
     asked_always (Act a own wrote ∷ h) legal w = act_asked h legal.0 (asked_always h legal.0) a own wrote legal.1 w
     asked_always (Child parent own a program ∷ h) legal w = child_asked h legal.0 (asked_always h legal.0) parent own a program legal.1 w
-    asked_always (Generation sender clean lspawn rspawn ∷ h) legal w =
+    asked_always (Generation (sender ∷ clean ∷ lspawn ∷ rspawn ∷ []) ∷ h) legal w =
         absurd (no_past (subst Given (ap past_of (four_sender (after d h).actors sender clean lspawn rspawn)) w))
+    asked_always (Generation crew ∷ h) legal w = absurd (are_four crew legal.1.kinds)
     asked_always (Report n output ∷ h) legal w = later_on (Report n output) h tt (asked_always h legal.0 w)
     asked_always (End a read ready status ∷ h) legal w =
         let x = legal.1.actor in

@@ -37,6 +37,7 @@ use Rattle.queue_law.proofs.Tests.{other_text, same_text}
 use Rattle.program_law.specs.Sender.Control.{AreControls}
 use Rattle.world_events.specs.declared.event.Program.{Program}
 use Rattle.world_events.specs.declared.event.Program.TheVariants.{Delivery}
+use Rattle.mail_world.proofs.Members.{are_four}
 use Rattle.mail_world.specs.History.{Actor, Event, IsCleaner, IsLocalSpawner, IsRemoteSpawner, IsSender, Legal, MayDo, MayRun, acted, after, finished, newborn, next_of, stopped}
 use Rattle.mail_world.specs.History.Event.{Start, Act, Child, Generation, Report, End, Stop, Moment, Halt}
 use Rattle.mail_world.specs.History.Life.{Alive, Over, Stopped}
@@ -225,7 +226,7 @@ none_linked_yet d (Child parent own b program ∷ before) legal a none =
     let one = none_before (acted s parent own 0 (s.actors parent)).actors b (newborn program) a none in
     none_linked_yet d before legal.0 a
     (none_before s.actors parent moved a (subst (λ (o : Option Actor). (acted s parent own 0 o).actors a ≡ None) legal.1.reads.is one.1)).1
-none_linked_yet d (Generation sender clean lspawn rspawn ∷ before) legal a none =
+none_linked_yet d (Generation (sender ∷ clean ∷ lspawn ∷ rspawn ∷ []) ∷ before) legal a none =
     let s = after d before in
     let one = put_at s.actors (codes "sender") (Some (newborn sender)) in
     let two = put_at one (codes "clean") (Some (newborn clean)) in
@@ -235,6 +236,7 @@ none_linked_yet d (Generation sender clean lspawn rspawn ∷ before) legal a non
     (none_before one (codes "clean") (newborn clean) a
     (none_before two (codes "lspawn") (newborn lspawn) a
     (none_before three (codes "rspawn") (newborn rspawn) a none).1).1).1).1
+none_linked_yet d (Generation crew ∷ before) legal a none = absurd (are_four crew legal.1.kinds)
 none_linked_yet d (Report slot output ∷ before) legal a none = none_linked_yet d before legal.0 a none
 none_linked_yet d (Moment m ∷ before) legal a none = none_linked_yet d before legal.0 a none
 none_linked_yet d (End b read ready status ∷ before) legal a none =
@@ -327,8 +329,8 @@ module _ (controls : Controls) (d : Disk) (has : AreControls controls d) where
       record { pairs = w.pairs; whole = w.whole })
       (put_actor (acted s parent own 0 (s.actors parent)).actors b (newborn program) a x is)
 
-  generation_links : (before : List Event) → AtLast before → (sender clean lspawn rspawn : Program) → Legal d (Generation sender clean lspawn rspawn ∷ before)
-      → AtLast (Generation sender clean lspawn rspawn ∷ before)
+  generation_links : (before : List Event) → AtLast before → (sender clean lspawn rspawn : Program) → Legal d (Generation (sender ∷ clean ∷ lspawn ∷ rspawn ∷ []) ∷ before)
+      → AtLast (Generation (sender ∷ clean ∷ lspawn ∷ rspawn ∷ []) ∷ before)
   generation_links before L sender clean lspawn rspawn legal a x is start args runs =
       let s = after d before in
       let kinds = legal.1.kinds in
@@ -337,11 +339,11 @@ module _ (controls : Controls) (d : Disk) (has : AreControls controls d) where
       let three = put_at two (codes "lspawn") (Some (newborn lspawn)) in
       let program = λ (p : Program) (e : x ≡ newborn p). ap (λ (w : Actor). w.program) (sym e) ∙ runs in
       ⊎_elim
-      (λ (c : (a ≡ codes "rspawn") × (x ≡ newborn rspawn)). absurd (no_delivery IsRemoteSpawner rspawn start args kinds.3 (program rspawn c.1) (λ it. it)))
+      (λ (c : (a ≡ codes "rspawn") × (x ≡ newborn rspawn)). absurd (no_delivery IsRemoteSpawner rspawn start args kinds.1.1.1.0 (program rspawn c.1) (λ it. it)))
       (λ (c : (a ≢ codes "rspawn") × (three a ≡ Some x)). ⊎_elim
-      (λ (e : (a ≡ codes "lspawn") × (x ≡ newborn lspawn)). absurd (no_delivery IsLocalSpawner lspawn start args kinds.2 (program lspawn e.1) (λ it. it)))
+      (λ (e : (a ≡ codes "lspawn") × (x ≡ newborn lspawn)). absurd (no_delivery IsLocalSpawner lspawn start args kinds.1.1.0 (program lspawn e.1) (λ it. it)))
       (λ (e : (a ≢ codes "lspawn") × (two a ≡ Some x)). ⊎_elim
-      (λ (f : (a ≡ codes "clean") × (x ≡ newborn clean)). absurd (no_delivery IsCleaner clean start args kinds.1 (program clean f.1) (λ it. it)))
+      (λ (f : (a ≡ codes "clean") × (x ≡ newborn clean)). absurd (no_delivery IsCleaner clean start args kinds.1.0 (program clean f.1) (λ it. it)))
       (λ (f : (a ≢ codes "clean") × (one a ≡ Some x)). ⊎_elim
       (λ (g : (a ≡ codes "sender") × (x ≡ newborn sender)). absurd (no_delivery IsSender sender start args kinds.0 (program sender g.1) (λ it. it)))
       (λ (g : (a ≢ codes "sender") × (s.actors a ≡ Some x)). let w = L a x g.1 start args runs in record { pairs = w.pairs; whole = w.whole })
@@ -372,8 +374,9 @@ module _ (controls : Controls) (d : Disk) (has : AreControls controls d) where
   links_are (Act b own wrote ∷ before) legal a x is start args runs = acts_links before (links_are before legal.0) b own wrote legal a x is start args runs
   links_are (Child parent own b program ∷ before) legal a x is start args runs =
       child_links before (links_are before legal.0) parent own b program legal a x is start args runs
-  links_are (Generation sender clean lspawn rspawn ∷ before) legal a x is start args runs =
+  links_are (Generation (sender ∷ clean ∷ lspawn ∷ rspawn ∷ []) ∷ before) legal a x is start args runs =
       generation_links before (links_are before legal.0) sender clean lspawn rspawn legal a x is start args runs
+  links_are (Generation crew ∷ before) legal a x is start args runs = absurd (are_four crew legal.1.kinds)
   links_are (Report slot output ∷ before) legal a x is start args runs =
       calm before (Report slot output) a args x.past refl (links_are before legal.0 a x is start args runs)
   links_are (Moment m ∷ before) legal a x is start args runs = calm before (Moment m) a args x.past refl (links_are before legal.0 a x is start args runs)

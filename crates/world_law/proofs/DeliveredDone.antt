@@ -64,7 +64,7 @@ use Rattle.world_law.proofs.PostHeard.{link_hears, link_on}
 use Rattle.world_law.proofs.Safe.{end_well}
 use Rattle.world_law.proofs.Starts.{no_member}
 use Rattle.world_law.proofs.Tenants.{some_actor}
-use Rattle.mail_world.proofs.Members.{four_other}
+use Rattle.mail_world.proofs.Members.{crew_other}
 use Rattle.call_fs.specs.Maps.{put_at}
 use Rattle.world_law.proofs.SendersPut.{sender}
 
@@ -100,7 +100,7 @@ over_kept (Child parent own b program) s may a x is over apart =
   where
     other : a ≢ b
     other same = let both : ◌≡◌ {A = Option Actor} None (Some x) = sym may.new ∙ ap s.actors (sym same) ∙ is in absurd (cc)
-over_kept (Generation first second third last) s may a x is over apart = four_other s.actors first second third last a (no_member a apart) ∙ is
+over_kept (Generation crew) s may a x is over apart = crew_other s.actors crew a (no_member a apart) ∙ is
 over_kept (Report slot output) s may a x is over apart = is
 over_kept (End b read ready status) s may a x is over apart =
     let y = may.actor in
@@ -289,7 +289,7 @@ event_done B (Child parent own a program) controls s I M D may of r on h =
     let there = subst (λ (o : Option Actor). HasDelivered (acted s parent own 0 o).books of (spot_of controls of r)) may.reads.is h in
     D of r on (subst (λ (b : Books). HasDelivered b of (spot_of controls of r)) same there)
 event_done B (Start a program) controls s I M D may of r on h = D of r on h
-event_done B (Generation first second third last) controls s I M D may of r on h = D of r on h
+event_done B (Generation crew) controls s I M D may of r on h = D of r on h
 event_done B (Report slot output) controls s I M D may of r on h = D of r on h
 event_done B (End a read ready status) controls s I M D may of r on h =
     D of r on (subst (λ (o : Option Actor). HasDelivered (finished s a (Over status) o).books of (spot_of controls of r)) may.reads.is h)

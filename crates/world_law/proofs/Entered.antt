@@ -24,6 +24,7 @@ use Rattle.call_fs.specs.Maps.{put_at}
 use Rattle.call_fs.proofs.Maps.{put_at_other}
 use Rattle.world_events.specs.declared.event.Program.{Program}
 use Rattle.world_events.specs.declared.event.Program.TheVariants.{Cleaner, Injector, LocalSpawner, Sender}
+use Rattle.mail_world.proofs.Members.{are_four}
 use Rattle.mail_world.specs.History.{Actor, Allowed, Event, IsLocalSpawner, IsSender, Legal, MayDo, State, acted, after, happens, newborn, opening, slot_by, stopped}
 use Rattle.mail_world.specs.History.Event.{Act, Child, End, Generation, Halt, Moment, Report as Tells, Start, Stop}
 use Rattle.mail_world.specs.History.Life.{Alive}
@@ -211,18 +212,19 @@ messages_keep B C (Halt how contents) carry begun controls s R I J N M may = rec
     off on =
         let none : true ≡ false = sym on ∙ ap (λ (b : Bool). b && is_on (desk_in (option_map stopped (s.actors (codes "sender")))).row) (sends_halted (s.actors (codes "sender"))) in
         absurd (cc)
-messages_keep B C (Generation sender clean lspawn rspawn) carry begun controls s R I J N M may =
+messages_keep B C (Generation (sender ∷ clean ∷ lspawn ∷ rspawn ∷ [])) carry begun controls s R I J N M may =
     let one = is_sender sender may.kinds.0 in
-    let two = is_cleaner clean may.kinds.1 in
-    let three = is_local lspawn may.kinds.2 in
-    let four = is_remote rspawn may.kinds.3 in
-    subst (λ (p : Program). NothingComes (happens s (Generation p clean lspawn rspawn)) → MessagesStand C (happens s (Generation p clean lspawn rspawn))) (sym one.1)
-    (subst (λ (p : Program). NothingComes (happens s (Generation (Sender one.0) p lspawn rspawn)) → MessagesStand C (happens s (Generation (Sender one.0) p lspawn rspawn))) (sym two.1)
-    (subst (λ (p : Program). NothingComes (happens s (Generation (Sender one.0) (Cleaner two.0) p rspawn)) → MessagesStand C (happens s (Generation (Sender one.0) (Cleaner two.0) p rspawn)))
+    let two = is_cleaner clean may.kinds.1.0 in
+    let three = is_local lspawn may.kinds.1.1.0 in
+    let four = is_remote rspawn may.kinds.1.1.1.0 in
+    subst (λ (p : Program). NothingComes (happens s (Generation (p ∷ clean ∷ lspawn ∷ rspawn ∷ []))) → MessagesStand C (happens s (Generation (p ∷ clean ∷ lspawn ∷ rspawn ∷ [])))) (sym one.1)
+    (subst (λ (p : Program). NothingComes (happens s (Generation (Sender one.0 ∷ p ∷ lspawn ∷ rspawn ∷ []))) → MessagesStand C (happens s (Generation (Sender one.0 ∷ p ∷ lspawn ∷ rspawn ∷ [])))) (sym two.1)
+    (subst (λ (p : Program). NothingComes (happens s (Generation (Sender one.0 ∷ Cleaner two.0 ∷ p ∷ rspawn ∷ []))) → MessagesStand C (happens s (Generation (Sender one.0 ∷ Cleaner two.0 ∷ p ∷ rspawn ∷ []))))
     (sym three.1)
-    (subst (λ (p : Program). NothingComes (happens s (Generation (Sender one.0) (Cleaner two.0) (LocalSpawner three.0) p))
-    → MessagesStand C (happens s (Generation (Sender one.0) (Cleaner two.0) (LocalSpawner three.0) p))) (sym four.1)
+    (subst (λ (p : Program). NothingComes (happens s (Generation (Sender one.0 ∷ Cleaner two.0 ∷ LocalSpawner three.0 ∷ p ∷ [])))
+    → MessagesStand C (happens s (Generation (Sender one.0 ∷ Cleaner two.0 ∷ LocalSpawner three.0 ∷ p ∷ [])))) (sym four.1)
     (generation_messages B C controls s I M one.0 two.0 three.0 four.0)))) N
+messages_keep B C (Generation crew) carry begun controls s R I J N M may = absurd (are_four crew may.kinds)
 messages_keep B C (Act a own wrote) carry begun controls s R I J N M may = act_messages B C controls s I M a own wrote carry may J N
 messages_keep B C (End a read ready status) carry begun controls s R I J N M may = end_messages B C (λ slot name. carry slot name tt) controls s I M a read ready status may N
 messages_keep B C (Stop a) carry begun controls s R I J N M may = stop_messages B C (λ slot name. carry slot name tt) controls s I M a may N
@@ -233,7 +235,7 @@ begun_now : (before : List Event) (e : Event) → IsBegun (IsBorn (e ∷ before)
 begun_now before (Child parent own a program) = λ same. born_now before parent same own a program
 begun_now before (Start a program) = tt
 begun_now before (Act a own wrote) = tt
-begun_now before (Generation sender clean lspawn rspawn) = tt
+begun_now before (Generation crew) = tt
 begun_now before (Tells slot output) = tt
 begun_now before (End a read ready status) = tt
 begun_now before (Stop a) = tt

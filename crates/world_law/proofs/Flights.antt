@@ -47,7 +47,7 @@ use Rattle.mail_world.specs.History.{Actor, Allowed, ComesOf, Event, Legal, Life
 use Rattle.mail_world.specs.History.Event.{Start, Act, Child, Generation, Report, End, Stop, Moment, Halt}
 use Rattle.mail_world.specs.History.Life.{Alive, Over, Stopped}
 use Rattle.mail_world.specs.Untouched.{about_in, program_of, queue}
-use Rattle.mail_world.proofs.Members.{four_sender}
+use Rattle.mail_world.proofs.Members.{are_four, four_sender}
 use Rattle.world_law.specs.Crew.{IsNamed, is_alive}
 use Rattle.world_law.specs.Fares.{FaresBy}
 use Rattle.world_law.specs.Inv.{Inv}
@@ -205,8 +205,9 @@ gone_before (Act a own wrote) controls s I L may =
     (act_keeps controls s I a own wrote L may.actor may.reads.is may.reads.alive may.reads.no_later may.due may.came may.actor.program refl))
 gone_before (Child parent own a program) controls s I L may =
     subst (λ (o : Option Actor). GoneBefore s (bears (acted s parent own 0 o) parent own a program)) (sym may.reads.is) (child_there s parent own a program may)
-gone_before (Generation sender clean lspawn rspawn) controls s I L may = λ x is dead.
+gone_before (Generation (sender ∷ clean ∷ lspawn ∷ rspawn ∷ [])) controls s I L may = λ x is dead.
     let none : ⊥ = same_life x (newborn sender) (sym (four_sender s.actors sender clean lspawn rspawn) ∙ is) refl dead in absurd none
+gone_before (Generation crew) controls s I L may = absurd (are_four crew may.kinds)
 gone_before (Report slot output) controls s I L may = λ x is dead. record { y = x; is = is; program = refl; past = refl; keeps = λ n h. h }
 gone_before (End a read ready status) controls s I L may =
     subst (λ (o : Option Actor). GoneBefore s (finished s a (Over status) o)) (sym may.reads.is) (finished_there s a (Over status) may.actor may.reads.is)

@@ -54,7 +54,7 @@ use Rattle.world_law.specs.Deliveries.{DropsAreWhole}
 use Rattle.world_law.specs.Fares.{DeliveryFares, FaresBy, SenderFares}
 use Rattle.world_law.specs.Headline.{AttemptsAreSound, IsAttempt, SafeState}
 use Rattle.world_law.specs.Inv.{Inv}
-use Rattle.world_law.specs.Laws.{Always, AreAccounted, IsKeptBy}
+use Rattle.world_law.specs.Laws.{Always, AreAccounted, HistoriesAreSafe, IsKeptBy}
 use Rattle.world_law.proofs.Begins.{inv_begins}
 use Rattle.world_law.proofs.BounceEnvelopes.{bounce_addressed, not_double}
 use Rattle.world_law.proofs.BouncesLast.{channels_are_gone, opening}
@@ -86,7 +86,7 @@ event_keeps : (e : Event) → IsKeptBy e
 event_keeps (Start a program) = starts_keep a program
 event_keeps (Act a own wrote) = λ controls s I may. act_keeps a own wrote controls s I may may.actor.program refl
 event_keeps (Child parent own a program) = children_keep parent own a program
-event_keeps (Generation sender clean lspawn rspawn) = generations_keep sender clean lspawn rspawn
+event_keeps (Generation crew) = generations_keep crew
 event_keeps (Report slot output) = reports_keep slot output
 event_keeps (End a read ready status) = ends_keep a read ready status
 event_keeps (Stop a) = stops_keep a
@@ -98,12 +98,15 @@ always controls d [] has legal = inv_begins controls d has legal
 always controls d (e ∷ before) has legal = event_keeps e controls (after d before) (always controls d before has legal.0) legal.1
 
 -- so each state is safe
+pub histories_are_safe : HistoriesAreSafe
+histories_are_safe controls d before has legal = inv_is_safe controls (after d before) (have_run d before legal) (always controls d before has legal)
+
 pub safe_always : (controls : Controls) (d : Disk) (before : List Event) → AreControls controls d → Legal d before → SafeState (after d before)
-safe_always controls d before has legal = (inv_is_safe controls d before legal (always controls d before has legal)).0
+safe_always controls d before has legal = (histories_are_safe controls d before has legal).0
 
 -- and each recipient is accounted for by the ledgers
 pub accounts_always : (controls : Controls) (d : Disk) (before : List Event) → AreControls controls d → Legal d before → AreAccounted controls (after d before)
-accounts_always controls d before has legal = (inv_is_safe controls d before legal (always controls d before has legal)).1
+accounts_always controls d before has legal = (histories_are_safe controls d before has legal).1
 
 -- Attempts
 

@@ -298,7 +298,7 @@ pub leaves : (controls : Controls) (s : State) (I : Inv controls s) (e : Event) 
 leaves controls s I (Start a program) may = of_none s (Start a program) refl refl refl refl
 leaves controls s I (Act a own wrote) may = of_actor s (Act a own wrote) a (λ o other. other) (act_leaves controls s I a own wrote may)
 leaves controls s I (Child parent own a program) may = of_actor s (Child parent own a program) parent (λ o other. other) (child_leaves s parent own a program may)
-leaves controls s I (Generation sender clean lspawn rspawn) may = of_none s (Generation sender clean lspawn rspawn) refl refl refl refl
+leaves controls s I (Generation crew) may = of_none s (Generation crew) refl refl refl refl
 leaves controls s I (Report slot output) may = of_none s (Report slot output) refl refl refl refl
 leaves controls s I (End a read ready status) may = of_actor s (End a read ready status) a (λ o other. other) (over_leaves s a (Over status) may.actor may.reads.is)
 leaves controls s I (Stop a) may = of_actor s (Stop a) a (λ o other. other) (over_leaves s a Stopped may.actor may.is)

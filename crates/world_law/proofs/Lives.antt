@@ -353,7 +353,7 @@ event_goes s (Bears parent own a program) may =
     subst (λ (o : Option Actor). Goes s.books (acted s parent own 0 o).books None []) (sym may.reads.is)
     (subst (λ (b : Books). Goes s.books b None []) (sym same) (goes_same s.books []))
 event_goes s (Start a program) may = goes_same s.books []
-event_goes s (Generation first second third last) may = goes_same s.books []
+event_goes s (Generation crew) may = goes_same s.books []
 event_goes s (Report slot output) may = goes_same s.books []
 event_goes s (End a read ready status) may =
     subst (λ (o : Option Actor). Goes s.books (finished s a (Over status) o).books None []) (sym may.reads.is) (goes_same s.books [])

@@ -14,6 +14,7 @@ use Rattle.program_law.specs.Sender.Control.{AreControls}
 use Rattle.world_pipes.specs.Pipework.{Pipe, closed, fresh, given, is_member, is_writer, mouth, writer}
 use Rattle.world_pipes.specs.Pipework.Tenant.{Runs}
 use Rattle.world_events.specs.declared.event.Program.{Program}
+use Rattle.mail_world.proofs.Members.{are_four}
 use Rattle.mail_world.specs.History.{Actor, Allowed, Event, Legal, Life, State, acted, after, bears, finished, happens, slot_by}
 use Rattle.mail_world.specs.History.Event.{Start, Act, Child, Generation, Report, End, Stop, Moment, Halt}
 use Rattle.mail_world.specs.History.Life.{Over, Stopped}
@@ -74,12 +75,13 @@ newcomers_keep (Act a own wrote) controls s I N may =
 newcomers_keep (Child parent own a program) controls s I N may =
     subst (λ (o : Option Actor). NothingComes (bears (acted s parent own 0 o) parent own a program)) (sym may.reads.is)
     (borne (acted s parent own 0 (Some may.actor)) (acts controls s I N parent own 0 may.actor) parent own a program)
-newcomers_keep (Generation sender clean lspawn rspawn) controls s I N may = λ b gone apart.
+newcomers_keep (Generation (sender ∷ clean ∷ lspawn ∷ rspawn ∷ [])) controls s I N may = λ b gone apart.
     let w = put_none _ (codes "rspawn") _ b gone in
     let v = put_none _ (codes "lspawn") _ b w.1 in
     let u = put_none _ (codes "clean") _ b v.1 in
     let t = put_none s.actors (codes "sender") _ b u.1 in
     fresh_none (is_member b) (s.pipework.pipes b port.Input) (N b t.1 apart)
+newcomers_keep (Generation crew) controls s I N may = absurd (are_four crew may.kinds)
 newcomers_keep (Report slot output) controls s I N may = λ b gone apart.
     ap (λ (p : Pipe). p.bytes) (away_same s.pipework.pipes (Some (mouth (codes "rspawn") (port.Program slot))) (λ pipe. closed (given output pipe)) b port.Input refl)
     ∙ N b gone apart

@@ -7,6 +7,7 @@ use Rattle.call_fs.specs.declared.calls.CallData.{CallData}
 use Rattle.call_fs.specs.declared.past.NeedData.TheVariants as needs
 use Rattle.call_fs.specs.declared.past.Own.{Own}
 use Rattle.world_events.specs.declared.event.Program.{Program}
+use Rattle.mail_world.proofs.Members.{are_four}
 use Rattle.mail_world.specs.History.{Actor, Event, Legal, Life, MayDo, State, acted, after, cut_off, finished, happens, newborn, stopped}
 use Rattle.mail_world.specs.History.Event.{Act, Child, End, Generation, Halt, Moment, Report, Start, Stop}
 use Rattle.mail_world.specs.History.Life.{Alive, Over, Stopped}
@@ -124,7 +125,7 @@ module _ (d : Disk) (a : List ℕ) (own : Own) (call : CallData) (asked : own.du
       (λ (c : (put_at s.actors parent (Some y) a ≡ s.actors a) × IsNewest own (s.actors a)).
       later (Child parent o b program) before (w.0 ∙ subst (λ (z : Option Actor). (acted s parent o 0 z).actors a ≡ s.actors a) (sym may.reads.is) c.0) (was_made before legal.0 c.1))
       (put_newest own s.actors parent a y (subst (λ (z : Option Actor). IsNewest own ((acted s parent o 0 z).actors a)) may.reads.is w.1))
-  was_made (Generation sender clean lspawn rspawn ∷ before) legal h =
+  was_made (Generation (sender ∷ clean ∷ lspawn ∷ rspawn ∷ []) ∷ before) legal h =
       let actors = (after d before).actors in
       let one = put_at actors (codes "sender") (Some (newborn sender)) in
       let two = put_at one (codes "clean") (Some (newborn clean)) in
@@ -133,7 +134,8 @@ module _ (d : Disk) (a : List ℕ) (own : Own) (call : CallData) (asked : own.du
       let l = put_new own two (codes "lspawn") a lspawn r.1 in
       let c = put_new own one (codes "clean") a clean l.1 in
       let w = put_new own actors (codes "sender") a sender c.1 in
-      later (Generation sender clean lspawn rspawn) before (r.0 ∙ (l.0 ∙ (c.0 ∙ w.0))) (was_made before legal.0 w.1)
+      later (Generation (sender ∷ clean ∷ lspawn ∷ rspawn ∷ [])) before (r.0 ∙ (l.0 ∙ (c.0 ∙ w.0))) (was_made before legal.0 w.1)
+  was_made (Generation crew ∷ before) legal h = absurd (are_four crew legal.1.kinds)
   was_made (Report slot output ∷ before) legal h = later (Report slot output) before refl (was_made before legal.0 h)
   was_made (End b read ready status ∷ before) legal h =
       let s = after d before in

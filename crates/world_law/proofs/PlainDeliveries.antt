@@ -37,6 +37,7 @@ use Rattle.program_law.proofs.Sender.Programs.{starts_of}
 use Rattle.spawner_parts.specs.Table.{row_now as spawn_now}
 use Rattle.world_events.specs.declared.event.Program.{Program}
 use Rattle.world_events.specs.declared.event.Program.TheVariants.{Injector, Cleaner, Sender, LocalSpawner, RemoteSpawner, Delivery}
+use Rattle.mail_world.proofs.Members.{are_four}
 use Rattle.mail_world.specs.History.{Actor, Allowed, Event, IsCleaner, IsLocalSpawner, IsProgramOf, IsRemoteSpawner, IsSender, Legal, Life, MayBear, MayRun, State, acted, after, finished, happens, newborn, next_of, stopped}
 use Rattle.mail_world.specs.History.Event.{Start, Act, Child, Generation, Report, End, Stop, Moment, Halt}
 use Rattle.mail_world.specs.History.Life.{Over, Stopped}
@@ -176,14 +177,15 @@ module _ (s : State) (W : ArePlainIn s.actors) where
   event_plain (Act a own wrote) may = acted_plain a own wrote may.actor may.reads.is
   event_plain (Child parent own a program) may =
       put_plain (acted s parent own 0 (s.actors parent)).actors a (newborn program) (child_plain s parent own a program may) (acted_plain parent own 0 may.actor may.reads.is)
-  event_plain (Generation sender cleaner lspawn rspawn) may =
+  event_plain (Generation (sender ∷ cleaner ∷ lspawn ∷ rspawn ∷ [])) may =
       let one = put_at s.actors (codes "sender") (Some (newborn sender)) in
       let two = put_at one (codes "clean") (Some (newborn cleaner)) in
       let three = put_at two (codes "lspawn") (Some (newborn lspawn)) in
-      put_plain three (codes "rspawn") (newborn rspawn) (remote_plain rspawn may.kinds.3)
-      (put_plain two (codes "lspawn") (newborn lspawn) (local_plain lspawn may.kinds.2)
-      (put_plain one (codes "clean") (newborn cleaner) (cleaner_plain cleaner may.kinds.1)
+      put_plain three (codes "rspawn") (newborn rspawn) (remote_plain rspawn may.kinds.1.1.1.0)
+      (put_plain two (codes "lspawn") (newborn lspawn) (local_plain lspawn may.kinds.1.1.0)
+      (put_plain one (codes "clean") (newborn cleaner) (cleaner_plain cleaner may.kinds.1.0)
       (put_plain s.actors (codes "sender") (newborn sender) (sender_plain sender may.kinds.0) W)))
+  event_plain (Generation crew) may = absurd (are_four crew may.kinds)
   event_plain (Report slot output) may = W
   event_plain (End a read ready status) may = over_plain a (Over status) may.actor may.reads.is
   event_plain (Stop a) may = over_plain a Stopped may.actor may.is

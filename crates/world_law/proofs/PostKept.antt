@@ -30,7 +30,7 @@ use Rattle.mail_world.specs.History.{Actor, Allowed, Event, IsLocalSpawner, IsPr
 use Rattle.mail_world.specs.History.{acted, after, bears, begins, cut_off, happens, newborn, next_of, opening, slot_by, stopped}
 use Rattle.mail_world.specs.History.Event.{Start, Act, Child, Generation, Report, End, Stop, Moment, Halt}
 use Rattle.mail_world.specs.History.Life.{Alive, Over, Stopped}
-use Rattle.mail_world.proofs.Members.{four_lspawn, four_other, four_sender, member_contained}
+use Rattle.mail_world.proofs.Members.{are_four, four_lspawn, four_other, four_sender, member_contained}
 use Rattle.world_law.specs.Crew.{IsNamed, is_alive}
 use Rattle.world_law.specs.Inv.{Inv}
 use Rattle.world_law.specs.inside.Posts.{PostsStand, View, WasDone, desk_in, place_in, post_of, sends_by, sends_in, serves_by, serves_in, view_of}
@@ -144,7 +144,7 @@ module _ (controls : Controls) (s : State) (I : Inv controls s) (P : PostsStand 
 -- A generation starts: nothing that was done is lost
 
 pub generation_done : (controls : Controls) (s : State) → Inv controls s → (sender clean lspawn rspawn : Program) (x : Done) → WasDone s x
-    → WasDone (happens s (Generation sender clean lspawn rspawn)) x
+    → WasDone (happens s (Generation (sender ∷ clean ∷ lspawn ∷ rspawn ∷ []))) x
 generation_done controls s I sender clean lspawn rspawn x h =
     let apart : Contains members x.task.name → ⊥ = subst (λ (z : Program). IsNamed x.task.name z) h.is_for.program (I.crew x.task.name h.is_for.delivery h.is_for.is) in
     record {
@@ -163,7 +163,7 @@ generation_done controls s I sender clean lspawn rspawn x h =
 
 module _ (controls : Controls) (s : State) (I : Inv controls s) (P : PostsStand s) (first second third last : ℕ) where
   abbrev pub four_begun : State
-  four_begun = happens s (Generation (Sender first) (Cleaner second) (LocalSpawner third) (RemoteSpawner last))
+  four_begun = happens s (Generation (Sender first ∷ Cleaner second ∷ LocalSpawner third ∷ RemoteSpawner last ∷ []))
 
   abbrev pub begun_view : View
   begun_view = record { desk = begun None; sends = true; place = spawner_begun; serves = true; told = []; asked = [] }
@@ -195,17 +195,17 @@ module _ (controls : Controls) (s : State) (I : Inv controls s) (P : PostsStand 
     was = λ x among. generation_done controls s I (Sender first) (Cleaner second) (LocalSpawner third) (RemoteSpawner last) x (P.was x among);
   }
 
-generations_stand : (controls : Controls) (s : State) → Inv controls s → PostsStand s → (sender clean lspawn rspawn : Program) → Allowed s (Generation sender clean lspawn rspawn)
-    → PostsStand (happens s (Generation sender clean lspawn rspawn))
+generations_stand : (controls : Controls) (s : State) → Inv controls s → PostsStand s → (sender clean lspawn rspawn : Program) → Allowed s (Generation (sender ∷ clean ∷ lspawn ∷ rspawn ∷ []))
+    → PostsStand (happens s (Generation (sender ∷ clean ∷ lspawn ∷ rspawn ∷ [])))
 generations_stand controls s I P sender clean lspawn rspawn may =
     let one = is_sender sender may.kinds.0 in
-    let two = is_cleaner clean may.kinds.1 in
-    let three = is_local lspawn may.kinds.2 in
-    let four = is_remote rspawn may.kinds.3 in
-    subst (λ (p : Program). PostsStand (happens s (Generation p clean lspawn rspawn))) (sym one.1)
-    (subst (λ (p : Program). PostsStand (happens s (Generation (Sender one.0) p lspawn rspawn))) (sym two.1)
-    (subst (λ (p : Program). PostsStand (happens s (Generation (Sender one.0) (Cleaner two.0) p rspawn))) (sym three.1)
-    (subst (λ (p : Program). PostsStand (happens s (Generation (Sender one.0) (Cleaner two.0) (LocalSpawner three.0) p))) (sym four.1)
+    let two = is_cleaner clean may.kinds.1.0 in
+    let three = is_local lspawn may.kinds.1.1.0 in
+    let four = is_remote rspawn may.kinds.1.1.1.0 in
+    subst (λ (p : Program). PostsStand (happens s (Generation (p ∷ clean ∷ lspawn ∷ rspawn ∷ [])))) (sym one.1)
+    (subst (λ (p : Program). PostsStand (happens s (Generation (Sender one.0 ∷ p ∷ lspawn ∷ rspawn ∷ [])))) (sym two.1)
+    (subst (λ (p : Program). PostsStand (happens s (Generation (Sender one.0 ∷ Cleaner two.0 ∷ p ∷ rspawn ∷ [])))) (sym three.1)
+    (subst (λ (p : Program). PostsStand (happens s (Generation (Sender one.0 ∷ Cleaner two.0 ∷ LocalSpawner three.0 ∷ p ∷ [])))) (sym four.1)
     (generation_stands controls s I P one.0 two.0 three.0 four.0))))
 
 -- The machine stops: both sides are gone
@@ -257,7 +257,8 @@ posts_keep (Start a program) controls s I P may = starts_stand s P a program may
 posts_keep (Act a own wrote) controls s I P may =
     subst (λ (o : Option Actor). PostsStand (acted s a own wrote o)) (sym may.reads.is) (act_by controls s I P a own wrote may may.actor.program refl)
 posts_keep (Child parent own a program) controls s I P may = children_stand controls s I P parent own a program may
-posts_keep (Generation sender clean lspawn rspawn) controls s I P may = generations_stand controls s I P sender clean lspawn rspawn may
+posts_keep (Generation (sender ∷ clean ∷ lspawn ∷ rspawn ∷ [])) controls s I P may = generations_stand controls s I P sender clean lspawn rspawn may
+posts_keep (Generation crew) controls s I P may = absurd (are_four crew may.kinds)
 posts_keep (Report slot output) controls s I P may =
     posts_left s (happens s (Report slot output)) (record { view = refl; keeps = λ a x is. (x, is, refl, λ h. h); homes = λ a x is. refl; slots = λ d. refl }) P
 posts_keep (End a read ready status) controls s I P may = ends_leave controls s I P a may.actor may.reads.is may.reads.alive (Over status) refl

@@ -10,6 +10,7 @@ use Rattle.call_fs.specs.declared.past.NeedData.{NeedData}
 use Rattle.call_fs.specs.declared.past.NeedData.TheVariants as needs
 use Rattle.call_fs.specs.declared.past.Own.{Own}
 use Rattle.world_events.specs.declared.event.Program.{Program}
+use Rattle.mail_world.proofs.Members.{are_four}
 use Rattle.mail_world.specs.History.{Actor, Allowed, Event, Legal, Life, MayBear, State, acted, after, bears, finished, happens, newborn, next_of, stopped}
 use Rattle.mail_world.specs.History.Event.{Act, Child, End, Generation, Halt, Moment, Report, Start, Stop}
 use Rattle.mail_world.specs.History.Life.{Over, Stopped}
@@ -56,8 +57,9 @@ run_keep (Act a own wrote) s R may =
 run_keep (Child parent own a program) s R may =
     subst (λ (o : Option Actor). HaveRun (bears (acted s parent own 0 o) parent own a program).actors) (sym may.reads.is)
     (put_run (acted s parent own 0 (Some may.actor)).actors a (newborn program) (acts_run s R parent own 0 may.actor may.reads.is may.due (born_comes s parent own a program may)) tt)
-run_keep (Generation sender clean lspawn rspawn) s R may =
+run_keep (Generation (sender ∷ clean ∷ lspawn ∷ rspawn ∷ [])) s R may =
     put_run _ _ (newborn rspawn) (put_run _ _ (newborn lspawn) (put_run _ _ (newborn clean) (put_run _ _ (newborn sender) R tt) tt) tt) tt
+run_keep (Generation crew) s R may = absurd (are_four crew may.kinds)
 run_keep (Report slot output) s R may = R
 run_keep (End a read ready status) s R may = ends_run s R a (Over status) (s.actors a) refl
 run_keep (Stop a) s R may = ends_run s R a Stopped (s.actors a) refl

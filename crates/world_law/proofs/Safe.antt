@@ -16,7 +16,7 @@ use Rattle.queue_law.specs.Numbers.{Entry, Queue, Role, Sound, about, entry}
 use Rattle.queue_law.proofs.Accounted.{all_accounted}
 use Rattle.queue_law.proofs.Claims.{sound_is_safe}
 use Rattle.queue_law.proofs.Looks.{find_some, found, not_found}
-use Rattle.mail_world.specs.History.{Actor, Life, State, after, next_of}
+use Rattle.mail_world.specs.History.{Actor, Life, State, next_of}
 use Rattle.mail_world.specs.History.Life.{Over}
 use Rattle.mail_world.specs.Untouched.{queue}
 use Rattle.world_events.specs.declared.event.Program.{Program}
@@ -25,10 +25,10 @@ use Rattle.world_law.specs.Crew.{is_well}
 use Rattle.world_law.specs.Fares.{FaresBy}
 use Rattle.world_law.specs.Headline.{EndsWell, IsBooked, SafeState}
 use Rattle.world_law.specs.Inv.{Inv}
-use Rattle.world_law.specs.Laws.{AreAccounted, InvIsSafe}
+use Rattle.world_law.specs.Laws.{AreAccounted}
 use Rattle.world_law.proofs.DeliveryEnds.{forwarded_in}
 use Rattle.world_law.proofs.Queuing.{has_queued}
-use Rattle.world_law.proofs.Ran.{have_run}
+use Rattle.world_law.proofs.Ran.{HaveRun}
 
 fourth : (mess intd todo info local remote bounce : Bool) → mess ≡ true → todo ≡ true → bounce ≡ false → state_by mess intd todo info local remote bounce ≢ Other
 fourth true true true info local remote false m t b = λ e. absurd (cc)
@@ -119,9 +119,8 @@ own_numbers controls s I n i h = (sound_is_safe controls (queue s I.role) I.soun
 pub end_well : (controls : Controls) (s : State) → Inv controls s → (a : List ℕ) (x : Actor) → s.actors a ≡ Some x → x.life ≡ Over 0 → EndsWell s.books a x.program x.past
 end_well controls s I a x h over = well controls s.now (queue s I.role) a x.program x.past x.life (I.fares a x h) over
 
-pub inv_is_safe : InvIsSafe
-inv_is_safe controls d before legal I =
-    let s = after d before in
+pub inv_is_safe : (controls : Controls) (s : State) → HaveRun s.actors → Inv controls s → SafeState s × AreAccounted controls s
+inv_is_safe controls s run I =
     safe_by controls s I.role I.sound
-    (λ a x h. booked controls s.now (queue s I.role) a x.program x.past x.life (I.fares a x h) (have_run d before legal a x h))
+    (λ a x h. booked controls s.now (queue s I.role) a x.program x.past x.life (I.fares a x h) (run a x h))
     (end_well controls s I)

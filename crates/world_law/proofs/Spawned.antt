@@ -37,7 +37,7 @@ use Rattle.mail_world.specs.History.{Actor, Allowed, ComesOf, Event, IsProgramOf
 use Rattle.mail_world.specs.History.Event.{Start, Act, Child, Generation, Report, End, Stop, Moment, Halt}
 use Rattle.mail_world.specs.History.Life.{Alive, Over, Stopped}
 use Rattle.mail_world.proofs.Coming.{may_come}
-use Rattle.mail_world.proofs.Members.{four_lspawn, four_rspawn, four_sender}
+use Rattle.mail_world.proofs.Members.{are_four, four_lspawn, four_rspawn, four_sender}
 use Rattle.world_law.specs.Crew.{is_alive}
 use Rattle.world_law.specs.Inv.{Inv}
 use Rattle.world_law.specs.inside.Posts.{desk_by, desk_in, sends_in}
@@ -139,7 +139,7 @@ module _ (controls : Controls) (s : State) (I : Inv controls s) (parent : List �
 
 module _ (s : State) (first second third last : ℕ) where
   abbrev four_begun : State
-  four_begun = happens s (Generation (Sender first) (Cleaner second) (LocalSpawner third) (RemoteSpawner last))
+  four_begun = happens s (Generation (Sender first ∷ Cleaner second ∷ LocalSpawner third ∷ RemoteSpawner last ∷ []))
 
   seen_begun : (c : Channel) → sight_of c four_begun.actors four_begun.pipework ≡ first_sight c
   seen_begun channel.Local = λ i. record {
@@ -157,17 +157,17 @@ module _ (s : State) (first second third last : ℕ) where
     asked = [];
   }
 
-generations_stand : (c : Channel) (s : State) (sender clean lspawn rspawn : Program) → Allowed s (Generation sender clean lspawn rspawn)
-    → StandsIn c (happens s (Generation sender clean lspawn rspawn))
+generations_stand : (c : Channel) (s : State) (sender clean lspawn rspawn : Program) → Allowed s (Generation (sender ∷ clean ∷ lspawn ∷ rspawn ∷ []))
+    → StandsIn c (happens s (Generation (sender ∷ clean ∷ lspawn ∷ rspawn ∷ [])))
 generations_stand c s sender clean lspawn rspawn may =
     let one = is_sender sender may.kinds.0 in
-    let two = is_cleaner clean may.kinds.1 in
-    let three = is_local lspawn may.kinds.2 in
-    let four = is_remote rspawn may.kinds.3 in
-    subst (λ (p : Program). StandsIn c (happens s (Generation p clean lspawn rspawn))) (sym one.1)
-    (subst (λ (p : Program). StandsIn c (happens s (Generation (Sender one.0) p lspawn rspawn))) (sym two.1)
-    (subst (λ (p : Program). StandsIn c (happens s (Generation (Sender one.0) (Cleaner two.0) p rspawn))) (sym three.1)
-    (subst (λ (p : Program). StandsIn c (happens s (Generation (Sender one.0) (Cleaner two.0) (LocalSpawner three.0) p))) (sym four.1)
+    let two = is_cleaner clean may.kinds.1.0 in
+    let three = is_local lspawn may.kinds.1.1.0 in
+    let four = is_remote rspawn may.kinds.1.1.1.0 in
+    subst (λ (p : Program). StandsIn c (happens s (Generation (p ∷ clean ∷ lspawn ∷ rspawn ∷ [])))) (sym one.1)
+    (subst (λ (p : Program). StandsIn c (happens s (Generation (Sender one.0 ∷ p ∷ lspawn ∷ rspawn ∷ [])))) (sym two.1)
+    (subst (λ (p : Program). StandsIn c (happens s (Generation (Sender one.0 ∷ Cleaner two.0 ∷ p ∷ rspawn ∷ [])))) (sym three.1)
+    (subst (λ (p : Program). StandsIn c (happens s (Generation (Sender one.0 ∷ Cleaner two.0 ∷ LocalSpawner three.0 ∷ p ∷ [])))) (sym four.1)
     (subst (Stands c) (sym (seen_begun s one.0 two.0 three.0 four.0 c)) (begins c)))))
 
 -- The machine stops
@@ -202,7 +202,8 @@ stands_keep (Start a program) controls s I c S may = begins_stand c s S a progra
 stands_keep (Act a own wrote) controls s I c S may =
     subst (λ (o : Option Actor). StandsIn c (acted s a own wrote o)) (sym may.reads.is) (acts_by controls s I c S a own wrote may may.actor.program refl)
 stands_keep (Child parent own a program) controls s I c S may = children_stand controls s I parent own a program may c S
-stands_keep (Generation sender clean lspawn rspawn) controls s I c S may = generations_stand c s sender clean lspawn rspawn may
+stands_keep (Generation (sender ∷ clean ∷ lspawn ∷ rspawn ∷ [])) controls s I c S may = generations_stand c s sender clean lspawn rspawn may
+stands_keep (Generation crew) controls s I c S may = absurd (are_four crew may.kinds)
 stands_keep (Report slot output) controls s I c S may = report_stands c s S slot output
 stands_keep (End a read ready status) controls s I c S may = ends_stand controls s I c S a may.actor may.reads.is (Over status) refl
 stands_keep (Stop a) controls s I c S may = ends_stand controls s I c S a may.actor may.is Stopped refl

@@ -1,5 +1,5 @@
 -- An injector starts, and a generation.
-use Rattle.std.specs.Prelude.{Contains}
+use Rattle.std.specs.Prelude.{Contains, ◌∷◌, []}
 use Rattle.std.proofs.Common.{◌≡◌, inl, ℕ, List, Bool, true, false, Option, Some, None, refl, sym, ap, ◌∙◌, subst, ⊎_elim, codes, if◌then◌else◌}
 use Rattle.address_rules.specs.declared.controls.Controls.{Controls}
 use Rattle.call_fs.specs.Maps.{put_at}
@@ -16,7 +16,7 @@ use Rattle.world_events.specs.declared.event.Program.TheVariants.{Injector, Clea
 use Rattle.mail_world.specs.History.{Actor, Life, State, newborn, happens, MayRun, IsSender, IsCleaner, IsLocalSpawner, IsRemoteSpawner}
 use Rattle.mail_world.specs.History.Event.{Start, Generation}
 use Rattle.mail_world.specs.Untouched.{queue}
-use Rattle.mail_world.proofs.Members.{contained_member, four_new, four_other, member_cases, member_contained, whether, with_four}
+use Rattle.mail_world.proofs.Members.{are_four, contained_member, four_new, four_other, member_cases, member_contained, whether, with_four}
 use Rattle.world_law.specs.Crew.{IsNamed}
 use Rattle.world_law.specs.Fares.{FaresBy}
 use Rattle.world_law.specs.Inv.{ChildBy, Inv, IsChild, IsTenantOf}
@@ -79,7 +79,7 @@ module _ (controls : Controls) (s : State) (I : Inv controls s) (first second th
       absurd (cc)
 
   abbrev then_state : State
-  then_state = happens s (Generation (Sender first) (Cleaner second) (LocalSpawner third) (RemoteSpawner last))
+  then_state = happens s (Generation (Sender first ∷ Cleaner second ∷ LocalSpawner third ∷ RemoteSpawner last ∷ []))
 
   -- who is no member is as before
   same_other : (o : List ℕ) → (Contains members o → ⊥) → four o ≡ s.actors o
@@ -116,7 +116,7 @@ module _ (controls : Controls) (s : State) (I : Inv controls s) (first second th
   fed_then o program past life h =
       child_kept_of s then_state still_there I.tenants o (λ d t is. inl (not_freed (is_member o) (s.pipework.programs o d) t is)) program past life h
 
-  generation_keeps : Inv controls (happens s (Generation (Sender first) (Cleaner second) (LocalSpawner third) (RemoteSpawner last)))
+  generation_keeps : Inv controls (happens s (Generation (Sender first ∷ Cleaner second ∷ LocalSpawner third ∷ RemoteSpawner last ∷ [])))
   unfolding put_at
   generation_keeps = record {
     role = I.role;
@@ -162,13 +162,14 @@ is_remote (RemoteSpawner start) is = (start, refl)
 is_remote other is = absurd is
 
 pub generations_keep : GenerationsKeep
-generations_keep sender clean lspawn rspawn controls s I may =
+generations_keep (sender ∷ clean ∷ lspawn ∷ rspawn ∷ []) controls s I may =
     let one = is_sender sender may.kinds.0 in
-    let two = is_cleaner clean may.kinds.1 in
-    let three = is_local lspawn may.kinds.2 in
-    let four = is_remote rspawn may.kinds.3 in
-    subst (λ (p : Program). Inv controls (happens s (Generation p clean lspawn rspawn))) (sym one.1)
-    (subst (λ (p : Program). Inv controls (happens s (Generation (Sender one.0) p lspawn rspawn))) (sym two.1)
-    (subst (λ (p : Program). Inv controls (happens s (Generation (Sender one.0) (Cleaner two.0) p rspawn))) (sym three.1)
-    (subst (λ (p : Program). Inv controls (happens s (Generation (Sender one.0) (Cleaner two.0) (LocalSpawner three.0) p))) (sym four.1)
+    let two = is_cleaner clean may.kinds.1.0 in
+    let three = is_local lspawn may.kinds.1.1.0 in
+    let four = is_remote rspawn may.kinds.1.1.1.0 in
+    subst (λ (p : Program). Inv controls (happens s (Generation (p ∷ clean ∷ lspawn ∷ rspawn ∷ [])))) (sym one.1)
+    (subst (λ (p : Program). Inv controls (happens s (Generation (Sender one.0 ∷ p ∷ lspawn ∷ rspawn ∷ [])))) (sym two.1)
+    (subst (λ (p : Program). Inv controls (happens s (Generation (Sender one.0 ∷ Cleaner two.0 ∷ p ∷ rspawn ∷ [])))) (sym three.1)
+    (subst (λ (p : Program). Inv controls (happens s (Generation (Sender one.0 ∷ Cleaner two.0 ∷ LocalSpawner three.0 ∷ p ∷ [])))) (sym four.1)
     (generation_keeps controls s I one.0 two.0 three.0 four.0))))
+generations_keep crew controls s I may = absurd (are_four crew may.kinds)

@@ -77,9 +77,8 @@ pub record Safe (controls : Controls) (d : Disk) (h : List Event) : Type 0 where
   -- double bounce were dropped.
   pub accounted : (q : Injection) → IsInjected (after d h).books q → q.accepted ≡ true → (r : Recipient q.args) → IsAccounted controls d h q r
 
--- A request that a sender gives, also in part, is of the record that comes next of those to be given, by the sender's past; that record reads `T`
--- in its channel file; the text is that of the record, with the sender of the injection whose life lasts, for the lowest slot in which nothing is in
--- flight; and no other attempt at that record is in flight.
+-- A request that a sender gives, also in part, is of the record next to be given by its past, which reads `T` in its channel file; it has that record,
+-- the sender of the injection whose life lasts, and the lowest slot in which nothing is in flight; no other attempt at the record is in flight.
 pub record IsAttempt (s : State) (past : List Own) (ch : Channel) (text : List ℕ) : Type 0 where
   pub attempt : Attempt
   pub rest : List Task

@@ -24,10 +24,6 @@ InvBegins = (controls : Controls) (d : Disk) → AreControls controls d → Open
 abbrev pub AreAccounted : Controls → State → Type 0
 AreAccounted controls s = (q : Injection) → IsInjected s.books q → q.accepted ≡ true → (r : Recipient q.args) → Accounted controls s.disk s.books q r
 
--- after a legal history it says that the state is safe
-abbrev pub InvIsSafe : Type 0
-InvIsSafe = (controls : Controls) (d : Disk) (before : List Event) → Legal d before → Inv controls (after d before) → SafeState (after d before) × AreAccounted controls (after d before)
-
 -- an event that may happen keeps it
 abbrev pub IsKeptBy : Event → Type 0
 IsKeptBy e = (controls : Controls) (s : State) → Inv controls s → Allowed s e → Inv controls (happens s e)
@@ -49,7 +45,7 @@ abbrev pub StartsKeep : Type 0
 StartsKeep = (a : List ℕ) (program : Program) → IsKeptBy (Start a program)
 
 abbrev pub GenerationsKeep : Type 0
-GenerationsKeep = (sender clean lspawn rspawn : Program) → IsKeptBy (Generation sender clean lspawn rspawn)
+GenerationsKeep = (crew : List Program) → IsKeptBy (Generation crew)
 
 -- a machine stop, whatever survives
 abbrev pub HaltsKeep : Type 0
@@ -92,3 +88,7 @@ ChildrenKeep = (parent : List ℕ) (own : Own) (a : List ℕ) (program : Program
 -- So it holds after each legal history.
 abbrev pub Always : Type 0
 Always = (controls : Controls) (d : Disk) (before : List Event) → AreControls controls d → Legal d before → Inv controls (after d before)
+
+-- Then each state that a legal history leads to is safe.
+abbrev pub HistoriesAreSafe : Type 0
+HistoriesAreSafe = (controls : Controls) (d : Disk) (before : List Event) → AreControls controls d → Legal d before → SafeState (after d before) × AreAccounted controls (after d before)

@@ -30,8 +30,7 @@ abbrev pub AreLost : Disk → List Event → Injection → (Spot → Bool) → T
 AreLost d h i such = (s : Spot) → such s ≡ true → WasTaken d h false i s × (WasTaken d h true i s → ⊥)
 
 -- The bounce file is there, and names as many of this name as there are to tell, as it is and as it was at its last sync: of any recipients of the
--- message that failed for good, weren't delivered to, and whose record doesn't read `T`. If two recipients `b@y` failed, and both records read `D`,
--- it names `b@y` twice or more.
+-- message that failed for good, weren't delivered to, and whose record doesn't read `T`. So for two such recipients `b@y` it has the name twice.
 pub record IsTold (controls : Controls) (d : Disk) (h : List Event) (i : Injection) (name : List ℕ) : Type 0 where
   pub file : ℕ
   pub there : (after d h).disk.names (path (Of Bounce i.number)) ≡ Some file

@@ -17,7 +17,7 @@ use Rattle.mail_world.specs.History.Event.{Act, Child, Generation}
 -- with this event no request for the slot is given to the local spawner, and no generation starts
 abbrev pub Stays : ℕ → Event → Type 0
 Stays slot (Act a own wrote) = given_by own.due own.came Local ≢ Gives slot
-Stays slot (Generation sender clean lspawn rspawn) = ⊥
+Stays slot (Generation crew) = ⊥
 Stays slot event = Unit {0}
 
 -- so it is with each of these

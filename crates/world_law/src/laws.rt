@@ -5,7 +5,7 @@ ghost use Rattle.world_law.specs.Carried.{DeliveredAreCarried, DeliveriesAreApar
 ghost use Rattle.world_law.specs.Deliveries.{DropsAreWhole, ForwardsAreAddressed};
 ghost use Rattle.world_law.specs.Headline.{AttemptsAreSound, Headline, SafeWithoutGenerations, WorldsAreSafe};
 ghost use Rattle.world_law.specs.Leaves.{EventsLeave};
-ghost use Rattle.world_law.specs.Laws.{Always, ChildrenKeep, CleanersKeep, DeliveriesKeep, EndsKeep, GenerationsKeep, HaltsKeep, InjectorsKeep, InvBegins, InvIsSafe, LocalsKeep, MomentsKeep, RemotesKeep, ReportsKeep, SendersKeep, StartsKeep, StopsKeep};
+ghost use Rattle.world_law.specs.Laws.{Always, ChildrenKeep, CleanersKeep, DeliveriesKeep, EndsKeep, GenerationsKeep, HaltsKeep, HistoriesAreSafe, InjectorsKeep, InvBegins, LocalsKeep, MomentsKeep, RemotesKeep, ReportsKeep, SendersKeep, StartsKeep, StopsKeep};
 ghost use Rattle.world_law.specs.PidNames.{PidsAreOld};
 ghost use Rattle.world_law.specs.Reported.{LedgersAreOfReports, TakenAreEntered, WereTaken};
 ghost use Rattle.world_law.specs.Spawned.{RequestsStand};
@@ -15,11 +15,6 @@ ghost use Rattle.world_law.specs.UnderWay.{CommandsRest};
 /// What holds of the whole system holds at the start.
 pub fn inv_begins()
     ensures { InvBegins }
-{}
-
-/// After a legal history it says that the state is safe.
-pub fn inv_is_safe()
-    ensures { InvIsSafe }
 {}
 
 /// Each moment that comes keeps it.
@@ -88,6 +83,11 @@ pub fn children_keep()
 /// What holds of the whole system holds after each legal history.
 pub fn always()
     ensures { Always }
+{}
+
+/// Then each state that it leads to is safe, and each recipient is accounted for by the ledgers.
+pub fn histories_are_safe()
+    ensures { HistoriesAreSafe }
 {}
 
 /// The promise of the queue holds after each prefix of a legal history, however the calls interleave and wherever a program or the

@@ -7,10 +7,10 @@
 //! - What holds of the whole system (`Inv`): what holds of the queue; each member of a generation has the name of
 //!   its program; what each actor relies on by its program (`FaresBy`). The control files were there at the
 //!   beginning and say what the controls say; and of what the sender asks of its cleaner at most one command is
-//!   under way, whose number rests (`ErrandRests`). It holds of each opening disk, and says of a state that it is
-//!   safe (`SafeState`): each number is in S1 to S5, and message files are as entered. And each recipient of each
+//!   under way, whose number rests (`ErrandRests`). It holds of each opening disk. By it each state that a legal
+//!   history leads to is safe (`SafeState`): each number is in S1 to S5, and message files are as entered. And each recipient of each
 //!   accepted injection is accounted for by the ledgers (`Accounted` of queue_law). The laws: `inv_begins`,
-//!   `inv_is_safe`.
+//!   `histories_are_safe`.
 //! - What the promise says of recipients is told by what happened, and reads no ledger (`IsAccounted` in
 //!   `specs/Ledger.antt`). It is told by the reports that senders took in the life of the message
 //!   (`specs/Lives.antt`, `specs/Reported.antt`), by what its bounce file held, and by the unlink of that.
@@ -45,7 +45,7 @@
 //!   `Promise.carried` and `Carried` in `specs/Carried.antt`.
 //! - A local delivery that ended with 0 has carried out its instructions, and the injection of its forwards, if it
 //!   has any, was accepted. Its message and its envelope are just the two texts that the delivery gave. The laws:
-//!   `inv_is_safe` and `headline`, by `EndsWell` and `IsCarriedOut`.
+//!   `histories_are_safe` and `headline`, by `EndsWell` and `IsCarriedOut`.
 //! - That injection is from whom the delivery forwards, the sender of the message or the owner of the address, to
 //!   just the addresses of the lines that were reached, in their order. Its message is the one that was taken, with
 //!   its Delivered-To line. The law: `forwards_are_addressed`, by `IsForwardOf`.
@@ -132,7 +132,7 @@ pub use laws::{
     cleaners_keep, commands_rest, delivered_are_carried, delivered_were_taken,
     deliveries_are_apart, deliveries_keep, drops_are_whole, events_leave, failed_were_taken,
     flights_stand, forwards_are_addressed, halts_keep, hands_always_stand, headline,
-    injections_are_apart, injections_are_in_time, injectors_keep, inv_begins, inv_is_safe,
+    histories_are_safe, injections_are_apart, injections_are_in_time, injectors_keep, inv_begins,
     k_reports_are_carried, ledgers_are_of_reports, links_are_of_whole_files, locals_keep,
     moments_keep, pids_are_old, records_are_routed, remotes_keep, reports_keep,
     requests_are_of_flights, requests_stand, returned_recipients_are_named,

@@ -49,7 +49,7 @@ by_about q r same = record { taken_up = λ n t. subst IsTakenUp (sym (same n)) t
 
 -- An unlink of the cleaner
 
-later_far : (part : Part) (n m : ℕ) → is_later part ≡ true → (Of part n ≢ Of Intd m) × (Of part n ≢ Of Mess m) × (Of part n ≢ Of Todo m)
+pub later_far : (part : Part) (n m : ℕ) → is_later part ≡ true → (Of part n ≢ Of Intd m) × (Of part n ≢ Of Mess m) × (Of part n ≢ Of Todo m)
 later_far Info n m e = (λ f. absurd (cc), λ f. absurd (cc), λ f. absurd (cc))
 later_far Local n m e = (λ f. absurd (cc), λ f. absurd (cc), λ f. absurd (cc))
 later_far Remote n m e = (λ f. absurd (cc), λ f. absurd (cc), λ f. absurd (cc))
@@ -58,7 +58,7 @@ later_far Mess n m e = absurd (cc)
 later_far Intd n m e = absurd (cc)
 later_far Todo n m e = absurd (cc)
 
-second_far : (part : Part) (n : ℕ) (command : Command) → is_later part ≡ true → Of part n ≢ second_name command
+pub second_far : (part : Part) (n : ℕ) (command : Command) → is_later part ≡ true → Of part n ≢ second_name command
 second_far part n (Foop m) e = (later_far part n m e).1
 second_far part n (TodoCommand m) e = (later_far part n m e).2
 

@@ -1,9 +1,10 @@
 // Children of a script: what their channels bring, and how they end.
 
-use super::scripted::{Closed, Script, Scripted, unordered};
+use super::orders::are_kept;
+use super::scripted::{Closed, Script, Scripted, ScriptedOutput, Turns, unordered};
 use super::yard::{Came, Yard, gather};
 use outside::{Gate, Gave, Post, Posts, Spawner, Started, Status};
-use proc_runner::{ChildPosts, MOST_PRINTED, OwnReading, read_own_input, share};
+use proc_runner::{ChildPosts, MOST_PRINTED, Opener, OwnReading, read_own_input, share};
 use resting_gates::{RestingGate, drain_limit, idle_limit};
 use std::alloc::{AllocError, Global};
 use std::sync::{Arc, Wait};
@@ -12,12 +13,50 @@ use std::thread::{self, Threads};
 
 /// Four scripts, how many bytes come of each, whether its channel fails, its status, and how many are cut off.
 #[derive(Clone, Copy)]
-struct Row {
+pub struct Row {
     scripts: [Script; 4],
     bytes: [usize; 4],
     fails: [bool; 4],
     statuses: [Status; 4],
     cuts: u64,
+}
+
+/// What is done with children of a script.
+#[derive(Clone, Copy)]
+pub enum Deed<'a> {
+    /// Four children bring what a row says.
+    Channels(&'a Row),
+    /// One is cut, and one isn't.
+    Cut(&'a Closed),
+    /// Three are read in each of these orders.
+    Orders(&'a Turns, &'a [u8]),
+}
+
+/// Whether that goes as it is to go, in a yard.
+fn goes<R: Wait + Drop>(yard: &mut Yard<R, Scripted>, alloc: Global, deed: Deed<'_>) -> bool {
+    match deed {
+        Deed::Channels(row) => starts(yard, alloc) && brings(yard, row),
+        Deed::Cut(closed) => ends_what_is_cut(yard, alloc, closed),
+        Deed::Orders(turns, all) => are_kept(yard, alloc, turns, all),
+    }
+}
+
+/// The same, with children of this system, for whose pieces there is so much room.
+pub fn is_done<R: Threads + Wait + Copy + Send + Sync + Drop + 'static>(
+    rt: R,
+    alloc: Global,
+    room: usize,
+    system: Scripted,
+    deed: Deed<'_>,
+) -> bool {
+    match Yard::new(rt, alloc, room, system, 86_400_000) {
+        Ok(mut yard) => {
+            let is_so = goes(&mut yard, alloc, deed);
+            drop(yard);
+            is_so
+        }
+        Err(_) => false,
+    }
 }
 
 /// Starts four children, each of which is fed 1000 bytes; a fifth can't be started. Answers whether that is so.
@@ -66,14 +105,7 @@ fn holds<R: Threads + Wait + Copy + Send + Sync + Drop + 'static>(
     let Ok(system) = unordered(alloc, row.scripts) else {
         return false;
     };
-    match Yard::new(rt, alloc, room, system, 60_000) {
-        Ok(mut yard) => {
-            let right = starts(&mut yard, alloc) && brings(&mut yard, row);
-            drop(yard);
-            right
-        }
-        Err(_) => false,
-    }
+    is_done(rt, alloc, room, system, Deed::Channels(row))
 }
 
 const QUIET: Script = Script {
@@ -187,23 +219,19 @@ fn fails_at_last<R: Wait + Drop>(yard: &mut Yard<R, Scripted>, chan: u32) -> boo
 
 /// Whether a child that doesn't take all that it is fed is ended, and its input closed as one that isn't whole; and one that does is
 /// told that its input is.
-fn ends_what_is_cut<R: Threads + Wait + Copy + Send + Sync + Drop + 'static>(
-    rt: R,
+fn ends_what_is_cut<R: Wait + Drop>(
+    yard: &mut Yard<R, Scripted>,
     alloc: Global,
-) -> Result<bool, AllocError> {
-    let system = unordered(alloc, [STUCK, QUIET, QUIET, QUIET])?;
-    let closed = Arc::try_clone(&system.closed)?;
-    let mut yard = Yard::new(rt, alloc, 4, system, 86_400_000)?;
+    closed: &Closed,
+) -> bool {
     let cut = yard.start(alloc, &[b"0"]);
-    let fails = fails_at_last(&mut yard, cut);
+    let fails = fails_at_last(yard, cut);
     let is_ended = yard.collect() && yard.children.status(cut) == Status::Crashed;
     let whole = yard.start(alloc, &[b"1"]);
     let is_fed = yard.children.feed(whole, b"abc") == Gave::Done;
     yard.children.finish(whole);
     let is_well = yard.collect() && yard.children.status(whole) == Status::Ended(0);
-    let right = fails && is_ended && is_fed && is_well && are_closed(&closed, (1, 1));
-    drop(yard);
-    Ok(right)
+    fails && is_ended && is_fed && is_well && are_closed(closed, (1, 1))
 }
 
 /// Whether so many inputs were closed soon, as whole ones and as others.
@@ -217,9 +245,31 @@ fn are_closed(closed: &Closed, counts: (u64, u64)) -> bool {
     false
 }
 
+/// Whether that is so of children of this system.
+fn cuts<R: Threads + Wait + Copy + Send + Sync + Drop + 'static>(
+    rt: R,
+    alloc: Global,
+    system: Scripted,
+) -> bool {
+    match Arc::try_clone(&system.closed) {
+        Ok(closed) => {
+            let is_so = is_done(rt, alloc, 4, system, Deed::Cut(closed.as_ref()));
+            drop(closed);
+            is_so
+        }
+        Err(_) => {
+            drop(system);
+            false
+        }
+    }
+}
+
 #[test]
 fn a_cut_input_ends_its_child(rt: HostRuntime) {
-    assert!(rt; ends_what_is_cut(rt, rt.alloc()) == Ok(true));
+    match unordered(rt.alloc(), [STUCK, QUIET, QUIET, QUIET]) {
+        Ok(system) => assert!(rt; cuts(rt, rt.alloc(), system)),
+        Err(_) => assert!(rt; false),
+    }
 }
 
 /// What comes of the program's own input, where the script is that of the first output: how many bytes, and whether it ended.
@@ -229,21 +279,75 @@ fn own_input<R: Threads + Wait + Copy + Send + Sync + Drop + 'static>(
     script: Script,
 ) -> Result<(usize, bool), AllocError> {
     let (mut opener, taker) = share(alloc, 2)?;
-    let gate = RestingGate::new(rt, opener.queue()?);
     let mut posts = ChildPosts::new(rt, taker);
-    let Some(reader) = opener.open()? else {
-        return Err(AllocError);
-    };
-    let output = unordered(alloc, [script; 4])?.output(0)?;
-    let reading = read_own_input(rt, alloc, reader, output)?;
-    let told = take_own(&mut posts, &gate);
+    let told = own_input_by(rt, alloc, script, &mut opener, &mut posts);
+    drop(posts);
+    drop(opener);
+    told
+}
+
+/// The same, where this opens channels whose pieces these posts take.
+fn own_input_by<R: Threads + Wait + Copy + Send + Sync + Drop + 'static>(
+    rt: R,
+    alloc: Global,
+    script: Script,
+    opener: &mut Opener,
+    posts: &mut ChildPosts<R>,
+) -> Result<(usize, bool), AllocError> {
+    let gate = RestingGate::new(rt, opener.queue()?);
+    let told = own_input_at(rt, alloc, script, opener, posts, &gate);
+    drop(gate);
+    told
+}
+
+/// The same, with this gate.
+fn own_input_at<R: Threads + Wait + Copy + Send + Sync + Drop + 'static>(
+    rt: R,
+    alloc: Global,
+    script: Script,
+    opener: &mut Opener,
+    posts: &mut ChildPosts<R>,
+    gate: &RestingGate<R>,
+) -> Result<(usize, bool), AllocError> {
+    let reading = reading_of(rt, alloc, script, opener)?;
+    let told = take_own(posts, gate);
     match reading {
         OwnReading::Begun(thread) => {
             let _ = thread.join(&rt);
             Ok(told)
         }
-        OwnReading::Failed(_) => Err(AllocError),
+        OwnReading::Failed(through) => {
+            drop(through);
+            Err(AllocError)
+        }
     }
+}
+
+/// Reads what a script prints as the next channel.
+fn reading_of<R: Threads + Wait + Copy + Send + Sync + Drop + 'static>(
+    rt: R,
+    alloc: Global,
+    script: Script,
+    opener: &mut Opener,
+) -> Result<OwnReading, AllocError> {
+    match opener.open()? {
+        Some(reader) => match output_of(alloc, script) {
+            Ok(output) => read_own_input(rt, alloc, reader, output),
+            Err(why) => {
+                drop(reader);
+                Err(why)
+            }
+        },
+        None => Err(AllocError),
+    }
+}
+
+/// What a script prints.
+fn output_of(alloc: Global, script: Script) -> Result<ScriptedOutput, AllocError> {
+    let system = unordered(alloc, [script; 4])?;
+    let output = system.output(0);
+    drop(system);
+    output
 }
 
 /// Takes the posts of channel 0: how many bytes came, and whether it ended.

@@ -1,6 +1,7 @@
 // Each order of the pieces and the ends of three channels.
 
-use super::scripted::{Closed, Script, Scripted, Turns};
+use super::channels::{Deed, is_done};
+use super::scripted::{Script, Scripted, Turns, with_turns};
 use super::yard::{POST, Yard};
 use outside::{Post, Posts, Spawner, Status};
 use std::alloc::{AllocError, Global};
@@ -130,6 +131,11 @@ fn keeps<R: Wait + Drop>(
     right
 }
 
+/// A system of the scripts, which are read in all orders, one after the other.
+fn ordered(alloc: Global) -> Result<Scripted, AllocError> {
+    with_turns(alloc, SCRIPTS, all_orders(alloc)?)
+}
+
 /// How many orders are kept.
 fn all_kept<R: Wait + Drop>(
     yard: &mut Yard<R, Scripted>,
@@ -147,26 +153,42 @@ fn all_kept<R: Wait + Drop>(
     kept
 }
 
-/// How many orders are kept, and how many failures were counted.
+/// Whether each of these orders is kept, and a failure counted in each.
+pub fn are_kept<R: Wait + Drop>(
+    yard: &mut Yard<R, Scripted>,
+    alloc: Global,
+    turns: &Turns,
+    all: &[u8],
+) -> bool {
+    all_kept(yard, alloc, turns, all) == ORDERS && yard.posts.faults() == ORDERS
+}
+
+/// Whether all orders are, of children of this system.
 fn tried<R: Threads + Wait + Copy + Send + Sync + Drop + 'static>(
     rt: R,
     alloc: Global,
-) -> Result<(u64, u64), AllocError> {
-    let all = all_orders(alloc)?;
-    let turns = Arc::new(alloc, Turns::new(all_orders(alloc)?))?;
-    let system = Scripted {
-        scripts: SCRIPTS,
-        turns: Arc::try_clone(&turns)?,
-        closed: Arc::new(alloc, Closed::new())?,
-    };
-    let mut yard = Yard::new(rt, alloc, 4, system, 60_000)?;
-    let kept = all_kept(&mut yard, alloc, &turns, all.as_slice());
-    let failures = yard.posts.faults();
-    drop(yard);
-    Ok((kept, failures))
+    system: Scripted,
+    all: &[u8],
+) -> bool {
+    match Arc::try_clone(&system.turns) {
+        Ok(turns) => {
+            let is_so = is_done(rt, alloc, 4, system, Deed::Orders(turns.as_ref(), all));
+            drop(turns);
+            is_so
+        }
+        Err(_) => {
+            drop(system);
+            false
+        }
+    }
 }
 
 #[test]
 fn each_order_of_three_channels(rt: HostRuntime) {
-    assert!(rt; tried(rt, rt.alloc()) == Ok((ORDERS, ORDERS)));
+    let alloc = rt.alloc();
+    let right = match (all_orders(alloc), ordered(alloc)) {
+        (Ok(all), Ok(system)) => tried(rt, alloc, system, all.as_slice()),
+        _ => false,
+    };
+    assert!(rt; right);
 }

@@ -87,6 +87,22 @@ fn wrong<R: Wait + Drop, S: System>(
     }
 }
 
+/// The same, with the text that is fed.
+fn wrong_in<R: Wait + Drop, S: System>(
+    yard: &mut Yard<R, S>,
+    alloc: Global,
+    part: Part,
+) -> &'static str {
+    match text(alloc) {
+        Ok(text) => {
+            let told = wrong(yard, alloc, part, text.as_slice());
+            drop(text);
+            told
+        }
+        Err(_) => "no memory",
+    }
+}
+
 /// The same over the system, where a child may run for so long after its input ended, in milliseconds, and files lie in the directory in
 /// which it runs.
 fn wrong_over<R: Threads + Wait + Processes + Clock + Copy + Send + Sync + Drop + 'static>(
@@ -95,42 +111,49 @@ fn wrong_over<R: Threads + Wait + Processes + Clock + Copy + Send + Sync + Drop 
     alloc: Global,
     drain: u64,
     part: Part,
-) -> Result<&'static str, AllocError>
+) -> &'static str
 where
     R::Started: Drop + Send + 'static,
     <R::Started as OpenProcess>::Stdin: Send + 'static,
     <R::Started as OpenProcess>::Stdout: Send + 'static,
     <R::Started as OpenProcess>::Stderr: Send + 'static,
 {
-    let text = text(alloc)?;
-    let system = HostSystem::new(rt, files, 0, String::from_str(alloc, ".")?);
-    let mut yard = Yard::new(rt, alloc, 64, system, drain)?;
-    let told = wrong(&mut yard, alloc, part, text.as_slice());
-    drop(yard);
-    Ok(told)
+    match String::from_str(alloc, ".") {
+        Ok(dir) => {
+            match Yard::new(rt, alloc, 64, HostSystem::new(rt, files, 0, dir), drain) {
+                Ok(mut yard) => {
+                    let told = wrong_in(&mut yard, alloc, part);
+                    drop(yard);
+                    told
+                }
+                Err(_) => "no memory",
+            }
+        }
+        Err(_) => "no memory",
+    }
 }
 
 #[test]
 fn one_after_the_other(rt: HostRuntime) {
-    assert!(rt; wrong_over(rt, &rt, rt.alloc(), 60_000, Part::Few) == Ok(""));
+    assert!(rt; wrong_over(rt, &rt, rt.alloc(), 60_000, Part::Few) == "");
 }
 
 #[test]
 fn many_at_once(rt: HostRuntime) {
-    assert!(rt; wrong_over(rt, &rt, rt.alloc(), 60_000, Part::Many) == Ok(""));
+    assert!(rt; wrong_over(rt, &rt, rt.alloc(), 60_000, Part::Many) == "");
 }
 
 #[test]
 fn much_that_comes_back(rt: HostRuntime) {
-    assert!(rt; wrong_over(rt, &rt, rt.alloc(), 60_000, Part::Back) == Ok(""));
+    assert!(rt; wrong_over(rt, &rt, rt.alloc(), 60_000, Part::Back) == "");
 }
 
 #[test]
 fn much_that_is_counted(rt: HostRuntime) {
-    assert!(rt; wrong_over(rt, &rt, rt.alloc(), 60_000, Part::Counted) == Ok(""));
+    assert!(rt; wrong_over(rt, &rt, rt.alloc(), 60_000, Part::Counted) == "");
 }
 
 #[test]
 fn ended_by_the_limit(rt: HostRuntime) {
-    assert!(rt; wrong_over(rt, &rt, rt.alloc(), 1000, Part::Sleepers) == Ok(""));
+    assert!(rt; wrong_over(rt, &rt, rt.alloc(), 1000, Part::Sleepers) == "");
 }

@@ -71,15 +71,29 @@ pub struct Scripted {
     pub closed: Arc<Closed, Global>,
 }
 
+/// A system of these scripts, with these turns of those that are in order.
+pub fn with_turns(
+    alloc: Global,
+    scripts: [Script; 4],
+    order: Vec<u8>,
+) -> Result<Scripted, AllocError> {
+    let turns = Arc::new(alloc, Turns::new(order))?;
+    match Arc::new(alloc, Closed::new()) {
+        Ok(closed) => Ok(Scripted {
+            scripts,
+            turns,
+            closed,
+        }),
+        Err(why) => {
+            drop(turns);
+            Err(why.into())
+        }
+    }
+}
+
 /// A system of these scripts, of which none is in order.
 pub fn unordered(alloc: Global, scripts: [Script; 4]) -> Result<Scripted, AllocError> {
-    let turns = Arc::new(alloc, Turns::new(Vec::new(alloc)))?;
-    let closed = Arc::new(alloc, Closed::new())?;
-    Ok(Scripted {
-        scripts,
-        turns,
-        closed,
-    })
+    with_turns(alloc, scripts, Vec::new(alloc))
 }
 
 /// A process of a script.
@@ -149,6 +163,42 @@ impl Scripted {
             turns,
             from,
         })
+    }
+}
+
+impl Scripted {
+    /// What a program of the script at this place takes.
+    fn input(&self, place: u8) -> Result<ScriptedInput, AllocError>
+        requires { place < 4 }
+    {
+        Ok(ScriptedInput {
+            left: self.scripts[place as usize].takes,
+            closed: Arc::try_clone(&self.closed)?,
+        })
+    }
+
+    /// A process of the script at this place, and what it prints.
+    fn started(
+        &self,
+        alloc: Global,
+        place: u8,
+    ) -> Result<(Arc<ScriptedProcess, Global>, ScriptedOutput), AllocError>
+        requires { place < 4 }
+    {
+        let process = ScriptedProcess {
+            script: self.scripts[place as usize],
+            asked: AtomicU64::new(0),
+            killed: AtomicU64::new(0),
+            condemned: AtomicU64::new(0),
+        };
+        let process = Arc::new(alloc, process)?;
+        match self.output(place) {
+            Ok(output) => Ok((process, output)),
+            Err(why) => {
+                drop(process);
+                Err(why)
+            }
+        }
     }
 }
 
@@ -266,22 +316,19 @@ impl System for Scripted {
         let Some(place) = place(start.words) else {
             return Err(io::Error::from(ErrorKind::NotFound));
         };
-        let output = self.output(place)?;
-        let process = ScriptedProcess {
-            script: self.scripts[place as usize],
-            asked: AtomicU64::new(0),
-            killed: AtomicU64::new(0),
-            condemned: AtomicU64::new(0),
-        };
-        Ok(Born {
-            process: Arc::new(alloc, process)?,
-            number: 1,
-            input: ScriptedInput {
-                left: self.scripts[place as usize].takes,
-                closed: Arc::try_clone(&self.closed)?,
-            },
-            output,
-        })
+        let input = self.input(place)?;
+        match self.started(alloc, place) {
+            Ok((process, output)) => Ok(Born {
+                process,
+                number: 1,
+                input,
+                output,
+            }),
+            Err(why) => {
+                drop(input);
+                Err(why.into())
+            }
+        }
     }
 }
 

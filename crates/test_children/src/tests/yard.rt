@@ -2,7 +2,7 @@
 ghost use Rattle.outside.specs.Children.{FillsFront};
 
 use outside::{Gate, Post, Posts, Spawner, Started};
-use proc_runner::{ChildPosts, Children, System, share};
+use proc_runner::{ChildPosts, Children, Opener, Shared, System, Taker, share};
 use resting_gates::RestingGate;
 use std::alloc::{AllocError, Global};
 use std::sync::Wait;
@@ -37,17 +37,47 @@ where
         system: S,
         drain: u64,
     ) -> Result<Self, AllocError> {
-        let (mut opener, taker) = share(alloc, room)?;
-        let _own = opener.open()?;
-        let gate = RestingGate::new(rt, opener.queue()?);
-        let children = Children::new(rt, alloc, system, opener, drain)?;
-        Ok(Yard {
-            posts: ChildPosts::new(rt, taker),
-            gate,
-            children,
-            bytes: Vec::new(alloc),
-        })
+        match opened(alloc, room) {
+            Ok((opener, queue, taker)) => {
+                match Children::new(rt, alloc, system, opener, drain) {
+                    Ok(children) => Ok(Yard {
+                        posts: ChildPosts::new(rt, taker),
+                        gate: RestingGate::new(rt, queue),
+                        children,
+                        bytes: Vec::new(alloc),
+                    }),
+                    Err(why) => {
+                        drop(queue);
+                        drop(taker);
+                        Err(why)
+                    }
+                }
+            }
+            Err(why) => {
+                drop(system);
+                Err(why)
+            }
+        }
     }
+}
+
+/// What opens the channels after the program's own, the queue into which all are read, and what takes from it.
+fn opened(alloc: Global, room: usize) -> Result<(Opener, Shared, Taker), AllocError> {
+    let (mut opener, taker) = share(alloc, room)?;
+    match queue_of(&mut opener) {
+        Ok(queue) => Ok((opener, queue, taker)),
+        Err(why) => {
+            drop(opener);
+            drop(taker);
+            Err(why)
+        }
+    }
+}
+
+/// The queue of an opener, whose first channel is opened, and read by nobody.
+fn queue_of(opener: &mut Opener) -> Result<Shared, AllocError> {
+    drop(opener.open()?);
+    opener.queue()
 }
 
 impl<R: Wait + Drop, S: System> Yard<R, S> {

@@ -319,11 +319,14 @@ fn is_right_by(
         paced.faults(),
         output.faults(),
     ];
-    (u64::from(status) == number(row, "status"))
+    let is_so = are_told(alloc, row, &clock, &paced, spawner);
+    drop(paced);
+    drop(clock);
+    is_so
+        & (u64::from(status) == number(row, "status"))
         & is_text(alloc, row, field(row, "given"), output.taken())
         & are_started(alloc, row, spawner.inner())
         & is_dropped(alloc, row, disk)
-        & are_told(alloc, row, &clock, &paced, spawner)
         & are_numbers(alloc, row, "counted", &counted)
         & are_numbers(alloc, row, "rests", &[gate.pauses(), gate.steps()])
 }

@@ -1,14 +1,14 @@
 // Rows over real files of what only the system itself can show: what it tells of a file, its clock, symbolic links, a FIFO,
 // reads of a file that is open for something else, a device that is full, the rights of a new file, and what a link leaves
 // open.
-use super::host_files::{is_dated, scratch, since_1970};
+use super::host_files::{below, is_dated, scratch, since_1970};
 use call_fs::{CallFs, Fd, FsError, How};
 use host_fs::{Facts, HostFs, Leaving, QueueFiles, System, start_helpers};
 use mail_bytes::NameBuf;
 use std::alloc::Global;
 use std::fs::{File, Metadata};
 use std::os::unix::fs::{MetadataExt, symlink};
-use std::process::Command;
+use std::process::{Command, Stdio};
 use std::sync::{Arc, Wait};
 use std::thread::Threads;
 use std::time::Duration;
@@ -151,10 +151,9 @@ fn is_told<S: System>(system: &S, rt: &HostRuntime, path: &str) -> bool {
 fn are_told<S: System>(system: &S, rt: &HostRuntime, root: &str) -> bool {
     let mut is_so = true;
     for name in ["todo/1", "todo", "todo/2", "todo/3"] {
-        let Ok(path) = format!(in rt.alloc(); "{root}/{name}") else {
-            return false;
-        };
+        let path = below(rt, root, name);
         is_so = is_made(rt, name, path.as_str()) && is_told(system, rt, path.as_str()) && is_so;
+        drop(path);
     }
     is_so
 }
@@ -192,16 +191,26 @@ const LISTED: [Next; 4] = [
 /// Whether `todo` lists its files, links to files, and what can't be looked at, alone.
 fn lists_files<S: System>(rt: &HostRuntime, root: &str, disk: &mut HostFs<S>) -> bool {
     let mut is_so = true;
-    for (name, to) in [("1", "../pid"), ("2", "nothing"), ("4", "3"), ("5", "5")] {
-        let Ok(path) = format!(in rt.alloc(); "{root}/todo/{name}") else {
-            return false;
-        };
-        is_so = symlink(rt, to, path.as_str()).is_ok() && is_so;
+    for (name, to) in [
+        ("todo/1", "../pid"),
+        ("todo/2", "nothing"),
+        ("todo/4", "3"),
+        ("todo/5", "5"),
+    ] {
+        is_so = is_linked(rt, root, name, to) && is_so;
     }
     is_so = disk.create_excl(rt.alloc(), 0, b"todo/3").is_ok() && is_so;
     for (after, wanted) in LISTED {
         is_so = is_next(disk, after, wanted) && is_so;
     }
+    is_so
+}
+
+/// Makes a link to this of this name; whether that can be done.
+fn is_linked(rt: &HostRuntime, root: &str, name: &str, to: &str) -> bool {
+    let path = below(rt, root, name);
+    let is_so = symlink(rt, to, path.as_str()).is_ok();
+    drop(path);
     is_so
 }
 
@@ -215,16 +224,37 @@ fn is_next<S: System>(disk: &mut HostFs<S>, after: &[u8], wanted: Option<&[u8]>)
     }
 }
 
-/// Makes a FIFO, a link to it, one to a device and one to itself.
-fn makes_specials(rt: &HostRuntime, root: &str) -> Option<bool> {
-    let fifo = format!(in rt.alloc(); "{root}/todo/1").ok()?;
-    let mut program = Command::new(rt.alloc(), "mkfifo").ok()?;
-    let mut is_so = program.arg(fifo.as_str()).ok()?.status(rt).ok()?.success();
-    for (name, to) in [("2", "1"), ("3", "/dev/zero"), ("4", "4")] {
-        let path = format!(in rt.alloc(); "{root}/todo/{name}").ok()?;
-        is_so = symlink(rt, to, path.as_str()).is_ok() && is_so;
+/// Makes a FIFO, a link to it, one to a device and one to itself; whether that can be done.
+fn makes_specials(rt: &HostRuntime, root: &str) -> bool {
+    let fifo = below(rt, root, "todo/1");
+    let mut is_so = makes_fifo(rt, fifo.as_str());
+    drop(fifo);
+    for (name, to) in [("todo/2", "1"), ("todo/3", "/dev/zero"), ("todo/4", "4")] {
+        is_so = is_linked(rt, root, name, to) && is_so;
     }
-    Some(is_so)
+    is_so
+}
+
+/// Makes a FIFO of this path; whether that can be done.
+fn makes_fifo(rt: &HostRuntime, path: &str) -> bool {
+    match Command::new(rt.alloc(), "mkfifo") {
+        Ok(mut program) => {
+            let is_so = program.arg(path).is_ok() && succeeds(rt, &mut program);
+            drop(program);
+            is_so
+        }
+        Err(_) => false,
+    }
+}
+
+/// Whether a command ends with 0. What it prints is lost.
+fn succeeds(rt: &HostRuntime, program: &mut Command) -> bool {
+    program.stdout(Stdio::null());
+    program.stderr(Stdio::null());
+    match program.status(rt) {
+        Ok(status) => status.success(),
+        Err(_) => false,
+    }
 }
 
 /// Whether each open of this name is a fault, and is counted.
@@ -240,7 +270,7 @@ fn is_fault<S: System>(alloc: Global, disk: &mut HostFs<S>, name: &[u8]) -> bool
 
 /// Whether each of these is a fault, however it is opened, at once, and a file beside them is opened and found.
 fn are_faults<S: System>(rt: &HostRuntime, root: &str, disk: &mut HostFs<S>) -> bool {
-    let mut is_so = makes_specials(rt, root) == Some(true);
+    let mut is_so = makes_specials(rt, root);
     for name in [b"todo/1", b"todo/2", b"todo/3", b"todo/4"] {
         is_so = is_fault(rt.alloc(), disk, name) && is_so;
     }
@@ -268,20 +298,21 @@ fn is_full<S: System>(system: &S) -> bool {
 
 /// Whether the only name of a file with bytes goes away, and the name of none and that of a directory are refused.
 fn are_unlinked<S: System>(system: &S, rt: &HostRuntime, root: &str) -> bool {
-    match (
-        format!(in rt.alloc(); "{root}/todo/1"),
-        format!(in rt.alloc(); "{root}/todo"),
-    ) {
-        (Ok(file), Ok(directory)) => {
-            let is_made = fs::write(rt, file.as_str(), "abc").is_ok();
-            let is_done = system.unlink(file.as_str()).is_ok();
-            let is_gone = fs::metadata(rt, file.as_str()).is_err();
-            let are_refused = system.unlink(file.as_str()).is_err()
-                && system.unlink(directory.as_str()).is_err();
-            is_made && is_done && is_gone && are_refused
-        }
-        _ => false,
-    }
+    let file = below(rt, root, "todo/1");
+    let directory = below(rt, root, "todo");
+    let is_so = is_unlinked(system, rt, file.as_str())
+        && system.unlink(directory.as_str()).is_err();
+    drop(file);
+    drop(directory);
+    is_so
+}
+
+/// Whether a file that is made at this path goes away, once.
+fn is_unlinked<S: System>(system: &S, rt: &HostRuntime, path: &str) -> bool {
+    let is_made = fs::write(rt, path, "abc").is_ok();
+    let is_done = system.unlink(path).is_ok();
+    let is_gone = fs::metadata(rt, path).is_err();
+    is_made && is_done && is_gone && system.unlink(path).is_err()
 }
 
 /// Whether a file that was just made, and one that is opened in each way, can be read.
@@ -356,33 +387,75 @@ fn rights_and_a_lack_of_descriptors(rt: HostRuntime) {
 /// Whether the test, started again by a shell, is content.
 fn holds_again(rt: &HostRuntime) -> bool {
     let root = scratch(rt, "edge");
-    let is_so = is_content(rt, root.as_str()) == Some(true);
+    let is_so = is_content(rt, root.as_str());
     fs::remove_dir_all(rt, root.as_str()).is_ok() && is_so
 }
 
-/// As `holds_again`, in this directory; None if the shell can't be started.
-fn is_content(rt: &HostRuntime, root: &str) -> Option<bool> {
+/// As `holds_again`, in this directory.
+fn is_content(rt: &HostRuntime, root: &str) -> bool {
+    match Command::new(rt.alloc(), "sh") {
+        Ok(mut shell) => {
+            let is_so = add_words(rt, &mut shell) == Some(true)
+                && shell.env(PLACE, root).is_ok()
+                && succeeds(rt, &mut shell);
+            drop(shell);
+            is_so
+        }
+        Err(_) => false,
+    }
+}
+
+/// Gives a shell the words by which it starts this test again; whether that can be done, if they can be told.
+fn add_words(rt: &HostRuntime, shell: &mut Command) -> Option<bool> {
     let loaded = env::current_exe(rt).ok()?;
-    let mut words = env::args(rt).ok()?;
-    let (program, name) = (words.next()?, words.next()?);
-    let mut shell = Command::new(rt.alloc(), "sh").ok()?;
-    let _ = shell.arg("-c").ok()?.arg(AGAIN).ok()?;
-    let _ = shell.arg(program.as_str()).ok()?.arg(loaded.as_str()).ok()?;
-    let _ = shell.arg(name.as_str()).ok()?.env(PLACE, root).ok()?;
-    Some(shell.output(rt).ok()?.status.success())
+    let is_so = match env::args(rt) {
+        Ok(mut words) => {
+            let is_so = add_words_of(shell, loaded.as_str(), words.next(), words.next());
+            drop(words);
+            is_so
+        }
+        Err(_) => false,
+    };
+    drop(loaded);
+    Some(is_so)
+}
+
+/// The same, with the words that this program and this test are started by.
+fn add_words_of(
+    shell: &mut Command,
+    loaded: &str,
+    program: Option<String>,
+    name: Option<String>,
+) -> bool {
+    match (program, name) {
+        (Some(program), Some(name)) => {
+            let mut is_so = true;
+            for word in ["-c", AGAIN, program.as_str(), loaded, name.as_str()] {
+                is_so = shell.arg(word).is_ok() && is_so;
+            }
+            drop(program);
+            drop(name);
+            is_so
+        }
+        (program, name) => {
+            drop(program);
+            drop(name);
+            false
+        }
+    }
 }
 
 /// Whether a new file has the rights 0644.
 fn has_rights<S: System>(rt: &HostRuntime, root: &str, disk: &mut HostFs<S>) -> bool {
     let alloc = rt.alloc();
     let is_made = disk.create_excl(alloc, 0, b"pid/1").is_ok();
-    let Ok(path) = format!(in alloc; "{root}/pid/1") else {
-        return false;
-    };
-    match fs::metadata(rt, path.as_str()) {
+    let path = below(rt, root, "pid/1");
+    let is_so = match fs::metadata(rt, path.as_str()) {
         Ok(found) => is_made && found.mode() & 0o7777 == 0o644,
         Err(_) => false,
-    }
+    };
+    drop(path);
+    is_so
 }
 
 /// Opens files until no more can be open, and tells how many those were.

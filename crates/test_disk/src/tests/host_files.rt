@@ -252,7 +252,7 @@ fn a_name_that_is_no_file_is_a_fault(rt: HostRuntime) {
 }
 
 /// The path of this name below that one; empty without memory for it.
-fn below(rt: &HostRuntime, root: &str, name: &str) -> String {
+pub fn below(rt: &HostRuntime, root: &str, name: &str) -> String {
     match format!(in rt.alloc(); "{root}/{name}") {
         Ok(path) => path,
         Err(_) => String::new(rt.alloc()),

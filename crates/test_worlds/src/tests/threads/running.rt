@@ -1,4 +1,4 @@
-// Mails run to their ends, by however many threads.
+// Mails run to their ends, by however many threads, and members are stepped by theirs.
 ghost use Rattle.std.specs.Prelude.{◌≤◌};
 
 use super::beginning::{Begun, world_with};
@@ -11,8 +11,11 @@ use std::sync::Wait;
 use std::test::*;
 use std::thread::Threads;
 
-/// Runs so many mails by so many threads that pass this gate. How many actors ended with 0; none if there was no memory or there are
-/// fewer mails.
+/// The members of a generation.
+const MEMBERS: [&[u8]; 4] = [b"sender", b"clean", b"lspawn", b"rspawn"];
+
+/// Runs so many mails by so many threads that pass this gate. How many actors ended with 0; none if there was no memory, there are
+/// fewer mails, or a member made no step: nothing but its own thread steps it here.
 pub fn ended_by<R: Threads + Wait + Sync, G: Gate + Sync>(
     rt: &R,
     alloc: Global,
@@ -28,8 +31,9 @@ pub fn ended_by<R: Threads + Wait + Sync, G: Gate + Sync>(
     } = world_with(alloc, mails)?;
     let world = run_threads(rt, alloc, world, &names, threads, gate).ok()?;
     let ended = ended(&world);
+    let have_stepped = have_stepped(&world);
     drop(world);
-    (names.len() == mails).then_some(ended)
+    (names.len() == mails && have_stepped).then_some(ended)
 }
 
 /// How many actors ended with 0.
@@ -40,6 +44,25 @@ fn ended(world: &World<MemFs>) -> usize {
         .iter()
         .filter(|event| matches!(event, Event::End { status: 0, .. }))
         .count()
+}
+
+/// Whether each member made a step.
+fn have_stepped(world: &World<MemFs>) -> bool {
+    MEMBERS.iter().all(|member| has_stepped(world, *member))
+}
+
+/// Whether the actor with this name made a step.
+fn has_stepped(world: &World<MemFs>, name: &[u8]) -> bool {
+    world
+        .history()
+        .events()
+        .iter()
+        .any(|event| is_step(event, name))
+}
+
+/// Whether this event is a step of the actor with this name.
+fn is_step(event: &Event, name: &[u8]) -> bool {
+    matches!(event, Event::Act { actor, .. } if actor.is(name))
 }
 
 #[test]

@@ -2,7 +2,7 @@ use Rattle.std.proofs.Common.{[], sym, subst}
 use Rattle.call_fs.specs.declared.past.GotData.TheVariants as got
 use Rattle.call_fs.specs.Calls.{data_of}
 use Rattle.call_fs.specs.Program.{MayCome}
-use Rattle.test_local.proofs.Running.{looked, may, called}
+use Rattle.test_local.proofs.RunningDrops.{looked, may, called}
 use Rattle.test_local.proofs.tests.drops.makes_step.Goals as goal
 
 pub perform-answer-requires-clause-fits : goal.perform-answer-requires-clause-fits

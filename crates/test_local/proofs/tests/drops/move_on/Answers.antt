@@ -1,5 +1,5 @@
 use Rattle.call_fs.specs.declared.calls.CallData.TheVariants as call
-use Rattle.test_local.proofs.Running.{left_by}
+use Rattle.test_local.proofs.RunningDrops.{left_by}
 use Rattle.test_local.proofs.tests.drops.move_on.Goals as goal
 
 pub returns : goal.returns

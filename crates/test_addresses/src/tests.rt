@@ -1,5 +1,0 @@
-mod files;
-mod limits;
-mod names;
-mod routes;
-mod rows;

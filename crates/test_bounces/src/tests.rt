@@ -1,3 +1,0 @@
-mod notes;
-mod returns;
-mod steps;

@@ -1,5 +1,0 @@
-use Rattle.test_deliver.specs.Deliveries.{IsRunning}
-use Rattle.test_deliver.proofs.tests.running.run.Given as goal
-
-abbrev pub invariant-loop : goal.invariant-loop
-invariant-loop g l = IsRunning l.local (g.D.CallFs.disk l.disk)

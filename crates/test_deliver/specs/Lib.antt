@@ -1,2 +1,0 @@
--- a delivery that runs over a disk
-pub mod Deliveries

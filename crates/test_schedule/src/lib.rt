@@ -1,8 +1,0 @@
-//! Tests of the retry schedule, of requests and of reports. They stand in a crate of their own, with nothing else in it,
-//! so that the crates that they call are proved without them.
-//!
-//! Each test is data: rows or steps with the answers that are expected, which few functions play.
-#![tactic(auto)]
-
-#[cfg(test)]
-mod tests;

@@ -1,4 +1,0 @@
-mod local;
-mod remote;
-mod steps;
-mod users;

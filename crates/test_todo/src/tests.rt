@@ -1,2 +1,0 @@
-mod todo_disks;
-mod todo_passes;
