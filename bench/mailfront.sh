@@ -20,6 +20,7 @@ end() {
 trap end EXIT
 export QMAIL=${QMAIL:-$top/qmail}
 export QUEUEDIR=$work/queue
+mkdir "$QUEUEDIR" # by root contrib/qmail-queue makes none
 export QMAILQUEUE=$top/contrib/qmail-queue
 export QMAILHOME=$work # mailfront enters it; any directory does
 export RELAYCLIENT= PROTO=TCP TCPREMOTEIP=127.0.0.1
@@ -71,6 +72,7 @@ check "numbers in the queue" 2 "$(numbers)"
 
 if mount -t tmpfs -o size=256k none "$disk" 2> "$work/noise"; then
   QUEUEDIR=$disk/queue
+  mkdir "$QUEUEDIR"
   head -c 1000000 /dev/zero | tr '\0' x | fold -w 70 | sed 's/$/\r/' > "$work/large"
   printf '\r\n' >> "$work/large"
   check "a message with which the disk is full, answer" 451 "$(smtp bob@example.org "$work/large")"

@@ -67,15 +67,32 @@ no_more_programs() { ! pgrep -f 'msmtp|rspawn|exe local|cat ' > /dev/null; }
 storm_victims() { # the members or deliveries of a kind; WHAT is rspawn, local, send or all of them
   case $1 in
     rspawn) pgrep -f '^qmail rspawn ' ;;
-    local) pgrep -f '^/proc/[0-9]*/exe local ' ;;
+    local) pgrep -f '^/proc/[0-9a-z]*/exe local ' ;;
     send) pgrep -f "^$QMAIL send " ;;
     all) storm_victims rspawn; storm_victims local; storm_victims send ;;
   esac
 }
 
-limit_storm_of_kills=240
-case_storm_of_kills() { # whoever feeds a program is killed, and no copy is cut
-  local port=$((20000 + $$ % 10000)) kinds=(rspawn local send all rspawn local) kill place
+storm_kill() { # DIR KIND: kills those of that kind as soon as there are some, for a second or two, and notes that
+  local asked
+  for ((asked = 0; asked < 10; asked++)); do
+    kill -9 $(storm_victims "$2") 2> /dev/null && echo "$2" >> "$1/killed" && return
+    sleep 0.1
+  done
+  return 1
+}
+
+storm_hits() { # DIR: whether 300 kills hit someone, and each kind some
+  local kind
+  [ "$(wc -l < "$1/killed")" = 300 ] || broken "$(wc -l < "$1/killed") of 300 kills hit someone" || return
+  for kind in rspawn local send all; do
+    [ "$(grep -cx "$kind" "$1/killed")" -ge 20 ] || broken "$(grep -cx "$kind" "$1/killed") kills of $kind" || return
+  done
+}
+
+limit_storm_of_kills=900
+case_storm_of_kills() { # whoever feeds a program is killed 300 times, and no copy is cut
+  local port=$((20000 + RANDOM % 10000)) kinds=(rspawn local send all rspawn local) kill place
   PATH=$PATH:/usr/sbin
   needs msmtp smtp-sink
   new_queue "$1/queue"
@@ -84,6 +101,7 @@ case_storm_of_kills() { # whoever feeds a program is killed, and no copy is cut
   chown mailuser: "$1/sink"
   chmod 755 "$1"
   : > "$1/log"
+  : > "$1/killed"
   chmod 666 "$1/log"
   echo ":127.0.0.1:$port" > "$1/queue/control/smtproutes"
   printf './Maildir/\n|cat > %s/took/$$\n' "$1" > "$1/queue/home/ann/.qmail"
@@ -95,9 +113,9 @@ case_storm_of_kills() { # whoever feeds a program is killed, and no copy is cut
   storm_sender "$1" &
   for ((kill = 0; kill < 300; kill++)); do
     sleep "0.$((RANDOM % 200 + 100))"
-    kill -9 $(storm_victims "${kinds[RANDOM % 6]}") 2> /dev/null
+    storm_kill "$1" "${kinds[RANDOM % 6]}" || storm_kill "$1" send # all is deferred: the next sender tries it at once
     [ $((kill % 10)) != 0 ] || sift "$1"
-    [ "$(storm_copies "$1" | wc -l)" -lt 60 ] || break
+    [ "$(storm_copies "$1" | wc -l)" -lt 60 ] || break # of 5 MB
     reaches 20 few_programs
   done
   : > "$1/calm"
@@ -105,12 +123,57 @@ case_storm_of_kills() { # whoever feeds a program is killed, and no copy is cut
   reaches 40 no_more_programs || broken "programs run on" || return
   sift "$1"
   [ -z "$(storm_copies "$1")" ] || broken "cut: $(storm_copies "$1" | wc -l), one of them $(cut_files $(storm_copies "$1") | head -n 1)" || return
+  storm_hits "$1" || return
   for place in took sink new; do
     grep -q "/$place/" "$1/whole" || broken "nothing came into $place" || return
   done
   # a program that was killed as it made an input has left an empty file
   [ -z "$(find "$1/queue" -maxdepth 1 -name 'input.*' -size +0)" ] || broken "a part of a message is left: $(ls "$1/queue")"
 }
+
+terminate() { # DIR ROUND: ends a sender and its spawners by TERM, as soon as two deliveries began, or when their programs wait
+  local what=4 log=$1/log.$2
+  [ $(($2 % 2)) = 0 ] || what=2
+  rm -f "$1"/began/*
+  as mailqueue env QMAIL_IDLE_MS=20 "$QMAIL" send "$1/queue" "$1/remote" --turns 1000000 2> "$log" &
+  if [ "$what" = 4 ]; then
+    reaches 20 has_files "$1/began" 2 || broken "no program began" || return
+  else
+    reaches 20 grep -q 'starting delivery 2' "$log" || broken "no delivery began" || return
+    sleep "0.0$((RANDOM % 10))"
+  fi
+  pkill -TERM -f "^$QMAIL send |^qmail (l|r)spawn "
+  wait "$!"
+  ! grep -q '^delivery' "$log" || return 0 # too late to tell
+  echo "$what" >> "$1/hits"
+}
+
+has_files() { [ "$(ls "$1" | wc -l)" -ge "$2" ]; } # DIR NUMBER
+
+limit_terminated_while_it_feeds=240
+case_terminated_while_it_feeds() { # TERM to a sender and its spawners: a program takes the whole message or nothing
+  local round
+  new_queue "$1/queue"
+  mkdir "$1/took" "$1/began"
+  chmod 777 "$1/took" "$1/began"
+  program_of "$1/remote" <<< ": > $1/began/remote; sleep 0.7; cat > $1/took/remote.\$\$; printf 'r\0Kok\n\0'"
+  echo "|: > $1/began/command; sleep 0.7; cat > $1/took/command.\$\$" > "$1/queue/home/ann/.qmail"
+  text_of 3200000 > "$1/message"
+  envelope a@x ann@here.example b@y > "$1/envelope"
+  : > "$1/hits"
+  for ((round = 0; round < 40; round++)); do
+    if ! as mailqueue "$QMAIL" audit "$1/queue" 2> /dev/null | grep -q 'S[45]'; then
+      as mailqueue "$QMAIL" queue "$1/envelope" "$1/queue" < "$1/message" || broken "no injection" || return
+    fi
+    terminate "$1" "$round" || return
+    reaches 20 no_more_feeding || broken "programs run on" || return
+    [ -z "$(cut_files "$1"/took/*)" ] || broken "cut in round $round: $(cut_files "$1"/took/* | head -n 2 | tr '\n' ' ')" || return
+    rm -f "$1"/took/*
+  done
+  [ "$(grep -c 2 "$1/hits")" -ge 10 ] && [ "$(grep -c 4 "$1/hits")" -ge 10 ] || broken "of 40 only $(wc -l < "$1/hits") came in time"
+}
+
+no_more_feeding() { ! pgrep -f 'began/|spawn|exe local ' > /dev/null; }
 
 case_cut_by_a_limit() { # a command that reads late is ended by its delivery, before it takes a part of the message
   local given
@@ -186,6 +249,55 @@ case_child_signals_ignored() { # a process that is told no end of a child starts
     --uid 1000 2> "$1/log"
   status=$?
   [ "$status" = 111 ] && grep -q '^SIGCHLD is ignored' "$1/log" || broken "a delivery ended with $status"
+}
+
+most_memory() { # DIR N: the most kB that a remote spawner had which was given message N three times, and has its programs wait
+  local spawner at
+  rm -f "$1"/began/*
+  mkfifo "$1/requests"
+  as mailqueue "$QMAIL" rspawn "$1/queue" -- "$1/remote" < "$1/requests" > "$1/answers" &
+  exec 6> "$1/requests"
+  rm "$1/requests"
+  for at in 0 1 2; do
+    printf "\\00$at%s\\0a@x\\0b@y\\0" "$2/$2" >&6
+    reaches 20 has_files "$1/began" $((at + 1)) || broken "no program began" || return
+  done
+  spawner=$(pgrep -f '^[^ ]*qmail rspawn ' | tail -n 1)
+  awk '/^VmHWM/ { print $2 }' "/proc/$spawner/status"
+  : > "$1/go"
+  exec 6>&-
+  wait
+  rm "$1/go"
+  [ "$(grep -ao Kok "$1/answers" | wc -l)" = 3 ] || broken "it answered: $(tr '\0' '|' < "$1/answers")"
+}
+
+most_memory_of_local() { # DIR N: the most kB that a delivery of message N to a command had
+  { printf '%s:' "$(stat -c %s "$1/queue/mess/$2/$2")" && cat "$1/queue/mess/$2/$2" && printf ,; } > "$1/netstring"
+  as mailqueue "$QMAIL" local "$1/queue" =ann =home/ann =ann = = =here.example =a@x =./Maildir/ --uid 1000 < "$1/netstring" > "$1/given" || return
+  cat "$1/took"
+}
+
+limit_memory_of_a_large_message=180
+case_memory_of_a_large_message() { # twice at most: in a remote spawner, however many programs wait with theirs, and in a local delivery
+  local most small large
+  new_queue "$1/queue"
+  mkdir -p "$1/queue/mess/1" "$1/queue/mess/2"
+  printf 'Subject: small\n\nhi\n' > "$1/queue/mess/1/1"
+  text_of 100000000 > "$1/queue/mess/2/2"
+  mkdir "$1/began"
+  chmod 777 "$1/began"
+  program_of "$1/remote" <<< ": > $1/began/\$\$; while [ ! -e $1/go ]; do sleep 0.1; done; cat > /dev/null; printf 'r\\0Kok\\n\\0'"
+  # of all processes here the delivery has the most
+  echo "|cat > /dev/null; awk '/^VmHWM/ { if (\$2 > most) most = \$2 } END { print most }' /proc/[0-9]*/status > $1/took 2> /dev/null; exit 0" \
+    > "$1/queue/home/ann/.qmail"
+  chown -R mailqueue: "$1/queue"
+  : > "$1/took"
+  chmod 666 "$1/took"
+  most=$((2 * $(stat -c %s "$1/queue/mess/2/2") / 1024 + 4000))
+  small=$(most_memory "$1" 1) && large=$(most_memory "$1" 2) || broken "$small $large" || return
+  [ $((large - small)) -lt "$most" ] || broken "a remote spawner took $small and $large kB" || return
+  small=$(most_memory_of_local "$1" 1) && large=$(most_memory_of_local "$1" 2) || broken "no delivery: $(cat "$1/given")" || return
+  [ $((large - small)) -lt "$most" ] || broken "a delivery took $small and $large kB"
 }
 
 case_no_room_for_an_input() { # what can't be given whole isn't given

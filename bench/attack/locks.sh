@@ -170,6 +170,24 @@ case_sender_beside_a_stopped_cleaner() { # it gives nothing before its cleaner h
   reaches 10 has_line "$1/log" 'clean: its sender has ended' || broken "the cleaner didn't end for want of its sender"
 }
 
+case_file_system_without_locks() { # it goes on, and each who has none says so
+  local error member status
+  needs strace
+  for error in ENOLCK EOPNOTSUPP; do
+    rm -rf "$1/queue"
+    new_queue "$1/queue"
+    inject "$1/queue" > "$1/number" || broken "no injection" || return
+    as mailqueue timeout -s KILL 40 strace -f -qq -o /dev/null -e trace=flock -e "inject=flock:error=$error" \
+      "$QMAIL" send "$1/queue" cat --turns 400 2> "$1/log"
+    status=$?
+    [ "$status" = 0 ] || broken "$error: it ended with $status: $(tail -n 1 "$1/log")" || return
+    for member in send clean lspawn rspawn; do
+      has_line "$1/log" "$member: no lock: lock/$member" || broken "$error: nothing was told of $member" || return
+    done
+    [ -n "$(ls "$1/queue/home/ann/Maildir/new")" ] || broken "$error: nothing was delivered" || return
+  done
+}
+
 case_limits_that_are_none() {
   local given
   new_queue "$1/queue"

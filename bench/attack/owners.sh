@@ -127,6 +127,15 @@ case_wrapper_by_root() { # contrib/qmail-queue becomes the owner, by pipes and b
   grep -q 'invoked by uid 0)' "$1"/queue/mess/*/* || broken "the caller isn't written down"
 }
 
+case_wrapper_without_a_queue() { # root makes none, which would be nobody's but root's
+  local status
+  envelope a@x ann@here.example > "$1/envelope"
+  echo hello | QUEUEDIR=$1/queue "$CONTRIB/qmail-queue" 1< "$1/envelope" 2> "$1/log"
+  status=$?
+  [ ! -e "$1/queue" ] || broken "it made a queue" || return
+  [ "$status" = 63 ] && grep -q "^$1/queue can't be found" "$1/log" || broken "it ended with $status: $(head -n 1 "$1/log")"
+}
+
 case_sender_by_root() { # contrib/qmail-send becomes the owner
   new_queue "$1/queue"
   envelope a@x ann@here.example > "$1/envelope"
@@ -169,6 +178,19 @@ case_first_queue_below_a_link() { # DIR itself, or a directory above it, is the 
   "$CONTRIB/qmail-first-queue" "$1/his/link/queue" here.example > "$1/out" 2>&1 && broken "below a link it ended with 0" && return 1
   "$CONTRIB/qmail-first-queue" "$1/his/queue" here.example > "$1/out" 2>&1 && broken "over a link it ended with 0" && return 1
   [ -z "$(ls "$1/roots")" ] || broken "root's directory has $(ls "$1/roots" | tr '\n' ' ')"
+}
+
+case_first_queue_while_a_link_comes() { # a directory above DIR becomes the owner's link just before root would write there
+  mkdir "$1/roots" "$1/bin"
+  install -d -o mailqueue "$1/his"
+  printf 'joe:x:1000:1000::/home/joe:/bin/sh\n' > "$1/passwd"
+  as mailqueue mkdir -m 555 "$1/his/part" # so that the owner's own mkdir fails at first
+  printf '#!/bin/sh\n[ "$(id -u)" != 0 ] || [ -L %s/part ] || { rmdir %s/part && ln -s %s %s/part; }\nexec /usr/bin/mkdir "$@"\n' \
+    "$1/his" "$1/his" "$1/roots" "$1/his" > "$1/bin/mkdir"
+  chmod 755 "$1/bin/mkdir"
+  PATH=$1/bin:$PATH OWNER=mailqueue PASSWD=$1/passwd "$CONTRIB/qmail-first-queue" "$1/his/part/queue" here.example > "$1/out" 2>&1 \
+    && broken "it ended with 0" && return 1
+  [ -z "$(ls "$1/roots")" ] || broken "root's directory has $(ls -l "$1/roots" | tail -n 1)"
 }
 
 case_first_queue_by_root() { # without links all is made, as the owner's
