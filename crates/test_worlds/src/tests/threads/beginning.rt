@@ -2,6 +2,7 @@
 ghost use Rattle.mail_world.specs.LivingMails.{AreLivingMails};
 
 use actor_names::ActorName;
+use call_fs::CallFs;
 use mail_bytes::Memory;
 use mail_world::World;
 use mem_fs::MemFs;
@@ -12,18 +13,18 @@ use std::alloc::Global;
 const NAMES: [&[u8]; 5] = [b"a", b"b", b"c", b"d", b"e"];
 
 /// A world, and its mails.
-pub struct Begun {
+pub struct Begun<D: CallFs> {
     /// The world.
-    pub world: World<MemFs>,
+    pub world: World<D>,
     /// The names of its mails.
     pub mails: Vec<ActorName>,
     ghost living: { AreLivingMails world.events mails.items },
 }
 
-/// A world over an empty queue, with the first of the mails, so many, and a generation. If there is no memory, there are fewer mails, or
-/// none is returned.
-pub fn world_with(alloc: Global, count: usize) -> Option<Begun> {
-    let mut world = World::new(alloc, queue_disk(alloc).ok()?).ok()?;
+/// A world over this disk of an empty queue, with the first of the mails, so many, and a generation. If there is no memory, there are
+/// fewer mails, or none is returned.
+pub fn world_with<D: CallFs + Drop>(alloc: Global, disk: D, count: usize) -> Option<Begun<D>> {
+    let mut world = World::new(alloc, disk).ok()?;
     let mut mails = Vec::new(alloc);
     for at in 0..count {
         if let Some(name) = name_of(at) {
@@ -40,7 +41,7 @@ fn name_of(at: usize) -> Option<ActorName> {
 }
 
 /// A disk in memory with the directories of a queue.
-fn queue_disk(alloc: Global) -> Result<MemFs, Memory> {
+pub fn queue_disk(alloc: Global) -> Result<MemFs, Memory> {
     let dirs = queue_dirs(alloc)?;
     let mut disk = MemFs::new(alloc, Vec::new(alloc), Vec::new(alloc))?;
     let _ = disk.dir(alloc, b"control");
@@ -52,7 +53,12 @@ fn queue_disk(alloc: Global) -> Result<MemFs, Memory> {
 }
 
 /// One mail more, if there is memory.
-fn add_mail(alloc: Global, world: &mut World<MemFs>, mails: &mut Vec<ActorName>, name: &ActorName)
+fn add_mail<D: CallFs>(
+    alloc: Global,
+    world: &mut World<D>,
+    mails: &mut Vec<ActorName>,
+    name: &ActorName,
+)
     requires { AreLivingMails world.old.events mails.old.items }
     ensures { AreLivingMails world.new.events mails.new.items }
 {
@@ -64,7 +70,7 @@ fn add_mail(alloc: Global, world: &mut World<MemFs>, mails: &mut Vec<ActorName>,
 }
 
 /// Starts a generation, if there is memory.
-fn add_generation(alloc: Global, world: &mut World<MemFs>, mails: &[ActorName])
+fn add_generation<D: CallFs>(alloc: Global, world: &mut World<D>, mails: &[ActorName])
     requires { AreLivingMails world.old.events mails.now }
     ensures { AreLivingMails world.new.events mails.now }
 {
