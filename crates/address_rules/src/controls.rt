@@ -11,7 +11,7 @@ use std::alloc::{AllocError, Global};
 use thiserror::Error;
 
 /// What the control files say (qmail-control(5)).
-#[derive(Debug, Drop)]
+#[derive(Drop)]
 pub struct Controls {
     /// The name of this host.
     pub me: ByteText,

@@ -11,7 +11,7 @@ use mail_bytes::{ByteText, Memory};
 use std::alloc::Global;
 
 /// Where a recipient goes, with the address that stands in the channel's file.
-#[derive(Debug, Drop)]
+#[derive(Drop)]
 pub enum Route {
     /// To a mailbox here.
     Local(ByteText),

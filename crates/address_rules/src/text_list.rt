@@ -5,7 +5,7 @@ use mail_bytes::ByteText;
 use std::marker::Model;
 
 /// Texts in order, as a control file lists them; contracts see the list of them.
-#[derive(Debug, Drop)]
+#[derive(Drop)]
 pub struct TextList {
     texts: Vec<ByteText>,
 }

@@ -5,7 +5,7 @@ use mail_bytes::ByteText;
 use std::marker::Model;
 
 /// A line of virtualdomains.
-#[derive(Debug, Drop)]
+#[derive(Drop)]
 pub struct VirtualDomain {
     /// An address, a domain, the end of one from a dot, or nothing.
     pub domain: ByteText,
@@ -14,7 +14,7 @@ pub struct VirtualDomain {
 }
 
 /// Lines of virtualdomains in order; contracts see the list of them.
-#[derive(Debug, Drop)]
+#[derive(Drop)]
 pub struct VirtualDomains {
     lines: Vec<VirtualDomain>,
 }

@@ -18,7 +18,7 @@ use std::marker::Model;
 /// and `done` hands in what came of it. It reads the bounce file and the message file, has the bounce injected, and unlinks
 /// the bounce file once the injector has ended with 0. The bounce file of a double bounce that came back is unlinked without
 /// an injection. It keeps nothing once it has ended.
-#[derive(Debug, Drop)]
+#[derive(Drop)]
 pub struct BounceSender {
     n: u64,
     row: ReturnRow,

@@ -9,7 +9,7 @@ use received_line::date;
 use std::alloc::Global;
 
 /// What is injected for a message that can't be delivered: it returns the bounce file.
-#[derive(Debug, Drop)]
+#[derive(Drop)]
 pub struct Bounce {
     /// The sender of its envelope.
     pub sender: ByteText,

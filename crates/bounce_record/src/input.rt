@@ -8,7 +8,7 @@ use mail_bytes::{Memory, dec};
 use std::alloc::Global;
 
 /// What the injector of a bounce is given, and how many bytes message and envelope have together.
-#[derive(Debug, Drop)]
+#[derive(Drop)]
 pub struct Input {
     /// Two netstrings: the message, and then the envelope.
     pub text: Vec<u8>,

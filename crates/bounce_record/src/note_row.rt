@@ -3,7 +3,7 @@
 use call_fs::Fd;
 
 /// Where the writing of a note stands: at the step that is named. `fd` is the open bounce file.
-#[derive(Clone, Copy, Debug, PartialEq, Eq)]
+#[derive(Clone, Copy, PartialEq, Eq)]
 pub enum NoteRow {
     /// Opens the bounce file, to append to it.
     Open,

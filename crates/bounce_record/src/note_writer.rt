@@ -16,7 +16,7 @@ use std::marker::Model;
 /// The writing of one recipient's note at the end of a message's bounce file, as a machine: `need` says what is done next, and
 /// `done` hands in what came of it. The file is created if it is missing. Two newlines go before the note if the file isn't
 /// empty and doesn't end with two. The file is synced before the note counts as written. Only `begin` takes memory.
-#[derive(Debug, Drop)]
+#[derive(Drop)]
 pub struct NoteWriter {
     n: u64,
     row: NoteRow,

@@ -106,7 +106,7 @@ pub enum Channels {
 }
 
 /// A member of a generation, of which a queue has one at a time.
-#[derive(Clone, Copy, Debug, PartialEq, Eq)]
+#[derive(Clone, Copy, PartialEq, Eq)]
 pub enum Member {
     /// The sender.
     Send,

@@ -9,7 +9,7 @@ use std::alloc::{AllocError, AllocFailed, Global};
 use thiserror::Error;
 
 /// What a line of a `.qmail` file tells to do (dot-qmail(5)).
-#[derive(Debug, Drop)]
+#[derive(Drop)]
 pub enum Line {
     /// `|COMMAND`: runs the command, which takes the message as its input.
     Command(ByteText),

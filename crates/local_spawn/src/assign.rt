@@ -7,7 +7,7 @@ use std::alloc::Global;
 use std::marker::Model;
 
 /// A line of users/assign: which local parts it is for, and who gets their mail.
-#[derive(Debug, Drop)]
+#[derive(Drop)]
 pub struct Assignment {
     /// Whether it is for one local part, or for all that begin alike.
     pub kind: Kind,
@@ -28,7 +28,7 @@ pub struct Assignment {
 }
 
 /// The lines of users/assign in order; contracts see the list of them.
-#[derive(Debug, Drop)]
+#[derive(Drop)]
 pub struct Assign {
     lines: Vec<Assignment>,
 }

@@ -1,7 +1,7 @@
 // Kinds of lines.
 
 /// Which local parts a line is for.
-#[derive(Clone, Copy, Debug, PartialEq, Eq)]
+#[derive(Clone, Copy, PartialEq, Eq)]
 pub enum Kind {
     /// `=LOCAL:`: this one.
     Simple,

@@ -17,7 +17,8 @@ use Rattle.call_fs.specs.declared.program.Port.TheVariants as port
 use Rattle.call_fs.specs.declared.program.Ready.{Ready}
 use Rattle.actor_names.specs.MailNames.{members}
 use Rattle.queue_law.proofs.Tests.{text_cases}
-use Rattle.queue_law.specs.Books.{Child as Bouncer, Books}
+use Rattle.queue_law.specs.Books.{Books}
+use Rattle.queue_law.specs.Entered.{Child as Bouncer}
 use Rattle.world_pipes.specs.Pipework.{Pipework, Tenant, is_member, programs_after, with_child, with_generation}
 use Rattle.world_pipes.specs.Pipework.Tenant.{Runs, Remote}
 use Rattle.world_events.specs.declared.event.Program.{Program}

@@ -1,5 +1,5 @@
 -- Who awaits its input, as one event comes.
-use Rattle.std.proofs.Common.{◌≡◌, ◌≢◌, ℕ, List, [], Bool, true, false, ◌&&◌, not, if◌then◌else◌, Option, Some, None, is_some, refl, sym, ap, ◌∙◌, subst, ⊎_elim, bytes_eq, codes}
+use Rattle.std.proofs.Common.{◌≡◌, ◌≢◌, ℕ, List, [], Bool, true, false, ◌&&◌, not, if◌then◌else◌, take, Option, Some, None, is_some, refl, sym, ap, ◌∙◌, subst, ⊎_elim, bytes_eq, codes}
 use Rattle.std.specs.Prelude.{option_map, ◌==◌, length}
 use Rattle.std.proofs.Math.Bool.{or-true}
 use Rattle.call_fs.specs.declared.program.Port.{Port}
@@ -41,7 +41,7 @@ abbrev pub GivesToNone : Pipework → List ℕ → NeedData → Type 0
 GivesToNone w a (needs.Give (port.Program d) bytes) = (c : List ℕ) → w.programs a d ≡ Some (Runs c) → ⊥
 GivesToNone w a due = Unit {0}
 
-and_false : (t : Bool) → (t && false) ≡ false
+pub and_false : (t : Bool) → (t && false) ≡ false
 and_false true = refl
 and_false false = refl
 
@@ -64,14 +64,16 @@ put_not pipes to change b other = ap (λ (t : Bool). if t then change (pipes b p
 member_not : (pipes : List ℕ → Port → Pipe) (m : List ℕ) (change : Pipe → Pipe) (b : List ℕ) → is_member b ≡ false → is_member m ≡ true → put_pipe pipes (Some (mouth m port.Input)) change b port.Input ≡ pipes b port.Input
 member_not pipes m change b named is = put_not pipes (mouth m port.Input) change b (ap (λ (t : Bool). t && true) (other_text b m (other_than b m named is)))
 
-slot_not : (w : Pipework) (a b bytes : List ℕ) (d : ℕ) → ((c : List ℕ) → w.programs a d ≡ Some (Runs c) → ⊥) → (o : Option Tenant) → w.programs a d ≡ o
+slot_not : (w : Pipework) (a b bytes : List ℕ) (d : ℕ) → (w.programs a d ≡ Some (Runs b) → ⊥) → (o : Option Tenant) → w.programs a d ≡ o
     → put_pipe w.pipes (input_of o) (λ pipe. closed (given bytes pipe)) b port.Input ≡ w.pipes b port.Input
 slot_not w a b bytes d none None is = refl
 slot_not w a b bytes d none (Some (Remote reported)) is = refl
-slot_not w a b bytes d none (Some (Runs c)) is = absurd (none c is)
+slot_not w a b bytes d none (Some (Runs c)) is =
+    put_not w.pipes (mouth c port.Input) (λ pipe. closed (given bytes pipe)) b
+    (ap (λ (t : Bool). t && true) (other_text b c (λ same. none (is ∙ ap (λ (n : List ℕ). Some (Runs n)) (sym same)))))
 
 module _ (pipes : List ℕ → Port → Pipe) (change : Pipe → Pipe) (b : List ℕ) where
-  port_not : (a : List ℕ) (p : Port) → is_port port.Input p ≡ false → put_pipe pipes (Some (mouth a p)) change b port.Input ≡ pipes b port.Input
+  pub port_not : (a : List ℕ) (p : Port) → is_port port.Input p ≡ false → put_pipe pipes (Some (mouth a p)) change b port.Input ≡ pipes b port.Input
   port_not a p other = put_not pipes (mouth a p) change b (ap (λ (t : Bool). bytes_eq b a && t) other ∙ and_false (bytes_eq b a))
 
   put_if : (t : Bool) (o q : Option Mouth) → put_pipe pipes o change b port.Input ≡ pipes b port.Input → put_pipe pipes q change b port.Input ≡ pipes b port.Input
@@ -94,7 +96,20 @@ module _ (pipes : List ℕ → Port → Pipe) (change : Pipe → Pipe) (b : List
       (put_if (bytes_eq a (codes "rspawn")) (Some (mouth (codes "sender") port.Rspawn)) by_child (port_not (codes "sender") port.Rspawn refl)
       (child_not w a (w.slots a))))
 
-gives_not : (w : Pipework) (a b : List ℕ) (p : Port) (bytes : List ℕ) → is_member b ≡ false → GivesToNone w a (needs.Give p bytes) → gives w a p bytes b port.Input ≡ w.pipes b port.Input
+-- what is given to a slot isn't given to this actor
+abbrev pub GivesPast : Pipework → (a b : List ℕ) → NeedData → Type 0
+GivesPast w a b (needs.Give (port.Program d) bytes) = w.programs a d ≡ Some (Runs b) → ⊥
+GivesPast w a b due = Unit {0}
+
+pub past_each : (w : Pipework) (a b : List ℕ) → ((d : ℕ) → w.programs a d ≡ Some (Runs b) → ⊥) → (due : NeedData) → GivesPast w a b due
+past_each w a b none (needs.Give (port.Program d) bytes) = none d
+past_each w a b none due = tt
+
+past_none : (w : Pipework) (a b : List ℕ) (due : NeedData) → GivesToNone w a due → GivesPast w a b due
+past_none w a b (needs.Give (port.Program d) bytes) none = none b
+past_none w a b due none = tt
+
+pub gives_not : (w : Pipework) (a b : List ℕ) (p : Port) (bytes : List ℕ) → is_member b ≡ false → GivesPast w a b (needs.Give p bytes) → gives w a p bytes b port.Input ≡ w.pipes b port.Input
 gives_not w a b (port.Program d) bytes named none = slot_not w a b bytes d none (w.programs a d) refl
 gives_not w a b port.Clean bytes named none = member_not w.pipes (codes "clean") (given bytes) b named refl
 gives_not w a b port.Lspawn bytes named none = member_not w.pipes (codes "lspawn") (given bytes) b named refl
@@ -104,17 +119,21 @@ gives_not w a b port.Input bytes named none = refl
 gives_not w a b port.Todo bytes named none = refl
 gives_not w a b (port.Status d) bytes named none = refl
 
-any_bytes : (w : Pipework) (a : List ℕ) (p : Port) (bytes other : List ℕ) → GivesToNone w a (needs.Give p bytes) → GivesToNone w a (needs.Give p other)
-any_bytes w a (port.Program d) bytes other none = none
-any_bytes w a other_port bytes other none = tt
+any_bytes : (w : Pipework) (a b : List ℕ) (p : Port) (bytes other : List ℕ) → GivesPast w a b (needs.Give p bytes) → GivesPast w a b (needs.Give p other)
+any_bytes w a b (port.Program d) bytes other none = none
+any_bytes w a b other_port bytes other none = tt
 
 -- it leaves the input of each other actor that is no member
+pub input_past : (w : Pipework) (a b : List ℕ) (due : NeedData) (came : GotData) (wrote : ℕ) → is_member b ≡ false → b ≢ a → GivesPast w a b due
+    → (pipework_after w a due came wrote).pipes b port.Input ≡ w.pipes b port.Input
+input_past w a b (needs.Give p bytes) got.Gave wrote named apart none = gives_not w a b p bytes named none
+input_past w a b (needs.Give p bytes) got.Failed wrote named apart none = gives_not w a b p (take wrote bytes) named (any_bytes w a b p bytes (take wrote bytes) none)
+input_past w a b (needs.Take p) (got.Took bytes) wrote named apart none = put_not w.pipes (mouth a p) (taken bytes) b (ap (λ (t : Bool). t && is_port port.Input p) (other_text b a apart))
+input_past w a b (needs.Start (child.Remote slot domain sender recipient)) (got.Started pid) wrote named apart none = port_not w.pipes (λ _. fresh) b a (port.Program slot) refl
+input_past w a b due came wrote named apart none = refl
+
 pub input_still : (w : Pipework) (a b : List ℕ) (due : NeedData) (came : GotData) → is_member b ≡ false → b ≢ a → GivesToNone w a due → (pipework_after w a due came 0).pipes b port.Input ≡ w.pipes b port.Input
-input_still w a b (needs.Give p bytes) got.Gave named apart none = gives_not w a b p bytes named none
-input_still w a b (needs.Give p bytes) got.Failed named apart none = gives_not w a b p [] named (any_bytes w a p bytes [] none)
-input_still w a b (needs.Take p) (got.Took bytes) named apart none = put_not w.pipes (mouth a p) (taken bytes) b (ap (λ (t : Bool). t && is_port port.Input p) (other_text b a apart))
-input_still w a b (needs.Start (child.Remote slot domain sender recipient)) (got.Started pid) named apart none = port_not w.pipes (λ _. fresh) b a (port.Program slot) refl
-input_still w a b due came named apart none = refl
+input_still w a b due came named apart none = input_past w a b due came 0 named apart (past_none w a b due none)
 
 put_runs : (t : Bool) (o v : Option Tenant) (c : List ℕ) → (v ≡ Some (Runs c) → ⊥) → (if t then v else o) ≡ Some (Runs c) → o ≡ Some (Runs c)
 put_runs true o v c none is = absurd (none is)

@@ -20,13 +20,14 @@ use Rattle.mail_world.specs.World.Span.{Unborn, Lasting, OverAt}
 use Rattle.mail_world.specs.ByKind.{IsMail, Follows}
 use Rattle.world_pipes.specs.Pipework.{fresh}
 use Rattle.mail_world.specs.Wired.{seat, IsSlotOf}
-use Rattle.mail_world.specs.Crew.{IsNew, AreNew, AreRenewed}
+use Rattle.mail_world.specs.Crew.{AreRenewed}
 use Rattle.mail_world.specs.Generations.{IsNoneAlive}
 use Rattle.call_fs.specs.Past.{held}
 use Rattle.std.proofs.Math.Bool.{or-false, or-true}
 use Rattle.std.proofs.lemmas.List.Elements.{All-nil, All-cons}
 use Rattle.mail_world.specs.Inside.{known, RunsAt, unowed, span_by, life_by, is_by, has, AreApart, Owns, among_all, HasBorneLast, IsAwaited, RunsBy, IsMember, IsStranger, HasOpen, IsOpenTo, IsWorld, ArePiped}
 use Rattle.world_events.proofs.AmongAll.{place_of_mail, none_below, below, place_of_member, after_seat, same_some, four_places}
+use Rattle.mail_world.proofs.NewCrew.{AreFour, IsNewBy}
 use Rattle.mail_world.proofs.Awaiting.{awaits_same, no_slot}
 use Rattle.mail_world.proofs.Borne.{feed_push}
 use Rattle.mail_world.proofs.Crew.{started_push, owes_still, member_over}
@@ -54,7 +55,7 @@ again a k n Lasting starts_it over = absurd (over refl)
 again a k n (OverAt at) starts_it over = ap (λ (b : Bool). if b then Lasting else OverAt at) starts_it
 
 -- a member that has just started
-new_member : (t : State) (events : List Kept) (p : ℕ) (x : Held) (name : List ℕ) (program : ℕ → Program) → IsNew x name program
+new_member : (t : State) (events : List Kept) (p : ℕ) (x : Held) (name : List ℕ) (program : ℕ → Program) → IsNewBy x name program
     → t.actors name ≡ Some (newborn (program p)) → RunsAt (seat name) (program p) → (IsMail (program p) → ⊥) → start_of (program p) ≡ p → is_member name ≡ true
     → t.pipework.slots name ≡ None → span_of name (reverse events) ≢ Lasting → IsMember t (events ++ kept.Generation p ∷ []) p x
 new_member t events p x name program new at runs other start member slot over =
@@ -188,7 +189,7 @@ begun_awaiting s p a other =
     awaits_same s (happens s (Generation (crew_at p))) a refl (ap (λ (t : Bool). if t then fresh else s.pipework.pipes a port.Input) other)
 
 -- a new member has nothing open
-new_opens : (d : Disk) (t : State) (x : Held) (name : List ℕ) (program : ℕ → Program) (p : ℕ) → IsNew x name program → t.actors name ≡ Some (newborn (program p))
+new_opens : (d : Disk) (t : State) (x : Held) (name : List ℕ) (program : ℕ → Program) (p : ℕ) → IsNewBy x name program → t.actors name ≡ Some (newborn (program p))
     → ((fd : ℕ) → is_by name (t.holder fd) ≡ false) → HasOpen d t x
 new_opens d t x name program p new at none = record {
   lists = λ fd. ap (has fd) new.descriptors ∙ sym (ap (λ (a : List ℕ). is_by a (t.holder fd)) new.name_is ∙ none fd);
@@ -201,7 +202,7 @@ new_opens d t x name program p new at none = record {
 
 pub begun_keeps : (told : Option Disk) (places : List ℕ → Option ℕ) (crew : ℕ) (actors four : List Held) (events : List Kept) (p n q : ℕ) (b : Counts)
     → IsWorld told (among_all crew places) actors (known events) events p n b → NoneLives crew actors → (crew ≡ 0) ⊎ (crew ≡ 4) → ((a : List ℕ) → is_member a ≡ true → (known events).pipework.slots a ≡ None)
-    → AreNew four → q ≡ min (n + 4) (2 ^ 32 - 1)
+    → AreFour four → q ≡ min (n + 4) (2 ^ 32 - 1)
     → IsWorld told (among_all 4 places) (four ++ drop crew actors) (known (events ++ kept.Generation p ∷ [])) (events ++ kept.Generation p ∷ []) p q b
 begun_keeps told places crew actors four events p n q b w none few slots new next =
     subst (λ (l : List Held). IsWorld told (among_all 4 places) (l ++ mails) (known later) later p q b) (sym new.are)
@@ -326,7 +327,7 @@ record HasBegunAt (wires : List ℕ → Option ℕ) (a : List ℕ) (x : Actor) :
 
 -- the new pipes are those of the model, and whoever is no member keeps its own
 pub begun_piped : (crew : ℕ) (mouths renewed : List Mouths) (actors four : List Held) (events : List Kept) (p : ℕ)
-    → ArePiped crew mouths actors (known events) events → ((a : List ℕ) (x : Actor) → is_member a ≡ true → (known events).actors a ≡ Some x → x.life ≢ Alive) → AreNew four → AreRenewed mouths renewed
+    → ArePiped crew mouths actors (known events) events → ((a : List ℕ) (x : Actor) → is_member a ≡ true → (known events).actors a ≡ Some x → x.life ≢ Alive) → AreFour four → AreRenewed mouths renewed
     → ArePiped 4 renewed (four ++ drop crew actors) (known (events ++ kept.Generation p ∷ [])) (events ++ kept.Generation p ∷ [])
 begun_piped crew mouths renewed actors four events p piped over new renews =
     subst (λ (t : State). ArePiped 4 renewed (four ++ drop crew actors) t (events ++ kept.Generation p ∷ [])) (sym (known_push events (kept.Generation p) tt)) (record {
@@ -382,7 +383,7 @@ begun_piped crew mouths renewed actors four events p piped over new renews =
     still a other = four_other s.actors (Sender p) (Cleaner p) (LocalSpawner p) (RemoteSpawner p) a other
 
     -- a new member has its pipes at its seat
-    placed : (x : Held) (name : List ℕ) (program : ℕ → Program) → IsNew x name program × (is_member name ≡ true) → piped.wires x.name ≡ x.wire
+    placed : (x : Held) (name : List ℕ) (program : ℕ → Program) → IsNewBy x name program × (is_member name ≡ true) → piped.wires x.name ≡ x.wire
     placed x name program is = ap piped.wires is.0.name_is ∙ piped.wired.seats name is.1 ∙ sym is.0.wire
 
     -- it runs the program of its seat, and has done nothing
@@ -420,7 +421,7 @@ begun_piped crew mouths renewed actors four events p piped over new renews =
         (whether (is_member was.parent))
 
     -- what holds of the new members and of those that were there holds of all
-    each_then : (P : Held → Type 0) → ((x : Held) (name : List ℕ) (program : ℕ → Program) → IsNew x name program × (is_member name ≡ true) → P x)
+    each_then : (P : Held → Type 0) → ((x : Held) (name : List ℕ) (program : ℕ → Program) → IsNewBy x name program × (is_member name ≡ true) → P x)
         → ((i : ℕ) (x : Held) → slice_get actors i ≡ Some x → P x) → (j : ℕ) (z : Held) → slice_get (four ++ drop crew actors) j ≡ Some z → P z
     each_then P newly old j z at =
         each_of (λ i (x : Held). P x) new.sender new.clean new.lspawn new.rspawn (drop crew actors)

@@ -20,7 +20,7 @@ use Rattle.mail_world.specs.declared.actor.Actor.{Actor as Held}
 use Rattle.world_events.specs.declared.books.Entry.{Entry}
 use Rattle.world_events.specs.declared.books.Life.TheVariants as told
 use Rattle.mail_world.specs.Acting.{AreCutOff}
-use Rattle.mail_world.specs.Crew.{AreNew}
+use Rattle.mail_world.proofs.NewCrew.{AreFour}
 use Rattle.world_events.specs.Books.{fed_entry}
 use Rattle.world_events.specs.Inputs.{with_texts, start_with, with_inputs}
 use Rattle.mail_world.specs.Books.{new_entry, entry_by, entered_by, acted_on, left_as, cut_off, noted, books_of, AreBooked}
@@ -285,7 +285,7 @@ look_booked crew actors events i x y entries booked is name entry =
     booked_alike crew entries entries actors (set actors i y) events events booked booked.are refl (map_set_same held_by actors i x y is (same_held x y name entry))
 
 -- a generation started: the mails are after its members
-module _ (crew : ℕ) (actors four : List Held) (events : List Kept) (entries : List Entry) (new : AreNew four) (booked : AreBooked crew entries actors events) where
+module _ (crew : ℕ) (actors four : List Held) (events : List Kept) (entries : List Entry) (new : AreFour four) (booked : AreBooked crew entries actors events) where
   abbrev mails : List Held
   mails = drop crew actors
 

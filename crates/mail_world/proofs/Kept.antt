@@ -1,7 +1,5 @@
 -- The invariant, and that each legal event keeps it.
 use Rattle.std.proofs.Common.{◌≡◌, ◌≢◌, ℕ, ◌≤◌, List, [], ◌∷◌, true, Option, Some, None, refl, sym, ap, ◌∙◌, subst, ⊎_elim}
-use Rattle.address_rules.specs.Files.{controls_of}
-use Rattle.address_rules.specs.declared.controls.Controls.{Controls}
 use Rattle.call_fs.specs.Disk.{Disk, Open}
 use Rattle.call_fs.specs.Maps.{put_at}
 use Rattle.call_fs.specs.Survival.{AllSurvive}
@@ -45,17 +43,17 @@ abbrev pub Fares : ℕ → Queue → List ℕ → Actor → Type 0
 Fares now q a x = FaresBy now q a x.program x.past x.life
 
 -- the invariant
-pub record Inv (controls : Controls) (s : State) : Type 0 where
+pub record Inv (s : State) : Type 0 where
   pub role : ℕ → Role
-  pub sound : Sound controls (queue s role)
+  pub sound : Sound (queue s role)
   -- no program that moves so far preprocesses a number, so the control files make no difference
   pub early : IsEarly (queue s role)
   pub actors : (a : List ℕ) (x : Actor) → s.actors a ≡ Some x → Fares s.now (queue s role) a x
 
 -- What an event of one actor keeps: the invariant, what isn't the queue's, what others hold open, what was accepted, and each
 -- preprocessed number.
-record KeptBy (controls : Controls) (s : State) (a : List ℕ) (p : Option Program) (t : State) : Type 0 where
-  inv : Inv controls t
+record KeptBy (s : State) (a : List ℕ) (p : Option Program) (t : State) : Type 0 where
+  inv : Inv t
   outside : LeavesBy p s.disk t.disk
   opens : (o : List ℕ) (fd : ℕ) (how : Open) → o ≢ a → IsHeld s.disk.opens s.holder o fd how → IsHeld t.disk.opens t.holder o fd how
   accepted : (i : Injection) → IsInjected s.books i → i.accepted ≡ true → IsInjected t.books i
@@ -69,10 +67,10 @@ with_own x own = record { program = x.program; past = own ∷ x.past; life = x.l
 abbrev with_actor : State → Queue → Pipework → List ℕ → Actor → State
 with_actor s r l a y = record { disk = r.disk; holder = r.holder; now = s.now; actors = put_at s.actors a (Some y); books = r.books; pipework = l }
 
-module _ (controls : Controls) (s : State) (I : Inv controls s) where
+module _ (s : State) (I : Inv s) where
   -- what stands after a step of one actor, and how the actor fares
-  kept_by : (a : List ℕ) (m : Option ℕ) (r : Queue) (l : Pipework) (y : Actor) → Elsewhere s.now a m (queue s I.role) r → Sound controls r → IsEarly r → Fares s.now r a y
-      → Inv controls (with_actor s r l a y)
+  kept_by : (a : List ℕ) (m : Option ℕ) (r : Queue) (l : Pipework) (y : Actor) → Elsewhere s.now a m (queue s I.role) r → Sound r → IsEarly r → Fares s.now r a y
+      → Inv (with_actor s r l a y)
   kept_by a m r l y E G early F = record {
     role = r.role;
     sound = G;
@@ -86,12 +84,12 @@ module _ (controls : Controls) (s : State) (I : Inv controls s) where
         (put_at_cases s.actors a (Some y) o);
   }
 
-  kept_start : (a : List ℕ) (program : Program) → MayRun program → (l : Pipework) → Inv controls (begins s a program l)
+  kept_start : (a : List ℕ) (program : Program) → MayRun program → (l : Pipework) → Inv (begins s a program l)
   kept_start a program runs l =
       kept_by a None (queue s I.role) l (newborn program) (nothing_elsewhere s.now (queue s I.role) a) I.sound I.early (fares_start s.now (queue s I.role) a program runs)
 
   -- the queue is as before, and one actor as told
-  still : (a : List ℕ) (y : Actor) (l : Pipework) → Fares s.now (queue s I.role) a y → KeptBy controls s a (Some y.program) (with_actor s (queue s I.role) l a y)
+  still : (a : List ℕ) (y : Actor) (l : Pipework) → Fares s.now (queue s I.role) a y → KeptBy s a (Some y.program) (with_actor s (queue s I.role) l a y)
   still a y l F = record {
     inv = kept_by a None (queue s I.role) l y (nothing_elsewhere s.now (queue s I.role) a) I.sound I.early F;
     outside = leaves_same y.program s.disk s.disk.opens;
@@ -102,7 +100,7 @@ module _ (controls : Controls) (s : State) (I : Inv controls s) where
 
   -- what holds after an event of one actor
   abbrev KeepsBy : List ℕ → (Option Actor → State) → Option Actor → Type 0
-  KeepsBy a change o = KeptBy controls s a (program_of o) (change o)
+  KeepsBy a change o = KeptBy s a (program_of o) (change o)
 
   -- a call, by the program that makes it, which is no sender's
   called_on : (a : List ℕ) (read : ℕ) (ready : Found) (call : CallData) (told : Told) (wrote : ℕ) (program : Program) (past : List Own) (life : Life)
@@ -111,7 +109,7 @@ module _ (controls : Controls) (s : State) (I : Inv controls s) where
       → KeepsBy a (called s a read ready call told wrote) (Some (record { program = program; past = past; life = life }))
   called_on a read ready call told wrote (Injector args) past life reads next fits F =
       let q = queue s I.role in
-      let w = fares_calls controls s.now q a (Injector args) past life read ready call told wrote I.sound F reads.alive reads.no_earlier reads.no_stall next fits in
+      let w = fares_calls s.now q a (Injector args) past life read ready call told wrote I.sound F reads.alive reads.no_earlier reads.no_stall next fits in
       record {
         inv = kept_by a w.number (queue_by q a (Injector args) read call told.answer wrote w.role) s.pipework
             (record { program = Injector args; past = own_call read ready call told ∷ past; life = life })
@@ -142,12 +140,18 @@ module _ (controls : Controls) (s : State) (I : Inv controls s) where
       still a (record { program = Injector args; past = own_of read ready (needs.Take port) came ∷ past; life = life }) (pipework_after s.pipework a (needs.Take port) came wrote) F
   taken_by a read ready port came wrote other past life F = absurd F
 
+  gave_by : (a : List ℕ) (read : ℕ) (ready : Found) (port : Port) (bytes : List ℕ) (came : GotData) (wrote : ℕ) (program : Program) (past : List Own) (life : Life)
+      → FaresBy s.now (queue s I.role) a program (own_of read ready (needs.Give port bytes) came ∷ past) life
+      → KeepsBy a (acted s a (own_of read ready (needs.Give port bytes) came) wrote) (Some (record { program = program; past = past; life = life }))
+  gave_by a read ready port bytes came wrote (Injector args) past life F =
+      still a (record { program = Injector args; past = own_of read ready (needs.Give port bytes) came ∷ past; life = life }) (pipework_after s.pipework a (needs.Give port bytes) came wrote) F
+  gave_by a read ready port bytes came wrote other past life F = absurd F
+
   passed_by : (a : List ℕ) (read : ℕ) (ready : Found) (due : NeedData) (came : GotData) (wrote : ℕ) (x : Actor) → IsPass due
       → Fares s.now (queue s I.role) a (with_own x (own_of read ready due came))
       → KeepsBy a (acted s a (own_of read ready due came) wrote) (Some x)
   passed_by a read ready (needs.Take port) came wrote x pass F = taken_by a read ready port came wrote x.program x.past x.life F
-  passed_by a read ready (needs.Give port bytes) came wrote x pass F =
-      still a (with_own x (own_of read ready (needs.Give port bytes) came)) (pipework_after s.pipework a (needs.Give port bytes) came wrote) F
+  passed_by a read ready (needs.Give port bytes) came wrote x pass F = gave_by a read ready port bytes came wrote x.program x.past x.life F
   passed_by a read ready (needs.Start asked) came wrote x pass F =
       still a (with_own x (own_of read ready (needs.Start asked) came)) (pipework_after s.pipework a (needs.Start asked) came wrote) F
   passed_by a read ready (needs.Command bytes) came wrote x pass F =
@@ -212,7 +216,7 @@ module _ (controls : Controls) (s : State) (I : Inv controls s) where
   kept_stop : (a : List ℕ) → IsLiving s a → KeepsBy a (finished s a Stopped) (s.actors a)
   kept_stop a m = kept_finish a Stopped m.actor m.is (λ h. cc) (λ h. absurd (cc))
 
-  kept_moment : (m : ℕ) → s.now ≤ m → Inv controls (record { disk = s.disk; holder = s.holder; now = m; actors = s.actors; books = s.books; pipework = s.pipework })
+  kept_moment : (m : ℕ) → s.now ≤ m → Inv (record { disk = s.disk; holder = s.holder; now = m; actors = s.actors; books = s.books; pipework = s.pipework })
   kept_moment m later = record {
     role = I.role;
     sound = I.sound;
@@ -221,10 +225,10 @@ module _ (controls : Controls) (s : State) (I : Inv controls s) where
   }
 
   -- no actor lives on after a machine stop, and what ended stays ended
-  kept_halt : (how : Survival) (contents : ℕ → List ℕ) → AllSurvive s.disk contents → Inv controls (happens s (Halt how contents))
+  kept_halt : (how : Survival) (contents : ℕ → List ℕ) → AllSurvive s.disk contents → Inv (happens s (Halt how contents))
   kept_halt how contents survives = record {
     role = I.role;
-    sound = sound_after (queue s I.role) contents survives controls I.sound;
+    sound = sound_after (queue s I.role) contents survives I.sound;
     early = early_after (queue s I.role) contents I.early;
     actors = λ a y h.
         let w = mapped_some stopped (s.actors a) y h in
@@ -237,17 +241,17 @@ module _ (controls : Controls) (s : State) (I : Inv controls s) where
   runs a x is = fares_runs s.now (queue s I.role) a x.program x.past x.life (I.actors a x is)
 
 -- the pipework concerns nothing of the queue
-kept_pipework : (controls : Controls) (s : State) (l : Pipework) → Inv controls s → Inv controls (record { disk = s.disk; holder = s.holder; now = s.now; actors = s.actors; books = s.books; pipework = l })
-kept_pipework controls s l I = record { role = I.role; sound = I.sound; early = I.early; actors = I.actors }
+kept_pipework : (s : State) (l : Pipework) → Inv s → Inv (record { disk = s.disk; holder = s.holder; now = s.now; actors = s.actors; books = s.books; pipework = l })
+kept_pipework s l I = record { role = I.role; sound = I.sound; early = I.early; actors = I.actors }
 
 -- what a legal event keeps: the invariant, and all that it leaves
-record Keeps (controls : Controls) (s : State) (e : Event) : Type 0 where
-  inv : Inv controls (happens s e)
+record Keeps (s : State) (e : Event) : Type 0 where
+  inv : Inv (happens s e)
   rest : LeavesRest s e
 
 -- an event of no actor, after which disk, descriptors and books are the same
-keeps : (controls : Controls) (s : State) (e : Event) → Inv controls (happens s e) → (happens s e).disk ≡ s.disk → (happens s e).holder ≡ s.holder → (happens s e).books ≡ s.books → doer s e ≡ None → Keeps controls s e
-keeps controls s e after disk holder books none = record {
+keeps : (s : State) (e : Event) → Inv (happens s e) → (happens s e).disk ≡ s.disk → (happens s e).holder ≡ s.holder → (happens s e).books ≡ s.books → doer s e ≡ None → Keeps s e
+keeps s e after disk holder books none = record {
   inv = after;
   rest = record {
     outside = λ _. subst (λ (p : Option Program). LeavesBy p s.disk (happens s e).disk) (sym none) (subst (Outside s.disk) (sym disk) (outside_same s.disk s.disk.opens));
@@ -257,25 +261,25 @@ keeps controls s e after disk holder books none = record {
   };
 }
 
-kept : (controls : Controls) (s : State) (e : Event) → Inv controls s → IsLone s e → Keeps controls s e
-kept controls s (Start a program) I h = keeps controls s (Start a program) (kept_start controls s I a program h.runs s.pipework) refl refl refl refl
-kept controls s (Act a own wrote) I h =
-    let w = by_act s a wrote (λ own. KeptBy controls s a (program_of (s.actors a)) (acted s a own wrote (s.actors a)))
-    (λ read ready call told may. kept_call controls s I a read ready call told wrote may) (kept_pass controls s I a wrote) own h in
+kept : (s : State) (e : Event) → Inv s → IsLone s e → Keeps s e
+kept s (Start a program) I h = keeps s (Start a program) (kept_start s I a program h.runs s.pipework) refl refl refl refl
+kept s (Act a own wrote) I h =
+    let w = by_act s a wrote (λ own. KeptBy s a (program_of (s.actors a)) (acted s a own wrote (s.actors a)))
+    (λ read ready call told may. kept_call s I a read ready call told wrote may) (kept_pass s I a wrote) own h in
     record { inv = w.inv; rest = record { outside = λ _. w.outside; opens = w.opens; accepted = w.accepted; sorted = λ _. w.sorted } }
-kept controls s (Child parent own a program) I h = absurd (program_starts_none h.actor.program h.actor.past own.read own.ready h.asked (runs controls s I parent h.actor h.reads.is) (h.due ∙ h.starts))
-kept controls s (Generation crew) I h = absurd h
-kept controls s (Report slot output) I h =
-    keeps controls s (Report slot output) (kept_pipework controls s (with_report s.pipework slot output) I) refl refl refl refl
-kept controls s (End a read ready status) I h =
-    let w = kept_end controls s I a read ready status h in
+kept s (Child parent own a program) I h = absurd (program_starts_none h.actor.program h.actor.past own.read own.ready h.asked (runs s I parent h.actor h.reads.is) (h.due ∙ h.starts))
+kept s (Generation crew) I h = absurd h
+kept s (Report slot output) I h =
+    keeps s (Report slot output) (kept_pipework s (with_report s.pipework slot output) I) refl refl refl refl
+kept s (End a read ready status) I h =
+    let w = kept_end s I a read ready status h in
     record { inv = w.inv; rest = record { outside = λ _. w.outside; opens = w.opens; accepted = w.accepted; sorted = λ _. w.sorted } }
-kept controls s (Stop a) I h =
-    let w = kept_stop controls s I a h in
+kept s (Stop a) I h =
+    let w = kept_stop s I a h in
     record { inv = w.inv; rest = record { outside = λ _. w.outside; opens = w.opens; accepted = w.accepted; sorted = λ _. w.sorted } }
-kept controls s (Moment m) I h = keeps controls s (Moment m) (kept_moment controls s I m h.no_earlier) refl refl refl refl
-kept controls s (Halt how contents) I h = record {
-  inv = kept_halt controls s I how contents h;
+kept s (Moment m) I h = keeps s (Moment m) (kept_moment s I m h.no_earlier) refl refl refl refl
+kept s (Halt how contents) I h = record {
+  inv = kept_halt s I how contents h;
   rest = record {
     outside = λ e. absurd (cc);
     opens = λ o fd opened other w. absurd other;
@@ -284,8 +288,8 @@ kept controls s (Halt how contents) I h = record {
   };
 }
 
-kept_opening : (controls : Controls) (d : Disk) → Opening d → Inv controls (opening d)
-kept_opening controls d o = record {
+kept_opening : (d : Disk) → Opening d → Inv (opening d)
+kept_opening d o = record {
   role = λ _. AsOld;
   sound = record {
     suits = opening_suits;
@@ -305,23 +309,23 @@ kept_opening controls d o = record {
     opening_suits (Pid p t k) y h = (tt, tt)
     opening_suits (Of part n) y h = let w = (found d.names d.files (Of part n) y h).0 in let v = o.empty part n in absurd (cc)
 
-pub always : (controls : Controls) (d : Disk) (h : List Event) → AreLone d h → Inv controls (after d h)
-always controls d [] o = kept_opening controls d o
-always controls d (e ∷ before) l = (kept controls (after d before) e (always controls d before l.0) l.1).inv
+pub always : (d : Disk) (h : List Event) → AreLone d h → Inv (after d h)
+always d [] o = kept_opening d o
+always d (e ∷ before) l = (kept (after d before) e (always d before l.0) l.1).inv
 
 -- so it is after each history in which no generation was started
 pub runs_always : (d : Disk) (h : List Event) → AreLone d h → (a : List ℕ) (x : Actor) → (after d h).actors a ≡ Some x → MayRun x.program
-runs_always d h l = runs (controls_of []) (after d h) (always (controls_of []) d h l)
+runs_always d h l = runs (after d h) (always d h l)
 
 -- and what its past has put into the books is there
 pub books_always : (d : Disk) (h : List Event) → AreLone d h → (a : List ℕ) (x : Actor) → (after d h).actors a ≡ Some x → IsBooked (after d h).books a x.program x.past
 books_always d h l a x is =
     let s = after d h in
-    let I = always (controls_of []) d h l in
+    let I = always d h l in
     fares_booked s.now (queue s I.role) a x.program x.past x.life (I.actors a x is)
 
 -- and each event of a legal one leaves the rest
 pub events_leave : EventsLeave
 events_leave d e before legal none =
     let l = covered d (e ∷ before) legal none in
-    (kept (controls_of []) (after d before) e (always (controls_of []) d before l.0) l.1).rest
+    (kept (after d before) e (always d before l.0) l.1).rest

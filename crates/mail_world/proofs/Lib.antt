@@ -28,6 +28,7 @@ pub mod Borne
 -- what an actor finds by its pipes
 pub mod Found
 -- a generation starts
+pub mod NewCrew
 pub mod Begun
 -- the actor at a place
 pub use Rattle.world_events.proofs.Noted
@@ -110,6 +111,8 @@ pub mod Anew
 pub mod ReturnSteps
 -- what a sender gives to the injector of a bounce, by its past
 pub mod ReturnGives
+-- what it has read of the bounce file that it closes
+pub mod BounceReads
 -- who starts injectors, by its table
 pub mod Feeders
 -- what a world keeps of its actors, as it does for one of them what concerns a child
@@ -134,3 +137,5 @@ pub mod Stepping
 pub mod Moves
 -- mails that start live
 pub mod LivingMails
+-- an actor that starts alone with its whole input
+pub mod Lone

@@ -159,11 +159,11 @@ started_is d h events a told =
 
 -- how many were started
 
-starts_alike : (k : Kept) (e : Event) → Tells k e → starts_in k ≡ started_by e
+pub starts_alike : (k : Kept) (e : Event) → Tells k e → starts_in k ≡ started_by e
 starts_alike k (Start a program) told = ap starts_in told
 starts_alike k (Act a own w) told = ap starts_in told
 starts_alike k (Child parent own a program) told = ap starts_in told
-starts_alike k (Generation crew) told = ap starts_in told.1
+starts_alike k (Generation crew) told = ap starts_in told.1 ∙ ap (λ (programs : List Program). length programs) (sym told.2)
 starts_alike k (Report slot output) told = ap starts_in told.2
 starts_alike k (End a read ready status) told = ap starts_in told
 starts_alike k (Stop a) told = ap starts_in told

@@ -1,7 +1,6 @@
 -- What each program of the world keeps to. A new program is one case of each of these.
 use Rattle.std.proofs.Common.{◌≡◌, ◌≢◌, ◌⊎◌, inl, inr, ℕ, ◌+◌, ◌≤◌, List, [], ◌∷◌, Bool, true, false, not, ◌&&◌, Option, Some, None, refl, sym, ap, subst}
 use Rattle.std.specs.Prelude.{is_some, if◌then◌else◌}
-use Rattle.address_rules.specs.declared.controls.Controls.{Controls}
 use Rattle.call_fs.specs.declared.calls.CallData.{CallData}
 use Rattle.call_fs.specs.declared.calls.Answer.{Answer}
 use Rattle.call_fs.specs.declared.calls.Told.{Told}
@@ -233,25 +232,25 @@ pub leaves_same : (program : Program) (d : Disk) (opens : ℕ → Option Open) �
 leaves_same program d opens = outside_same d opens
 
 -- what a call of it leads to
-pub record Calls (controls : Controls) (now : ℕ) (q : Queue) (a : List ℕ) (program : Program) (past : List Own) (life : Life) (read : ℕ) (ready : Ready) (call : CallData) (told : Told) (wrote : ℕ) : Type 0 where
+pub record Calls (now : ℕ) (q : Queue) (a : List ℕ) (program : Program) (past : List Own) (life : Life) (read : ℕ) (ready : Ready) (call : CallData) (told : Told) (wrote : ℕ) : Type 0 where
   pub role : ℕ → Role
   pub number : Option ℕ
   pub elsewhere : Elsewhere now a number q (queue_by q a program read call told.answer wrote role)
-  pub sound : Sound controls (queue_by q a program read call told.answer wrote role)
+  pub sound : Sound (queue_by q a program read call told.answer wrote role)
   pub fares : FaresBy now (queue_by q a program read call told.answer wrote role) a program (own_call read ready call told ∷ past) life
   pub outside : Leaves program q.disk (queue_by q a program read call told.answer wrote role).disk
   pub sorted : (n : ℕ) → IsSorted (about q n) → about (queue_by q a program read call told.answer wrote role) n ≡ about q n
   pub accepted : (i : Injection) → IsInjected q.books i → i.accepted ≡ true → IsInjected (queue_by q a program read call told.answer wrote role).books i
   pub early : IsEarly q → IsEarly (queue_by q a program read call told.answer wrote role)
 
-pub fares_calls : (controls : Controls) (now : ℕ) (q : Queue) (a : List ℕ) (program : Program) (past : List Own) (life : Life) (read : ℕ) (ready : Ready) (call : CallData) (told : Told) (wrote : ℕ)
-    → Sound controls q → FaresBy now q a program past life → life ≡ Alive → latest program past ≤ read → now ≤ read + 43200
+pub fares_calls : (now : ℕ) (q : Queue) (a : List ℕ) (program : Program) (past : List Own) (life : Life) (read : ℕ) (ready : Ready) (call : CallData) (told : Told) (wrote : ℕ)
+    → Sound q → FaresBy now q a program past life → life ≡ Alive → latest program past ≤ read → now ≤ read + 43200
     → next_of program past read ready ≡ needs.File call → Fits q.disk call told.answer wrote
-    → Calls controls now q a program past life read ready call told wrote
-fares_calls controls now q a (Injector args) past life read ready call told wrote G F alive no_earlier no_stall next fits =
+    → Calls now q a program past life read ready call told wrote
+fares_calls now q a (Injector args) past life read ready call told wrote G F alive no_earlier no_stall next fits =
     let lives : InjectorFares now q a args past true false = subst (λ (l : Life). InjectorFares now q a args past (is_alive l) (is_well l)) alive F in
-    let w = injector_calls controls now q a args past read ready call told wrote G lives no_earlier no_stall next fits in
+    let w = injector_calls now q a args past read ready call told wrote G lives no_earlier no_stall next fits in
     let r = queue_by q a (Injector args) read call told.answer wrote w.role in
     let fares = subst (λ (l : Life). InjectorFares now r a args (own_call read ready call told ∷ past) (is_alive l) (is_well l)) (sym alive) w.fares in
     record { role = w.role; number = w.number; elsewhere = w.elsewhere; sound = w.sound; fares = fares; outside = w.outside; accepted = w.accepted; sorted = w.sorted; early = w.early }
-fares_calls controls now q a other past life read ready call told wrote G F alive no_earlier no_stall next fits = absurd F
+fares_calls now q a other past life read ready call told wrote G F alive no_earlier no_stall next fits = absurd F

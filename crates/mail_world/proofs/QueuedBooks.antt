@@ -31,7 +31,7 @@ use Rattle.world_events.specs.declared.event.Event.{Event as Kept}
 use Rattle.world_events.specs.declared.event.Program.{Program}
 use Rattle.world_events.specs.declared.event.Program.TheVariants.{Injector}
 use Rattle.mail_world.specs.History.{Event, Actor, Injection, Books, Life, State, MayRun, next_of, own_call, stopped, acted, finished, begun, accept, linked, booked, bouncer_of, books_after, told_by, after}
-use Rattle.queue_law.specs.Books.{Child as Bouncer}
+use Rattle.queue_law.specs.Entered.{Child as Bouncer}
 use Rattle.mail_world.specs.History.Event.{Start, Act, Child, Generation, Report, End, Stop, Moment, Halt}
 use Rattle.mail_world.specs.History.Life.{Over, Stopped}
 use Rattle.mail_world.specs.Waiting.{HasQueued}
@@ -141,7 +141,7 @@ take_books child b other past read ready came runs = absurd runs
 pass_books : (child : Option Bouncer) (b : Books) (a : List ℕ) (program : Program) (past : List Own) (read : ℕ) (ready : Ready) (due : NeedData) (came : GotData) → MayRun program → IsPass due
     → books_after child b a program past read ready due came ≡ b
 pass_books child b a program past read ready (needs.Take port) came runs pass = take_books child b program past read ready came runs
-pass_books child b a program past read ready (needs.Give port bytes) came runs pass = refl
+pass_books child b a program past read ready (needs.Give port bytes) came runs pass = take_books child b program past read ready came runs
 pass_books child b a program past read ready (needs.Start asked) came runs pass = refl
 pass_books child b a program past read ready (needs.Command bytes) came runs pass = refl
 pass_books child b a program past read ready (needs.File c) came runs pass = absurd pass

@@ -8,11 +8,13 @@ use Rattle.bounce_record.specs.declared.note_row.NoteRow.TheVariants as note
 use Rattle.bounce_record.specs.declared.return_row.ReturnRow.{ReturnRow}
 use Rattle.bounce_record.specs.declared.return_row.ReturnRow.TheVariants as back
 use Rattle.bounce_record.specs.Returning.{Returning, awaited_row, bounce_at, due_by as return_due, envelope_of, given_row, goes as goes_in, made, message_opened, message_read, notes_opened, notes_read, return_begun, due_at as return_due_at, moved_at as return_moved, moved as return_moved_by, started_row, unlinked_row}
-use Rattle.bounce_record.specs.Writing.{Writing, due_at as note_due_at, moved as note_moved}
+use Rattle.bounce_record.specs.Writing.{Writing, bounce_path, due_at as note_due_at, moved as note_moved}
 use Rattle.call_fs.specs.declared.calls.Answer.{Answer}
 use Rattle.call_fs.specs.declared.calls.Answer.TheVariants as answer
+use Rattle.call_fs.specs.declared.calls.CallData.TheVariants as call
 use Rattle.call_fs.specs.declared.calls.Fd.{Fd}
 use Rattle.call_fs.specs.declared.calls.FsError.TheVariants as why
+use Rattle.call_fs.specs.declared.calls.How.TheVariants as how
 use Rattle.call_fs.specs.declared.file_system.TheConstants.{PIECE}
 use Rattle.call_fs.specs.declared.past.ChildData.{ChildData}
 use Rattle.call_fs.specs.declared.past.ChildData.TheVariants as child
@@ -473,43 +475,23 @@ return_fares controls sender row r now got h = (tt, tt)
 
 -- Each event of a sender
 
--- at a return, what is said of it
-abbrev Keeps : Row → Returning → Type 0
-Keeps row r = IsReturn row → HasTexts r.row r.input
+-- at a return of this number this holds
+abbrev pub At : Row → (ℕ → Type 0) → Type 0
+At (at.Finish finish.Return n) S = S n
+At row S = Unit {0}
 
-abbrev Leads : NeedData → GotData → Desk → Type 0
-Leads due got e = IsReturn e.row → Fares due got e.bounce
+none_at : (S : ℕ → Type 0) (row : Row) → (IsReturn row → ⊥) → At row S
+none_at S (at.Finish finish.Return n) none = absurd (none tt)
+none_at S row none = tt
 
-quiet_leads : (due : NeedData) (got : GotData) (e : Desk) → Quiet e → Leads due got e
-quiet_leads due got e quiet w = absurd (quiet w)
+held_at : (S : Type 0) (row : Row) → At row (λ n. S) → IsReturn row → S
+held_at S (at.Finish finish.Return n) h w = h
+held_at S row h w = absurd w
 
-returned_leads : (due : NeedData) (got : GotData) (it : Returning) (n now : ℕ) (e : Desk) → Fares due got it → Leads due got (finish_at (returned_to it.row) n now (record e { bounce = it }))
-returned_leads due got it n now e fares = by it.row where
-  by : (row : ReturnRow) → Leads due got (finish_at (returned_to row) n now (record e { bounce = it }))
-  by back.Over = λ w. absurd w
-  by back.Failed = quiet_leads due got (finish_at finish.Later n now (record e { bounce = it })) (finish_past now _)
-  by row = λ w. fares
-
-begun_fares : (due : NeedData) (controls : Controls) (sender : List ℕ) (n now : ℕ) (got : GotData) → Fares due got (return_moved_by controls sender (return_begun n) now got)
-begun_fares due controls sender n now (came.Answered told) = opens_notes due (came.Answered told) (return_begun n) told.answer
-begun_fares due controls sender n now got = (tt, tt)
-
-finish_leads : (row : FinishRow) (n now : ℕ) (got : GotData) (e : Desk) → Keeps (at.Finish row n) e.bounce → Leads (due_at (at.Finish row n) e) got (act_finish row n now got e)
-finish_leads finish.OpenBounce n now got e h =
-    returned_leads (due_at (at.Finish finish.OpenBounce n) e) got (bounce_on n now got (return_begun n) e.book) n now (record e { busy = true })
-    (begun_fares (due_at (at.Finish finish.OpenBounce n) e) e.book.controls (sender_of n e.book.messages.known) n now got)
-finish_leads finish.Return n now got e h =
-    returned_leads (return_due e.bounce) got (bounce_on n now got e.bounce e.book) n now e
-    (return_fares e.book.controls (sender_of n e.book.messages.known) e.bounce.row e.bounce now got (h tt))
-finish_leads finish.UnlinkInfo n now got e h =
-    quiet_leads (due_at (at.Finish finish.UnlinkInfo n) e) got (act_finish finish.UnlinkInfo n now got e) (finish_goes (finish_to finish.UnlinkInfo (said got).way) n now e (info_leads (said got).way))
-finish_leads finish.Give n now got e h =
-    quiet_leads (due_at (at.Finish finish.Give n) e) got (act_finish finish.Give n now got e) (finish_goes (finish_to finish.Give (said got).way) n now e (give_leads (said got).way))
-finish_leads finish.Take n now got e h =
-    quiet_leads (due_at (at.Finish finish.Take n) e) got (act_finish finish.Take n now got e) (finish_goes (finish_to finish.Take (said got).way) n now e (take_leads (said got).way))
-finish_leads finish.Later n now got e h = quiet_leads (due_at (at.Finish finish.Later n) e) got (act_finish finish.Later n now got e) (finish_past now _)
-finish_leads finish.Over n now got e h = quiet_leads (due_at (at.Finish finish.Over n) e) got (act_finish finish.Over n now got e) (finish_past now _)
-finish_leads finish.Lost n now got e h = λ w. absurd w
+-- who arrives at a return stood there
+pub arrives_at : (S : ℕ → Type 0) (row : Row) (d : Desk) (now : ℕ) (ready : Ready) → At row S → At (arrive row d now ready) S
+arrives_at S (at.Turn p) d now ready h = none_at S (from_point p d now ready) (begins_none _ (point_begins d now ready p))
+arrives_at S row d now ready h = h
 
 sweep_goes : (row : SweepRow) (e : Desk) → Quiet (sweep_at row e)
 sweep_goes sweep.Over e = turned e
@@ -525,22 +507,6 @@ IsStep (at.Turn p) = ⊥
 IsStep (at.Ended status) = ⊥
 IsStep row = Unit {0}
 
-step : (row : Row) (now : ℕ) (got : GotData) (e : Desk) → IsStep row → Keeps row e.bounce → Leads (due_at row e) got (act row now got e)
-step (at.Start row) now got e h k = quiet_leads (due_at (at.Start row) e) got (act (at.Start row) now got e) (starts _)
-step (at.Turn p) now got e h k = absurd h
-step (at.TakeLink c) now got e h k = quiet_leads (due_at (at.TakeLink c) e) got (act (at.TakeLink c) now got e) (takes (said got).way (said got).bytes c e)
-step (at.Mark row m) now got e h k = quiet_leads (due_at (at.Mark row m) e) got (act (at.Mark row m) now got e) (marks row m got e)
-step (at.UnlinkFile c n p) now got e h k = quiet_leads (due_at (at.UnlinkFile c n p) e) got (act (at.UnlinkFile c n p) now got e) (unlinks (said got).way c n p now e)
-step (at.ReadFile c n begun reading) now got e h k =
-    quiet_leads (due_at (at.ReadFile c n begun reading) e) got (act (at.ReadFile c n begun reading) now got e) (reads (read_on reading (said got)) c n (begun_at reading begun now) reading now (said got) e)
-step (at.Request c) now got e h k = quiet_leads (due_at (at.Request c) e) got (act (at.Request c) now got e) (requests (said got).way c e)
-step (at.FindTodo search) now got e h k = quiet_leads (due_at (at.FindTodo search) e) got (act (at.FindTodo search) now got e) (searches (said got).way (said got).bytes search now e)
-step at.InTodo now got e h k = quiet_leads (due_at at.InTodo e) got (act at.InTodo now got e) (passes e e.pass.row now got)
-step (at.Finish row n) now got e h k = finish_leads row n now got e k
-step (at.Sweep row) now got e h k =
-    quiet_leads (due_at (at.Sweep row) e) got (act (at.Sweep row) now got e) (sweep_goes (sweep_to row now (said got) e.book) (looked_up row (said got) (sweep_begun row now e)))
-step (at.Ended status) now got e h k = absurd h
-
 begins_step : (row : Row) → Begins row → IsStep row
 begins_step (at.TakeLink c) h = tt
 begins_step (at.Mark row m) h = tt
@@ -554,29 +520,102 @@ begins_step row h = absurd h
 abbrev at_row : Row → Desk → Desk
 at_row row e = record e { row = row }
 
-abbrev Led : Row → Desk → ℕ → Ready → GotData → Type 0
-Led row e read ready got = Leads (due_at (arrive row (at_row row e) read ready) (at_row row e)) got (act (arrive row (at_row row e) read ready) read got (at_row row e))
+-- Of the returns of each number `K` is said, and after what came of what was due `F`. So it is after each event of a sender, if it is so after the
+-- open of the bounce file, and after each step of a return of which `K` was said.
+module _ (K : ℕ → Returning → Type 0) (F : ℕ → NeedData → GotData → Returning → Type 0)
+    (begun : (controls : Controls) (sender : List ℕ) (n now : ℕ) (got : GotData) → F n (needs.File (call.Open (bounce_path n) how.Read)) got (return_moved_by controls sender (return_begun n) now got))
+    (moves : (controls : Controls) (sender : List ℕ) (n : ℕ) (r : Returning) (now : ℕ) (got : GotData) → K n r → F n (return_due r) got (return_moved_by controls sender r now got)) where
+  abbrev Stands : Row → Returning → Type 0
+  Stands row r = At row (λ n. K n r)
 
-led_at : (row : Row) (e : Desk) (read : ℕ) (ready : Ready) (got : GotData) → Keeps row e.bounce → Led row e read ready got
-led_at (at.Turn p) e read ready got k =
-    let begins = point_begins (at_row (at.Turn p) e) read ready p in
-    step (from_point p (at_row (at.Turn p) e) read ready) read got (at_row (at.Turn p) e) (begins_step _ begins) (λ w. absurd (begins_none _ begins w))
-led_at (at.Ended status) e read ready got k = λ w. absurd w
-led_at (at.Sweep row) e read ready got k = step (arrive (at.Sweep row) (at_row (at.Sweep row) e) read ready) read got (at_row (at.Sweep row) e) tt (λ w. absurd w)
-led_at (at.Start row) e read ready got k = step (at.Start row) read got (at_row (at.Start row) e) tt k
-led_at (at.TakeLink c) e read ready got k = step (at.TakeLink c) read got (at_row (at.TakeLink c) e) tt k
-led_at (at.Mark row m) e read ready got k = step (at.Mark row m) read got (at_row (at.Mark row m) e) tt k
-led_at (at.UnlinkFile c n p) e read ready got k = step (at.UnlinkFile c n p) read got (at_row (at.UnlinkFile c n p) e) tt k
-led_at (at.ReadFile c n begun r) e read ready got k = step (at.ReadFile c n begun r) read got (at_row (at.ReadFile c n begun r) e) tt k
-led_at (at.Request c) e read ready got k = step (at.Request c) read got (at_row (at.Request c) e) tt k
-led_at (at.FindTodo search) e read ready got k = step (at.FindTodo search) read got (at_row (at.FindTodo search) e) tt k
-led_at at.InTodo e read ready got k = step at.InTodo read got (at_row at.InTodo e) tt k
-led_at (at.Finish row n) e read ready got k = step (at.Finish row n) read got (at_row (at.Finish row n) e) tt k
+  abbrev Leads : NeedData → GotData → Desk → Type 0
+  Leads due got e = At e.row (λ n. F n due got e.bounce)
+
+  quiet_leads : (due : NeedData) (got : GotData) (e : Desk) → Quiet e → Leads due got e
+  quiet_leads due got e quiet = none_at (λ n. F n due got e.bounce) e.row quiet
+
+  returned_leads : (due : NeedData) (got : GotData) (it : Returning) (n now : ℕ) (e : Desk) → F n due got it → Leads due got (finish_at (returned_to it.row) n now (record e { bounce = it }))
+  returned_leads due got it n now e fares = by it.row where
+    by : (row : ReturnRow) → Leads due got (finish_at (returned_to row) n now (record e { bounce = it }))
+    by back.Over = tt
+    by back.Failed = quiet_leads due got (finish_at finish.Later n now (record e { bounce = it })) (finish_past now _)
+    by row = fares
+
+  finish_leads : (row : FinishRow) (n now : ℕ) (got : GotData) (e : Desk) → Stands (at.Finish row n) e.bounce → Leads (due_at (at.Finish row n) e) got (act_finish row n now got e)
+  finish_leads finish.OpenBounce n now got e h =
+      returned_leads (due_at (at.Finish finish.OpenBounce n) e) got (bounce_on n now got (return_begun n) e.book) n now (record e { busy = true })
+      (begun e.book.controls (sender_of n e.book.messages.known) n now got)
+  finish_leads finish.Return n now got e h =
+      returned_leads (return_due e.bounce) got (bounce_on n now got e.bounce e.book) n now e (moves e.book.controls (sender_of n e.book.messages.known) n e.bounce now got h)
+  finish_leads finish.UnlinkInfo n now got e h =
+      quiet_leads (due_at (at.Finish finish.UnlinkInfo n) e) got (act_finish finish.UnlinkInfo n now got e) (finish_goes (finish_to finish.UnlinkInfo (said got).way) n now e (info_leads (said got).way))
+  finish_leads finish.Give n now got e h =
+      quiet_leads (due_at (at.Finish finish.Give n) e) got (act_finish finish.Give n now got e) (finish_goes (finish_to finish.Give (said got).way) n now e (give_leads (said got).way))
+  finish_leads finish.Take n now got e h =
+      quiet_leads (due_at (at.Finish finish.Take n) e) got (act_finish finish.Take n now got e) (finish_goes (finish_to finish.Take (said got).way) n now e (take_leads (said got).way))
+  finish_leads finish.Later n now got e h = quiet_leads (due_at (at.Finish finish.Later n) e) got (act_finish finish.Later n now got e) (finish_past now _)
+  finish_leads finish.Over n now got e h = quiet_leads (due_at (at.Finish finish.Over n) e) got (act_finish finish.Over n now got e) (finish_past now _)
+  finish_leads finish.Lost n now got e h = tt
+
+  step : (row : Row) (now : ℕ) (got : GotData) (e : Desk) → IsStep row → Stands row e.bounce → Leads (due_at row e) got (act row now got e)
+  step (at.Start row) now got e h k = quiet_leads (due_at (at.Start row) e) got (act (at.Start row) now got e) (starts _)
+  step (at.Turn p) now got e h k = absurd h
+  step (at.TakeLink c) now got e h k = quiet_leads (due_at (at.TakeLink c) e) got (act (at.TakeLink c) now got e) (takes (said got).way (said got).bytes c e)
+  step (at.Mark row m) now got e h k = quiet_leads (due_at (at.Mark row m) e) got (act (at.Mark row m) now got e) (marks row m got e)
+  step (at.UnlinkFile c n p) now got e h k = quiet_leads (due_at (at.UnlinkFile c n p) e) got (act (at.UnlinkFile c n p) now got e) (unlinks (said got).way c n p now e)
+  step (at.ReadFile c n begun reading) now got e h k =
+      quiet_leads (due_at (at.ReadFile c n begun reading) e) got (act (at.ReadFile c n begun reading) now got e) (reads (read_on reading (said got)) c n (begun_at reading begun now) reading now (said got) e)
+  step (at.Request c) now got e h k = quiet_leads (due_at (at.Request c) e) got (act (at.Request c) now got e) (requests (said got).way c e)
+  step (at.FindTodo search) now got e h k = quiet_leads (due_at (at.FindTodo search) e) got (act (at.FindTodo search) now got e) (searches (said got).way (said got).bytes search now e)
+  step at.InTodo now got e h k = quiet_leads (due_at at.InTodo e) got (act at.InTodo now got e) (passes e e.pass.row now got)
+  step (at.Finish row n) now got e h k = finish_leads row n now got e k
+  step (at.Sweep row) now got e h k =
+      quiet_leads (due_at (at.Sweep row) e) got (act (at.Sweep row) now got e) (sweep_goes (sweep_to row now (said got) e.book) (looked_up row (said got) (sweep_begun row now e)))
+  step (at.Ended status) now got e h k = absurd h
+
+  abbrev Led : Row → Desk → ℕ → Ready → GotData → Type 0
+  Led row e read ready got = Leads (due_at (arrive row (at_row row e) read ready) (at_row row e)) got (act (arrive row (at_row row e) read ready) read got (at_row row e))
+
+  led_at : (row : Row) (e : Desk) (read : ℕ) (ready : Ready) (got : GotData) → Stands row e.bounce → Led row e read ready got
+  led_at (at.Turn p) e read ready got k =
+      let begins = point_begins (at_row (at.Turn p) e) read ready p in
+      step (from_point p (at_row (at.Turn p) e) read ready) read got (at_row (at.Turn p) e) (begins_step _ begins) (none_at (λ n. K n e.bounce) _ (begins_none _ begins))
+  led_at (at.Ended status) e read ready got k = tt
+  led_at (at.Sweep row) e read ready got k = step (arrive (at.Sweep row) (at_row (at.Sweep row) e) read ready) read got (at_row (at.Sweep row) e) tt tt
+  led_at (at.Start row) e read ready got k = step (at.Start row) read got (at_row (at.Start row) e) tt k
+  led_at (at.TakeLink c) e read ready got k = step (at.TakeLink c) read got (at_row (at.TakeLink c) e) tt k
+  led_at (at.Mark row m) e read ready got k = step (at.Mark row m) read got (at_row (at.Mark row m) e) tt k
+  led_at (at.UnlinkFile c n p) e read ready got k = step (at.UnlinkFile c n p) read got (at_row (at.UnlinkFile c n p) e) tt k
+  led_at (at.ReadFile c n begun r) e read ready got k = step (at.ReadFile c n begun r) read got (at_row (at.ReadFile c n begun r) e) tt k
+  led_at (at.Request c) e read ready got k = step (at.Request c) read got (at_row (at.Request c) e) tt k
+  led_at (at.FindTodo search) e read ready got k = step (at.FindTodo search) read got (at_row (at.FindTodo search) e) tt k
+  led_at at.InTodo e read ready got k = step at.InTodo read got (at_row at.InTodo e) tt k
+  led_at (at.Finish row n) e read ready got k = step (at.Finish row n) read got (at_row (at.Finish row n) e) tt k
+
+  pub led_by : (d : Desk) (read : ℕ) (ready : Ready) (got : GotData) → At d.row (λ n. K n d.bounce)
+      → At (moved_by (row_now d read ready) read got d).row (λ n. F n (due_at (row_now d read ready) d) got (moved_by (row_now d read ready) read got d).bounce)
+  led_by d read ready got k = led_at d.row d read ready got k
+
+-- at a return, what is said of it
+abbrev Keeps : Row → Returning → Type 0
+Keeps row r = IsReturn row → HasTexts r.row r.input
+
+begun_fares : (due : NeedData) (controls : Controls) (sender : List ℕ) (n now : ℕ) (got : GotData) → Fares due got (return_moved_by controls sender (return_begun n) now got)
+begun_fares due controls sender n now (came.Answered told) = opens_notes due (came.Answered told) (return_begun n) told.answer
+begun_fares due controls sender n now got = (tt, tt)
+
+kept_at : (row : Row) (r : Returning) → Keeps row r → At row (λ n. HasTexts r.row r.input)
+kept_at (at.Finish finish.Return n) r k = k tt
+kept_at row r k = tt
 
 -- what is said of the return after one event more
 pub led : (d : Desk) (read : ℕ) (ready : Ready) (got : GotData) → Keeps d.row d.bounce
     → IsReturn (moved_by (row_now d read ready) read got d).row → Fares (due_at (row_now d read ready) d) got (moved_by (row_now d read ready) read got d).bounce
-led d read ready got k = led_at d.row d read ready got k
+led d read ready got k = held_at (Fares (due_at (row_now d read ready) d) got (moved_by (row_now d read ready) read got d).bounce) (moved_by (row_now d read ready) read got d).row
+    (led_by (λ n r. HasTexts r.row r.input) (λ n due came r. Fares due came r)
+    (λ controls sender n now came. begun_fares (needs.File (call.Open (bounce_path n) how.Read)) controls sender n now came)
+    (λ controls sender n r now came h. return_fares controls sender r.row r now came h)
+    d read ready got (kept_at d.row d.bounce k))
 
 pub keeps : (past : List Own) → Keeps (sender_after None past).row (sender_after None past).bounce
 keeps [] w = absurd w

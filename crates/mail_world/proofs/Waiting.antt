@@ -1,8 +1,6 @@
 -- The invariant says that each accepted message waits in todo.
 use Rattle.std.proofs.Common.{◌≡◌, List, [], ◌∷◌, ◌++◌, true, Some, refl, sym, subst, subst₂, ⊎_elim}
 use Rattle.queue_law.proofs.Waits.{todo_named, todo_entry}
-use Rattle.address_rules.specs.Files.{controls_of}
-use Rattle.address_rules.specs.declared.controls.Controls.{Controls}
 use Rattle.call_fs.specs.Disk.{Disk, Among, IsSynced}
 use Rattle.queue_inject.specs.declared.injection.Arguments.{Arguments}
 use Rattle.queue_inject.specs.Texts.{intd_text, todo_of}
@@ -23,9 +21,9 @@ todo_is args = refl
 
 -- An accepted injection whose life lasts is queued.
 
-module _ (controls : Controls) (s : State) (I : Inv controls s) where
+module _ (s : State) (I : Inv s) where
   -- the envelope of a queued number
-  in_todo : (i : Injection) → IsQueued controls (about (queue s I.role) i.number) → s.books.living i.number ≡ Some i → IsInTodo s.disk i
+  in_todo : (i : Injection) → IsQueued (about (queue s I.role) i.number) → s.books.living i.number ≡ Some i → IsInTodo s.disk i
   in_todo i h lives =
       let d = s.disk in
       let same : h.taken.injection ≡ i = (let w = h.taken.lives in cc) in
@@ -41,7 +39,7 @@ module _ (controls : Controls) (s : State) (I : Inv controls s) where
   is_kept : (i : Injection) → s.books.living i.number ≡ Some i → i.accepted ≡ true → IsInTodo s.disk i
   is_kept i lives accepted = by_phase (I.sound.fine i.number)
     where
-      by_phase : Phase controls (about (queue s I.role) i.number) → IsInTodo s.disk i
+      by_phase : Phase (about (queue s I.role) i.number) → IsInTodo s.disk i
       by_phase (Free h) = absurd (h.not_accepted i lives accepted)
       by_phase (Queued h) = in_todo i h lives
       by_phase (Sorted h) = absurd (I.early.waits i.number i lives accepted h.no_todo)
@@ -58,11 +56,11 @@ legal_before d [] before l = l
 legal_before d (e ∷ later) before l = legal_before d later before l.0
 
 -- what holds after a history in which no generation was started
-pub always_alone : (controls : Controls) (d : Disk) (h : List Event) → Legal d h → HasNoGeneration h → Inv controls (after d h)
-always_alone controls d h legal none = always controls d h (covered d h legal none)
+pub always_alone : (d : Disk) (h : List Event) → Legal d h → HasNoGeneration h → Inv (after d h)
+always_alone d h legal none = always d h (covered d h legal none)
 
 pub wait_alone : (d : Disk) (h : List Event) → Legal d h → HasNoGeneration h → AllWait (after d h)
-wait_alone d h legal none = all_wait (controls_of []) (after d h) (always_alone (controls_of []) d h legal none)
+wait_alone d h legal none = all_wait (after d h) (always_alone d h legal none)
 
 pub mails_wait : MailsWait
 mails_wait d h legal none = λ later before is.

@@ -1,13 +1,12 @@
 -- The members of a generation as a world keeps them.
-use Rattle.std.specs.Prelude.{◌≡◌, ℕ, List, [], ◌∷◌, ◌++◌, Bool, false, Option, Some, None, All, codes, is_none}
+use Rattle.std.specs.Prelude.{◌≡◌, ℕ, List, [], ◌∷◌, ◌++◌, Bool, false, Option, Some, None, All, is_none}
+use Rattle.std.specs.List.{AllZip}
 use Rattle.actor_names.specs.declared.member.Member.{Member}
 use Rattle.actor_names.specs.Members.{name_of, seat_of}
-use Rattle.world_events.specs.declared.event.Program.{Program}
-use Rattle.world_events.specs.declared.event.Program.TheVariants.{Cleaner, Sender, LocalSpawner, RemoteSpawner}
+use Rattle.world_events.specs.Programs.{generation, run_at}
 use Rattle.mail_world.specs.declared.actor.Actor.{Actor as Held}
 use Rattle.mail_world.specs.declared.any_machine.AnyMachine.{AnyMachine}
 use Rattle.mail_world.specs.ByKind.{Follows}
-use Rattle.mail_world.specs.Wired.{seat}
 use Rattle.mail_world.specs.Starts.{lives}
 use Rattle.world_events.specs.Starts as order
 -- what an actor finds by its pipes
@@ -15,17 +14,21 @@ pub use Rattle.world_pipes.specs.Seating.{IsFresh, IsFreshOne, AreFresh, AreRene
 -- the report of a remote program
 pub use Rattle.world_pipes.specs.Mouths.{HasReport}
 
--- a member that has just started
-pub record IsNew (x : Held) (name : List ℕ) (program : ℕ → Program) : Type 0 where
-  pub name_is : x.name ≡ name
+-- a machine of what this member runs, whenever that starts, which has done nothing yet
+abbrev pub HasBegun : AnyMachine → Member → Type 0
+HasBegun machine member = (start : ℕ) → Follows machine (run_at start member) []
+
+-- a member that has just started, at its seat
+pub record IsNew (x : Held) (member : Member) : Type 0 where
+  pub name_is : x.name ≡ name_of member
   pub ended : x.ended ≡ None
   pub owed : x.owed ≡ None
   pub status : x.status ≡ None
   pub descriptors : x.descriptors.items ≡ []
-  pub wire : x.wire ≡ seat name
+  pub wire : x.wire ≡ Some (seat_of member)
   pub slot : x.slot ≡ None
   pub entry : x.entry ≡ None
-  pub follows : (start : ℕ) → Follows x.machine (program start) []
+  pub follows : HasBegun x.machine member
 
 -- a member that starts, at its seat
 pub record IsSeatedNew (x : Held) (member : Member) (machine : AnyMachine) : Type 0 where
@@ -39,17 +42,9 @@ pub record IsSeatedNew (x : Held) (member : Member) (machine : AnyMachine) : Typ
   pub slot : x.slot ≡ None
   pub entry : x.entry ≡ None
 
--- the four of a generation, in their order
-pub record AreNew (crew : List Held) : Type 0 where
-  pub sender : Held
-  pub clean : Held
-  pub lspawn : Held
-  pub rspawn : Held
-  pub are : crew ≡ sender ∷ clean ∷ lspawn ∷ rspawn ∷ []
-  pub sender_is : IsNew sender (codes "sender") Sender
-  pub clean_is : IsNew clean (codes "clean") Cleaner
-  pub lspawn_is : IsNew lspawn (codes "lspawn") LocalSpawner
-  pub rspawn_is : IsNew rspawn (codes "rspawn") RemoteSpawner
+-- those of a generation, in their order
+abbrev pub AreNew : List Held → Type 0
+AreNew crew = AllZip IsNew crew generation
 
 -- the first of these that lives
 abbrev pub IsFirst : List Held → Option (List ℕ) → Type 0

@@ -84,7 +84,7 @@ has_idled s other = false
 
 -- Turns
 
--- the actors that an event starts, in order
+-- the actors that an event starts, in order: a generation each member, since it has a program for each
 abbrev pub started_in : Kept → List (List ℕ)
 started_in (kept.Start a program) = a ∷ []
 started_in (kept.Child a own c program) = c ∷ []

@@ -30,7 +30,7 @@ use Rattle.queue_paths.specs.Names.{Part, path}
 use Rattle.queue_paths.specs.Names.Name.{Of}
 use Rattle.queue_inject.specs.Table.{Next, has_input}
 use Rattle.queue_clean.specs.Table.{Next as CleansNext}
-use Rattle.queue_law.specs.Books.{Child as Bouncer}
+use Rattle.queue_law.specs.Entered.{Child as Bouncer}
 use Rattle.send_core.specs.Booked.{booked_at}
 use Rattle.send_core.specs.Table.{Next as SendsNext, place_after as sender_after, row_now}
 use Rattle.local_spawn.specs.Table.{Next as LspawnNext}
@@ -51,7 +51,8 @@ pub use Rattle.world_pipes.specs.Mouths.{report_text}
 -- whether an actor's event started a program
 pub use Rattle.world_events.specs.Starting.{starts_program}
 -- the injections of the books
-pub use Rattle.queue_law.specs.Books.{own_call, last_read, Injection, Books, begun, accept, linked, booked, booked_all, held_by}
+pub use Rattle.queue_law.specs.Books.{own_call, last_read, Injection, Books, begun, accept, linked, booked, held_by}
+pub use Rattle.queue_law.specs.Entered.{booked_all}
 
 -- One event. `own` is an event of the actor's own past, and the start of a child is its parent's too. `wrote` is how many
 -- bytes a failed write had written, or a failed giving had given, which no program is told. A generation is what its
@@ -78,7 +79,7 @@ abbrev pub started_by : Event → ℕ
 started_by (Start a program) = 1
 started_by (Act a own wrote) = if starts_program own.due own.came then 1 else 0
 started_by (Child parent own a program) = 1
-started_by (Generation crew) = length members
+started_by (Generation crew) = length crew
 started_by (Report slot output) = 0
 started_by (End a read ready status) = 0
 started_by (Stop a) = 0
@@ -155,14 +156,14 @@ abbrev pub booked_by : Books → List ℕ → Program → CallData → Answer �
 booked_by b a (Injector args) call answer = booked b a args call answer
 booked_by b a other call answer = b
 
--- What a sender did is entered by what came: what the reports of a taking say, a note that is synced, what it reads of a bounce file, a
--- bounce whose injector ended with 0, and a bounce file that it drops.
+-- What a sender did is entered by what came, and with the controls that it has read: what the reports of a taking say, a note that is synced, what it
+-- reads of a bounce file, a bounce whose injector ended with 0, and a bounce file that it drops. A mark and a todo command are entered whatever comes.
 abbrev pub told_by : Option Bouncer → Books → Program → List Own → ℕ → Ready → GotData → Books
 told_by child b (Sender start) past read ready came =
-    let d = sender_after None past in booked_all child (booked_at (row_now d read ready) came d) b
+    let d = sender_after None past in booked_all child d.book.controls (booked_at (row_now d read ready) came d) b
 told_by child b other past read ready came = b
 
--- What an event of an actor does to the disk, to the descriptors and to the books: a file call its effect, that and a taking what a
+-- What an event of an actor does to the disk, to the descriptors and to the books: a file call its effect, that and a taking and a giving what a
 -- sender enters, any other nothing.
 abbrev pub disk_after : Disk → ℕ → NeedData → GotData → ℕ → Disk
 disk_after d read (needs.File call) (Answered told) wrote = effect d read call told.answer wrote
@@ -175,6 +176,7 @@ holder_after holder a due came = holder
 abbrev pub books_after : Option Bouncer → Books → List ℕ → Program → List Own → ℕ → Ready → NeedData → GotData → Books
 books_after child b a program past read ready (needs.File call) (Answered told) = told_by child (booked_by b a program call told.answer) program past read ready (Answered told)
 books_after child b a program past read ready (needs.Take port) came = told_by child b program past read ready came
+books_after child b a program past read ready (needs.Give port bytes) came = told_by child b program past read ready came
 books_after child b a program past read ready due came = b
 
 -- the state after an event of an actor, which is the newest of its own past then
@@ -242,7 +244,7 @@ slot_by due = 0
 abbrev pub bears : State → List ℕ → Own → List ℕ → Program → State
 bears s parent own a program = begins s a program (with_child s.pipework parent (slot_by own.due) a)
 
--- the actors when each of these programs has started under its name
+-- The actors when each of these programs has started under its name. One that may start has all of them, so all members' pipes are new with it.
 abbrev pub with_crew : List (List ℕ) → List Program → (List ℕ → Option Actor) → List ℕ → Option Actor
 with_crew (a ∷ names) (program ∷ crew) actors = with_crew names crew (put_at actors a (Some (newborn program)))
 with_crew names crew actors = actors
@@ -297,10 +299,10 @@ pub record MayRead (s : State) (a : List ℕ) (x : Actor) (read : ℕ) : Type 0 
 abbrev pub MayRun : Program → Type 0
 MayRun program = StartsAlone (class_of program)
 
--- a start takes a name that no actor had
+-- a start takes a name that no actor had, for a program that starts alone
 pub record MayStart (s : State) (a : List ℕ) (program : Program) : Type 0 where
   pub new : s.actors a ≡ None
-  pub runs : MayRun program
+  pub runs : StartsAlone (class_of program)
 
 -- a call is an append
 abbrev pub IsAppend : CallData → Answer → Type 0
@@ -459,7 +461,7 @@ AreRunBy others crew = ⊥
 -- A generation starts only when no member of the old one lives, and if no program that starts alone had one of their names.
 pub record MayBegin (s : State) (crew : List Program) : Type 0 where
   pub over : (a : List ℕ) (x : Actor) → Contains members a → s.actors a ≡ Some x → x.life ≢ Alive
-  pub apart : (a : List ℕ) (x : Actor) → Contains members a → s.actors a ≡ Some x → MayRun x.program → ⊥
+  pub apart : (a : List ℕ) (x : Actor) → Contains members a → s.actors a ≡ Some x → StartsAlone (class_of x.program) → ⊥
   pub kinds : AreRunBy generation crew
 
 -- a report comes only for a slot in which the living remote spawner has a program without one

@@ -42,3 +42,5 @@ pub mod Anew
 pub mod Moves
 -- the mails of a world, all of which live
 pub mod LivingMails
+-- what an actor that starts alone with its whole input may take and give
+pub mod Lone

@@ -1,6 +1,6 @@
 // The members of a generation, and their start.
 ghost use Rattle.std.specs.Prelude.{IfOk};
-ghost use Rattle.mail_world.specs.Crew.{IsFirst, IsSeatedNew, AreNew};
+ghost use Rattle.mail_world.specs.Crew.{IsFirst, IsSeatedNew, AreNew, HasBegun};
 
 use crate::ActorName;
 use crate::actor::Actor;
@@ -26,19 +26,40 @@ pub fn first_alive(crew: &[Actor]) -> Option<ActorName>
 }
 
 /// The members of a new generation, in their order.
+#[tactic(auto, using(crate::proofs::NewCrew::one_more, crate::proofs::NewCrew::seat_filled, crate::proofs::NewCrew::seated_new))]
 pub fn members(alloc: Global) -> Result<Vec<Actor>, Memory>
     ensures { IfOk result (λ crew. AreNew crew.items) }
 {
-    let sender = OnHeap::new(alloc, Sender::new(alloc, None)?)?;
-    let clean = OnHeap::new(alloc, Cleaner::new())?;
-    let lspawn = OnHeap::new(alloc, LocalSpawn::new(alloc)?)?;
-    let rspawn = OnHeap::new(alloc, RemoteSpawn::new(alloc)?)?;
     let mut crew = Vec::with_capacity(alloc, Member::COUNT)?;
-    crew.push(seated(alloc, Member::Sender, AnyMachine::Send(sender)))?;
-    crew.push(seated(alloc, Member::Cleaner, AnyMachine::Clean(clean)))?;
-    crew.push(seated(alloc, Member::LocalSpawner, AnyMachine::Local(lspawn)))?;
-    crew.push(seated(alloc, Member::RemoteSpawner, AnyMachine::Remote(rspawn)))?;
+    for seat in 0..Member::COUNT {
+        let member = Member::at(seat).unwrap();
+        crew.push(seated(alloc, member, machine_of(alloc, member)?))?;
+    }
     Ok(crew)
+}
+
+/// The machine of what a member runs, which has done nothing yet. The error: out of memory.
+fn machine_of(alloc: Global, member: Member) -> Result<AnyMachine, Memory>
+    ensures { IfOk result (λ machine. HasBegun machine member) }
+{
+    match member {
+        Member::Sender => {
+            let sender = OnHeap::new(alloc, Sender::new(alloc, None)?)?;
+            return Ok(AnyMachine::Send(sender));
+        }
+        Member::Cleaner => {
+            let cleaner = OnHeap::new(alloc, Cleaner::new())?;
+            return Ok(AnyMachine::Clean(cleaner));
+        }
+        Member::LocalSpawner => {
+            let spawner = OnHeap::new(alloc, LocalSpawn::new(alloc)?)?;
+            return Ok(AnyMachine::Local(spawner));
+        }
+        Member::RemoteSpawner => {
+            let spawner = OnHeap::new(alloc, RemoteSpawn::new(alloc)?)?;
+            return Ok(AnyMachine::Remote(spawner));
+        }
+    }
 }
 
 /// A member of a new generation with this machine. Takes no memory.

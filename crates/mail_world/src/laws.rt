@@ -1,6 +1,7 @@
 //! Laws of histories. Each is the contract of a function that does nothing.
 ghost use Rattle.mail_world.specs.Books.{AcceptedAreBooked, BooksAreTheModels};
 ghost use Rattle.mail_world.specs.Anew.{HistoriesBeginAnew};
+ghost use Rattle.mail_world.specs.Lone.{LonesHaveTheirInput, WhatWasGivenStays};
 ghost use Rattle.mail_world.specs.Waiting.{MailsWait};
 ghost use Rattle.mail_world.specs.Untouched.{EventsLeave};
 
@@ -30,4 +31,15 @@ pub fn events_leave()
 /// might happen when it did all the same.
 pub fn histories_begin_anew()
     ensures { HistoriesBeginAnew }
+{}
+
+/// The input of an actor that starts alone with all of it stays whole until the machine stops: what it took, and then what lies in its pipe,
+/// which is shut. If only what a lone program needs is due to it, its own events reach no other pipe.
+pub fn lones_have_their_input()
+    ensures { LonesHaveTheirInput }
+{}
+
+/// What an actor gave that started alone stays, by its own past: its end, a stop and a machine stop take nothing back.
+pub fn what_was_given_stays()
+    ensures { WhatWasGivenStays }
 {}

@@ -208,7 +208,7 @@ impl<D: CallFs> World<D> {
         Ok(())
     }
 
-    /// Starts a generation at the present moment: the sender, the cleaner, the local and the remote spawner, in this order. `Alive`
+    /// Starts a generation at the present moment, its members in their order. `Alive`
     /// exactly if a member of the one before lives, with the first in this order. The room for their stops is taken too.
     pub fn start_generation(&mut self, alloc: Global) -> Result<(), WorldError>
         ensures started { OnOk result (self.new ≡ generation_world self.old) }
@@ -242,10 +242,11 @@ impl<D: CallFs> World<D> {
         self.actors = actors;
         self.crew = Member::COUNT;
         renew(&mut self.mouths, fresh);
-        self.history.put(Event::Generation {
+        let event = Event::Generation {
             start: self.present,
-        });
-        self.next_pid = self.next_pid.saturating_add(Member::COUNT as u32);
+        };
+        self.next_pid = self.next_pid.saturating_add(started_by(&event));
+        self.history.put(event);
         self.starts.add_members();
         Ok(())
     }

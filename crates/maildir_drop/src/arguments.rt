@@ -3,7 +3,7 @@
 use mail_bytes::ByteText;
 
 /// What a drop is started with.
-#[derive(Debug, Drop)]
+#[derive(Drop)]
 pub struct Arguments {
     /// The path of the maildir, as it stands before `tmp/` and `new/`.
     pub dir: ByteText,

@@ -8,7 +8,7 @@ use mail_bytes::{ByteText, Memory, dec};
 use std::alloc::Global;
 
 /// A name of a drop in both directories.
-#[derive(Debug, Drop)]
+#[derive(Drop)]
 pub struct NamePair {
     /// In `tmp`.
     pub tmp: ByteText,
@@ -17,7 +17,7 @@ pub struct NamePair {
 }
 
 /// The names that a drop tries, one after the other.
-#[derive(Debug, Drop)]
+#[derive(Drop)]
 pub struct DropNames {
     /// The first.
     pub first: NamePair,

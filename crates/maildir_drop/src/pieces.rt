@@ -11,7 +11,7 @@ use std::mem::replace;
 
 /// What of a message is still to be written, in pieces of 8192 bytes, the last one shorter; contracts see its bytes. No
 /// growth of it is larger than a piece. Once all were written they are let go.
-#[derive(Debug, Drop)]
+#[derive(Drop)]
 pub struct Pieces {
     pieces: Vec<ByteText>,
     next: usize,

@@ -78,10 +78,6 @@ pub mod Exist
 pub mod Controls
 -- nobody changes a control file
 pub mod ControlsStay
--- a sender past the control files stays past them
-pub mod PastControl
--- what a sender has read of the control files
-pub mod ControlsRead
 -- what rows do to the requests that lie ready
 pub mod AskingRows
 -- the requests that lie ready

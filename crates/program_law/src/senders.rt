@@ -58,10 +58,9 @@
 //! - Each event of a sender leads from a row at which it has what it relies on, and all holds that holds of the
 //!   queue, to one of which both are true again. That is each file call that is due, with any answer, each giving,
 //!   whether it succeeds or fails, and each taking. A call concerns at most one number, which no injector touches
-//!   any more; a taking is a chain of such steps. It is said of a sender that has read control files which say what
-//!   they are taken to say, and of a cleaner whose `+` to `todo/N` comes of a number that is preprocessed. So does
+//!   any more; a taking and a giving is a chain of such steps. It is said of a cleaner whose `+` to `todo/N` comes of a number that is preprocessed. So does
 //!   what another actor does that leaves alone what is preprocessed and the number at work, and time: the laws
-//!   `senders_keep` (by `IsTold`, `ReadsControls`), `senders_are_left_alone` (by `LeavesRow`).
+//!   `senders_keep` (by `IsTold`), `senders_are_left_alone` (by `LeavesRow`).
 //! - A call of an injector, a step of a program that is none of the queue's, and a call of a cleaner whose number
 //!   rests as its command needs leave alone what is preprocessed. So does a step that concerns no number: the law
 //!   `others_spare` (by `SparesSorted`).
@@ -69,10 +68,8 @@
 //!   `controls_exist` (by `AreControls`).
 //! - If each control file was there at the beginning and is on the disk, they stay as they are over a machine stop.
 //!   So they do by each step that leaves what isn't the queue's and what was there at the beginning, also by one
-//!   that takes a name in `pid` away. One that a name in `pid` leads to as well is no exception. A sender reads
-//!   them as they are, whatever is answered: when it has read all twelve, and none of them is bad, its controls are
-//!   what they say. What others do leaves what it has read so far: the laws `controls_stay` (by `AreOld`,
-//!   `LeavesControls`), `controls_are_read` (by `ControlStands`).
+//!   that takes a name in `pid` away. One that a name in `pid` leads to as well is no exception: the law
+//!   `controls_stay` (by `AreOld`, `LeavesControls`).
 //! - The requests that lie ready are those of the attempts still to be given, each with the sender of its message's
 //!   injection; each message that is due is known. So it is at a sender's begin, after each event of it, after a
 //!   recipient is entered, and after a step of another actor that leaves alone what is preprocessed. So each giving
@@ -82,7 +79,7 @@
 ghost use Rattle.program_law.specs.Sender.Asking.{RequestsAreTexts, TextsKeep};
 ghost use Rattle.program_law.specs.Sender.Commands.{CleanersGoOn, WaitingRestsOn};
 ghost use Rattle.program_law.specs.Sender.Control.{ControlsExist};
-ghost use Rattle.program_law.specs.Sender.ControlFiles.{ControlsAreRead, ControlsStay};
+ghost use Rattle.program_law.specs.Sender.ControlFiles.{ControlsStay};
 ghost use Rattle.program_law.specs.Sender.Laws.{SendersArrive, SendersBegin, SortedIsLeftAlone};
 ghost use Rattle.program_law.specs.Sender.LeftAlone.{SendersAreLeftAlone};
 ghost use Rattle.program_law.specs.Sender.Marking.{MarksKeep};
@@ -224,8 +221,7 @@ pub fn points_are_left_alone()
 {}
 
 /// Each event of a sender keeps what holds of the queue and what the sender relies on: a file call that is due, with any answer; what it
-/// gives, whether that succeeds or fails; and what it takes. So this holds at each point of a run, if control files say what they
-/// are taken to say, and `+` to `todo/N` comes of a number that is preprocessed.
+/// gives, whether that succeeds or fails; and what it takes. So this holds at each point of a run, if `+` to `todo/N` comes of a number that is preprocessed.
 pub fn senders_keep()
     ensures { SendersKeep }
 {}
@@ -250,11 +246,6 @@ pub fn others_spare()
 /// No program of the queue changes a control file, and none is lost in a machine stop.
 pub fn controls_stay()
     ensures { ControlsStay }
-{}
-
-/// A sender reads the control files as they are: when it has read them all, it has the controls that they say.
-pub fn controls_are_read()
-    ensures { ControlsAreRead }
 {}
 
 /// The requests that lie ready are those of the attempts still to be given, with the sender of the message as it is now: at first, after

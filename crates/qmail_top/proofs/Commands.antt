@@ -8,10 +8,7 @@ use Rattle.qmail_top.specs.declared.play_command.Failure.{Failure}
 use Rattle.qmail_top.specs.declared.play_command.Failure.TheVariants.{Memory, Output, Input, Malformed}
 use Rattle.script_lines.specs.Lines.{IsScript, IsBadLine, IsRefused, most_bytes}
 use Rattle.mem_fs.proofs.InTurn.{told_weaker}
-use Rattle.mail_world.specs.History.{Legal}
-use Rattle.program_law.proofs.Sender.Exist.{controls_exist}
-use Rattle.world_law.proofs.Alone.{stays_safe}
-use Rattle.world_law.proofs.Promise.{headline}
+use Rattle.world_law.proofs.Led.{each_safe, safe_by_disk}
 use Rattle.qmail_top.specs.SafePlays.{IsSafePrefixAtMost, PrintsSafely, WorksSafely}
 use Rattle.qmail_top.specs.Command.{Counted, HasReason, status_of, IsReading, IsChecked}
 use Rattle.scenario.specs.Deeds.{history_of}
@@ -96,15 +93,7 @@ completes why None source sink cause checked = tt
 -- the history of a script is safe
 pub safely : (script text : List ℕ) → Prints script text → PrintsSafely script text
 safely script text prints =
-    let played = prints.played in
-    let has = controls_exist played.disk in
-    record {
-      prints = prints;
-      controls = has.0;
-      has = has.1;
-      safe = λ later before is. headline has.0 played.disk later before has.1 (subst (Legal played.disk) (sym is) played.legal);
-      alone = stays_safe played.disk (history_of played.deeds) played.legal;
-    }
+    let played = prints.played in record { prints = prints; safe = safe_by_disk played.disk (history_of played.deeds) played.legal }
 
 pub all_safely : (done : Type 0) (left old new : Option (List ℕ))
     → OnTold left (λ script. Meets old new (λ before after. (text : List ℕ) × Prints script text × (after ≡ before ++ text)))
@@ -116,13 +105,10 @@ all_safely done (Some script) old new prints = λ is. told_weaker old new (λ be
 pub works_safely : (script text : List ℕ) (prints : PrintsWorked script text) → list_all is_quiet (history_of (deeds_of prints.content.opening prints.content.lines text prints.worked)) ≡ true → WorksSafely script text
 works_safely script text prints quiet =
     let p = prints.worked in
-    let has = controls_exist p.disk in
     record {
       prints = prints;
       quiet = quiet;
-      controls = has.0;
-      has = has.1;
-      safe = λ later before is. headline has.0 p.disk later before has.1 (subst (Legal p.disk) (sym is) p.end.legal);
+      safe = each_safe p.disk (history_of (deeds_of prints.content.opening prints.content.lines text prints.worked)) p.end.legal;
     }
 
 prefix_safely : (script text : List ℕ) → IsPrefixAtMost script text → IsSafePrefixAtMost script text

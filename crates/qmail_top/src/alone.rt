@@ -139,9 +139,8 @@ pub fn qmail_alone<
         → ¬ (Rose (M.faults message.old) (M.faults message.new)) → ¬ (Rose (O.faults out.old) (O.faults out.new))
         → (result ≡ DONE) ⊎ (result ≡ MEMORY)) }
 
-    // What `play` prints: the text of the script, whose history is legal, and as promised at each prefix by the controls of its
-    // disk; or a prefix of that text; or the number of the first bad line; and nothing before the script was read to its
-    // end, or is too long.
+    // What `play` prints: the text of the script, whose history is legal, and as promised at each prefix; or a prefix of that
+    // text; or the number of the first bad line; and nothing before the script was read to its end, or is too long.
     ensures prints { IsPlay words.now → OnTold (M.left message.old) (λ script. result ≡ DONE
         → Meets (O.taken out.old) (O.taken out.new)
         (λ before after. (text : List ℕ) × PrintsSafely script text × (after ≡ before ++ text))) }

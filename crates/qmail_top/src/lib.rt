@@ -29,9 +29,8 @@
 //!   `HasSent`).
 //! - The words by which these start this same program are the command that is meant: `children_are_commands`.
 //! - `play`: with status 0 the output took exactly what the script prints, and the script was read to its end. The
-//!   history that it played is its own, from a disk that has controls, legal, and as promised at each prefix by
-//!   them. If no generation was started in it, it is safe whatever controls are meant, with each accepted message
-//!   in todo. With 91 the number of the first bad line, or a prefix of that if the output failed; with any other
+//!   history that it played is its own, legal, and as promised at each prefix. If no generation was started in it,
+//!   each accepted message waits in todo. With 91 the number of the first bad line, or a prefix of that if the output failed; with any other
 //!   status nothing, or a prefix of what the script prints. And nothing before the source has answered that it has
 //!   ended, if it tells that, or the script was too long: `qmail`: `prints`, `ended`, `told_end`, `begins`,
 //!   `refuses`, `reached`, `unended`. With status 0 fewer than 2^63 deeds were done, so that each new file's number is below

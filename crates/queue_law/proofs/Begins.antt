@@ -1,6 +1,5 @@
 -- When a number rests.
 use Rattle.std.proofs.Common.{◌≡◌, inl, inr, ℕ, ◌+◌, ◌<◌, ◌≤◌, Some, None, sym, subst, arith}
-use Rattle.address_rules.specs.declared.controls.Controls.{Controls}
 use Rattle.queue_paths.specs.Names.Name.{Of}
 use Rattle.queue_paths.specs.Names.Part.{Mess, Info}
 use Rattle.queue_paths.specs.Parts.{in_todo}
@@ -10,16 +9,16 @@ use Rattle.queue_law.specs.Ready.{IsSpent}
 use Rattle.queue_law.specs.Rests.{IsOverdue, IsClosed, RestsAs}
 use Rattle.queue_law.specs.Begins.{RestsBegin}
 
-queued_phase : (controls : Controls) (w : About) (y : Entry) → in_todo w.parts ≡ Some y → Phase controls w → IsQueued controls w
-queued_phase controls w y there (Free h) = let none = h.no_todo in absurd (cc)
-queued_phase controls w y there (Queued h) = h
-queued_phase controls w y there (Sorted h) = let none = h.no_todo in absurd (cc)
-queued_phase controls w y there (Finished h) = let none = h.no_todo in absurd (cc)
+queued_phase : (w : About) (y : Entry) → in_todo w.parts ≡ Some y → Phase w → IsQueued w
+queued_phase w y there (Free h) = let none = h.no_todo in absurd (cc)
+queued_phase w y there (Queued h) = h
+queued_phase w y there (Sorted h) = let none = h.no_todo in absurd (cc)
+queued_phase w y there (Finished h) = let none = h.no_todo in absurd (cc)
 
-begins_queued : (controls : Controls) (now : ℕ) (q : Queue) (n : ℕ) (y : Entry) → Sound controls q → in_todo (about q n).parts ≡ Some y
-    → RestsAs now q n (IsQueued controls)
-begins_queued controls now q n y G there =
-    let h = queued_phase controls (about q n) y there (G.fine n) in
+begins_queued : (now : ℕ) (q : Queue) (n : ℕ) (y : Entry) → Sound q → in_todo (about q n).parts ≡ Some y
+    → RestsAs now q n IsQueued
+begins_queued now q n y G there =
+    let h = queued_phase (about q n) y there (G.fine n) in
     record {
       closed = record {
         mess = h.taken.mess;
@@ -29,9 +28,9 @@ begins_queued controls now q n y G there =
       rest = h;
     }
 
-begins_old : (controls : Controls) (now : ℕ) (q : Queue) (n : ℕ) (y : Entry) → Sound controls q → look q (Of Mess n) ≡ Some y
+begins_old : (now : ℕ) (q : Queue) (n : ℕ) (y : Entry) → Sound q → look q (Of Mess n) ≡ Some y
     → y.file.moment + 129600 < now → IsClosed now q n
-begins_old controls now q n y G there old =
+begins_old now q n y G there old =
     let right = G.suits (Of Mess n) y there in
     let number = right.0.0 in
     let args = right.0.1.1 in
@@ -44,15 +43,15 @@ begins_old controls now q n y G there old =
       shut = inl (subst (λ k. IsOverdue now (q.role k)) number (subst (IsOverdue now) (sym role) over));
     }
 
-spent_phase : (controls : Controls) (w : About) → in_todo w.parts ≡ None → w.parts Info ≡ None → Phase controls w → IsSpent w
-spent_phase controls w todo info (Free h) = record { unsorted = h.unsorted; no_todo = todo }
-spent_phase controls w todo info (Queued h) = let there = h.todo_there in absurd (cc)
-spent_phase controls w todo info (Sorted h) = let there = h.info_there in absurd (cc)
-spent_phase controls w todo info (Finished h) = record { unsorted = h.unsorted; no_todo = todo }
+spent_phase : (w : About) → in_todo w.parts ≡ None → w.parts Info ≡ None → Phase w → IsSpent w
+spent_phase w todo info (Free h) = record { unsorted = h.unsorted; no_todo = todo }
+spent_phase w todo info (Queued h) = let there = h.todo_there in absurd (cc)
+spent_phase w todo info (Sorted h) = let there = h.info_there in absurd (cc)
+spent_phase w todo info (Finished h) = record { unsorted = h.unsorted; no_todo = todo }
 
 pub rests_begin : RestsBegin
 rests_begin = record {
   queued = begins_queued;
   old = begins_old;
-  spent = λ controls now q n G closed todo info. record { closed = closed; rest = spent_phase controls (about q n) todo info (G.fine n) };
+  spent = λ now q n G closed todo info. record { closed = closed; rest = spent_phase (about q n) todo info (G.fine n) };
 }

@@ -37,7 +37,7 @@ use Rattle.queue_paths.proofs.Parts.{intd_far, todo_far, intd_alone, todo_alone,
 use Rattle.queue_law.proofs.Waits.{intd_missed, todo_missed}
 use Rattle.send_known.specs.declared.channel.Channel.{Channel}
 use Rattle.send_known.specs.declared.channel.Channel.TheVariants as channel
-use Rattle.queue_law.specs.Books.{Injection}
+use Rattle.queue_law.specs.Books.{Injection, lane_in}
 use Rattle.queue_law.specs.Routes.{lane_part, lane_text, channel_of, Recipient, spot_of}
 use Rattle.queue_law.specs.Numbers.{Entry, entry, Role, Queue, look, IsPidRole, IsRecent, About, about, file_in, Phase, LaneState, IsPreprocessed, Sound}
 use Rattle.queue_law.specs.Numbers.Role.{AsMessage, AsPart, AsDrop, AsOld}
@@ -57,72 +57,73 @@ use Rattle.queue_law.proofs.Tests.{off, text_cases}
 use Rattle.queue_law.proofs.Looks.{find_same, find_some, find_none, found}
 use Rattle.queue_law.proofs.Frame.{about_same, still_there}
 use Rattle.queue_law.proofs.Closed.{gone, part_other, part_gone, part_lost, part_there, part_suits, part_outside, closed_on, taken_same, queued_same, part_elsewhere, leads_on}
+use Rattle.queue_law.proofs.Lines.{fresh_notes, fresh_unreturned}
 use Rattle.queue_law.proofs.Deeds.{named_other}
 use Rattle.queue_law.proofs.Step.{nothing_elsewhere}
 use Rattle.queue_law.proofs.Rests.{closed_far}
 
 -- What rests, in another state
 
-pub rests_frame : (controls : Controls) (now m : ℕ) (q r : Queue) (row : Row)
-    → ((n : ℕ) → number_at row ≡ Some n → IsClosed now q n → IsClosed m r n × (about r n ≡ about q n)) → Rests controls now q row → Rests controls m r row
-rests_frame controls now m q r (at.UnlinkIntd it) keep h =
+pub rests_frame : (now m : ℕ) (q r : Queue) (row : Row)
+    → ((n : ℕ) → number_at row ≡ Some n → IsClosed now q n → IsClosed m r n × (about r n ≡ about q n)) → Rests now q row → Rests m r row
+rests_frame now m q r (at.UnlinkIntd it) keep h =
     let w = keep (message_of it) refl h.closed in
-    record { closed = w.0; rest = subst (Needs controls it) (sym w.1) h.rest }
-rests_frame controls now m q r (at.UnlinkSecond it) keep h =
+    record { closed = w.0; rest = subst (Needs it) (sym w.1) h.rest }
+rests_frame now m q r (at.UnlinkSecond it) keep h =
     let w = keep (message_of it) refl h.closed in
-    record { closed = w.0; rest = subst (λ v. Needs controls it v × (in_intd v.parts ≡ None)) (sym w.1) h.rest }
-rests_frame controls now m q r row keep h = tt
+    record { closed = w.0; rest = subst (λ v. Needs it v × (in_intd v.parts ≡ None)) (sym w.1) h.rest }
+rests_frame now m q r row keep h = tt
 
-pub stands_frame : (controls : Controls) (now m : ℕ) (q r : Queue) (row : Row) (p : Place)
+pub stands_frame : (now m : ℕ) (q r : Queue) (row : Row) (p : Place)
     → ((n : ℕ) → (number_at row ≡ Some n) ⊎ (number_at (waiting p) ≡ Some n) → IsClosed now q n → IsClosed m r n × (about r n ≡ about q n))
-    → ((x : Option Name) (moment : ℕ) → IsJudged q x moment → IsJudged r x moment) → StandsAt controls now q row p → StandsAt controls m r row p
-stands_frame controls now m q r at.FindPid p keep judged h = rests_frame controls now m q r (waiting p) (λ n is. keep n (inr is)) h
-stands_frame controls now m q r at.StatPid p keep judged h = (rests_frame controls now m q r (waiting p) (λ n is. keep n (inr is)) h.0, h.1)
-stands_frame controls now m q r (at.JudgePid moment) p keep judged h =
-    (rests_frame controls now m q r (waiting p) (λ n is. keep n (inr is)) h.0, judged (parse (pid_path p.name)) moment h.1, h.2)
-stands_frame controls now m q r at.TakeInput p keep judged h = tt
-stands_frame controls now m q r (at.UnlinkIntd it) p keep judged h =
-    rests_frame controls now m q r (at.UnlinkIntd it) (λ n is. keep n (inl is)) h
-stands_frame controls now m q r (at.UnlinkSecond it) p keep judged h =
-    rests_frame controls now m q r (at.UnlinkSecond it) (λ n is. keep n (inl is)) h
-stands_frame controls now m q r (at.Answer reply) p keep judged h = tt
-stands_frame controls now m q r (at.Ended status) p keep judged h = tt
+    → ((x : Option Name) (moment : ℕ) → IsJudged q x moment → IsJudged r x moment) → StandsAt now q row p → StandsAt m r row p
+stands_frame now m q r at.FindPid p keep judged h = rests_frame now m q r (waiting p) (λ n is. keep n (inr is)) h
+stands_frame now m q r at.StatPid p keep judged h = (rests_frame now m q r (waiting p) (λ n is. keep n (inr is)) h.0, h.1)
+stands_frame now m q r (at.JudgePid moment) p keep judged h =
+    (rests_frame now m q r (waiting p) (λ n is. keep n (inr is)) h.0, judged (parse (pid_path p.name)) moment h.1, h.2)
+stands_frame now m q r at.TakeInput p keep judged h = tt
+stands_frame now m q r (at.UnlinkIntd it) p keep judged h =
+    rests_frame now m q r (at.UnlinkIntd it) (λ n is. keep n (inl is)) h
+stands_frame now m q r (at.UnlinkSecond it) p keep judged h =
+    rests_frame now m q r (at.UnlinkSecond it) (λ n is. keep n (inl is)) h
+stands_frame now m q r (at.Answer reply) p keep judged h = tt
+stands_frame now m q r (at.Ended status) p keep judged h = tt
 
 -- the next command, as it is taken up
-module _ (controls : Controls) (now : ℕ) (q : Queue) where
-  first_stands : (c : Option Command) (p : Place) → Rests controls now q (first_row c) → StandsAt controls now q (first_row c) p
+module _ (now : ℕ) (q : Queue) where
+  first_stands : (c : Option Command) (p : Place) → Rests now q (first_row c) → StandsAt now q (first_row c) p
   first_stands None p h = tt
   first_stands (Some it) p h = h
 
-  taken_stands : (o : Option (List ℕ)) (p : Place) → Rests controls now q (row_of o) → CleanerStands controls now q (take_up o p)
+  taken_stands : (o : Option (List ℕ)) (p : Place) → Rests now q (row_of o) → CleanerStands now q (take_up o p)
   taken_stands None p h = tt
   taken_stands (Some text) p h = first_stands (command_of text) (take_up (Some text) p) h
 
-  pub next_stands : (p : Place) → Rests controls now q (waiting p) → CleanerStands controls now q (next_command p)
+  pub next_stands : (p : Place) → Rests now q (waiting p) → CleanerStands now q (next_command p)
   next_stands p h = taken_stands (slice_get (commands p.taken) p.begun) p h
 
 -- What holds of a number when others of its names went
 
-synced_same : (w v : About) (part : Part) (text : List ℕ) → v.parts part ≡ w.parts part → HasSynced w part text → HasSynced v part text
+pub synced_same : (w v : About) (part : Part) (text : List ℕ) → v.parts part ≡ w.parts part → HasSynced w part text → HasSynced v part text
 synced_same w v part text same h = record { file = h.file; there = same ∙ h.there; synced = h.synced }
 
-made_same : (w v : About) (part : Part) (text : List ℕ) → v.parts part ≡ w.parts part → IsMade w part text → IsMade v part text
+pub made_same : (w v : About) (part : Part) (text : List ℕ) → v.parts part ≡ w.parts part → IsMade w part text → IsMade v part text
 made_same w v part text same (NotNeeded none absent) = NotNeeded none (same ∙ absent)
 made_same w v part text same (IsThere h) = IsThere (synced_same w v part text same h)
 
 -- a number of which nothing is wanted stays in its phase
-spent_phase : (controls : Controls) (w v : About) → v.living ≡ w.living → ((part : Part) → w.parts part ≡ None → v.parts part ≡ None)
+spent_phase : (w v : About) → v.living ≡ w.living → ((part : Part) → w.parts part ≡ None → v.parts part ≡ None)
     → ((part : Part) (y : Entry) → v.parts part ≡ Some y → w.parts part ≡ Some y) → (v.parts Mess ≡ None → in_intd v.parts ≡ None)
-    → IsSpent w → Phase controls w → Phase controls v
-spent_phase controls w v living lost there below h (Free f) = Free (record {
+    → IsSpent w → Phase w → Phase v
+spent_phase w v living lost there below h (Free f) = Free (record {
   unsorted = λ part later. lost part (f.unsorted part later);
   not_accepted = λ i lives t. f.not_accepted i (sym living ∙ lives) t;
   no_todo = todo_out w.parts v.parts (λ part is. lost part) f.no_todo;
   intd_below = below;
 })
-spent_phase controls w v living lost there below h (Queued f) = let s = f.todo_there in let t = h.no_todo in absurd (cc)
-spent_phase controls w v living lost there below h (Sorted f) = let s = f.info_there in let t = h.unsorted Info refl in absurd (cc)
-spent_phase controls w v living lost there below h (Finished f) = Finished (record {
+spent_phase w v living lost there below h (Queued f) = let s = f.todo_there in let t = h.no_todo in absurd (cc)
+spent_phase w v living lost there below h (Sorted f) = let s = f.info_there in let t = h.unsorted Info refl in absurd (cc)
+spent_phase w v living lost there below h (Finished f) = Finished (record {
   injection = f.injection;
   lives = living ∙ f.lives;
   accepted = f.accepted;
@@ -135,8 +136,8 @@ spent_phase controls w v living lost there below h (Finished f) = Finished (reco
 
 -- A channel file as it is made
 
-unmarked : (controls : Controls) (i : Injection) (ch : Channel) (f : File) → IsSynced f (lane_text controls i.args ch) → AllMarked controls i ch f
-unmarked controls i ch f h = record {
+unmarked : (i : Injection) (ch : Channel) (f : File) → IsSynced f (lane_in i ch) → AllMarked i ch f
+unmarked i ch f h = record {
   present = record { long = ap length h.holds; each = λ k lt. inl (ap (λ (t : List ℕ). slice_get t k) h.holds) };
   synced = record { long = ap length h.all; each = λ k lt. inl (ap (λ (t : List ℕ). slice_get t k) h.all) };
   since = λ place value among. absurd (subst (λ (places : List (ℕ × ℕ)). Among (place, value) places) h.none_given among);
@@ -174,10 +175,10 @@ no_records controls args channel.Remote none r is =
     let w = is_remote (route_of controls r.address) is in
     has_record (λ x. remote_of (route_of controls x)) r.earlier r.address r.later w.0 w.1 (subst (λ rs. channel_text (remotes_of controls rs) ≡ []) r.split none)
 
-lane_state : (controls : Controls) (w v : About) (i : Injection) (ch : Channel) → v.parts (lane_part ch) ≡ w.parts (lane_part ch)
-    → IsMade w (lane_part ch) (lane_text controls i.args ch) → LaneState controls v i ch
-lane_state controls w v i ch same (NotNeeded none absent) = LaneGone (same ∙ absent) (λ r is. absurd (no_records controls i.args ch none r is))
-lane_state controls w v i ch same (IsThere h) = LaneThere h.file (same ∙ h.there) (unmarked controls i ch h.file.file h.synced)
+lane_state : (w v : About) (i : Injection) (ch : Channel) → v.parts (lane_part ch) ≡ w.parts (lane_part ch)
+    → IsMade w (lane_part ch) (lane_in i ch) → LaneState v i ch
+lane_state w v i ch same (NotNeeded none absent) = LaneGone (same ∙ absent) (λ r is. absurd (no_records i.ledger.routes i.args ch none r is))
+lane_state w v i ch same (IsThere h) = LaneThere h.file (same ∙ h.there) (unmarked i ch h.file.file h.synced)
 
 some_none : {A : Type 0} (o : Option A) → IsSome o → o ≡ None → ⊥
 some_none None some none = off some
@@ -202,10 +203,10 @@ lane_far : (ch : Channel) → (lane_part ch ≢ Intd) × (lane_part ch ≢ Todo)
 lane_far channel.Local = ((λ s. cc), (λ s. cc))
 lane_far channel.Remote = ((λ s. cc), (λ s. cc))
 
-module _ (controls : Controls) (now : ℕ) (a : List ℕ) (q : Queue) (G : Sound controls q) where
+module _ (now : ℕ) (a : List ℕ) (q : Queue) (G : Sound q) where
   -- nothing changed
-  still : (row : Row) (next : Place) → CleanerStands controls now q next → ((n : ℕ) → row ≡ at.UnlinkSecond (command.Todo n) → next.row ≡ at.Answer Removed → ⊥)
-      → CleanerLeads controls now a q q row next
+  still : (row : Row) (next : Place) → CleanerStands now q next → ((n : ℕ) → row ≡ at.UnlinkSecond (command.Todo n) → next.row ≡ at.Answer Removed → ⊥)
+      → CleanerLeads now a q q row next
   still row next h never = record {
     sound = G;
     stands = h;
@@ -220,16 +221,16 @@ module _ (controls : Controls) (now : ℕ) (a : List ℕ) (q : Queue) (G : Sound
   }
 
   -- a part of a closed number goes
-  part_leads : (n : ℕ) (part : Part) (row : Row) (next : Place) → IsClosed now q n → number_at row ≡ Some n → CleanerStands controls now (gone q n part) next
-      → Phase controls (about (gone q n part) n)
-      → ((k : ℕ) → row ≡ at.UnlinkSecond (command.Todo k) → next.row ≡ at.Answer Removed → RestsAs now (gone q n part) k (IsPreprocessed controls))
-      → CleanerLeads controls now a q (gone q n part) row next
+  part_leads : (n : ℕ) (part : Part) (row : Row) (next : Place) → IsClosed now q n → number_at row ≡ Some n → CleanerStands now (gone q n part) next
+      → Phase (about (gone q n part) n)
+      → ((k : ℕ) → row ≡ at.UnlinkSecond (command.Todo k) → next.row ≡ at.Answer Removed → RestsAs now (gone q n part) k IsPreprocessed)
+      → CleanerLeads now a q (gone q n part) row next
   part_leads n part row next c is h fine done =
       let r = gone q n part in
       let E = part_elsewhere now a q G.suits n c part in
       let out = part_outside q n part in
       let old : LeavesOld q r = record { files = λ _ _ _ _. refl; roles = λ _ _ _. refl } in
-      let L = leads_on controls now a q r G n E (part_suits q G.suits n part) fine G.over out old in
+      let L = leads_on now a q r G n E (part_suits q G.suits n part) fine G.over out old in
       record {
         sound = L.sound;
         stands = h;
@@ -261,33 +262,37 @@ module _ (controls : Controls) (now : ℕ) (a : List ℕ) (q : Queue) (G : Sound
   intd_gone : (n : ℕ) → in_intd (about (gone q n Intd) n).parts ≡ None
   intd_gone n = intd_alone (about (gone q n Intd) n).parts ∙ part_gone q n Intd
 
-  part_ready : (n : ℕ) → IsReady controls (about q n) → IsReady controls (about (gone q n Intd) n)
+  part_ready : (n : ℕ) → IsReady (about q n) → IsReady (about (gone q n Intd) n)
   part_ready n h =
       let w = about q n in
       let v = about (gone q n Intd) n in
       let other = part_other q n Intd in
       record {
-        queued = queued_same controls w v refl (other Mess (λ s. cc)) (todo_same w.parts v.parts (λ p is. other p (todo_far p Intd is refl))) (other Bounce (λ s. cc) ∙ h.queued.no_bounce) h.queued;
-        info = synced_same w v Info _ (other Info (λ s. cc)) h.info;
-        lanes = λ ch. made_same w v (lane_part ch) _ (other (lane_part ch) (lane_far ch).0) (h.lanes ch);
+        queued = queued_same w v refl (other Mess (λ s. cc)) (todo_same w.parts v.parts (λ p is. other p (todo_far p Intd is refl))) (other Bounce (λ s. cc) ∙ h.queued.no_bounce) h.queued;
+        no_nul = h.no_nul;
+        made = record {
+          info = synced_same w v Info _ (other Info (λ s. cc)) h.made.info;
+          lanes = λ ch. made_same w v (lane_part ch) _ (other (lane_part ch) (lane_far ch).0) (h.made.lanes ch);
+        };
       }
 
   -- todo went, and the number is preprocessed
-  part_done : (n : ℕ) → IsReady controls (about q n) → in_intd (about q n).parts ≡ None → IsPreprocessed controls (about (gone q n Todo) n)
+  part_done : (n : ℕ) → IsReady (about q n) → in_intd (about q n).parts ≡ None → IsPreprocessed (about (gone q n Todo) n)
   part_done n h no_intd =
       let w = about q n in
       let v = about (gone q n Todo) n in
       let other = part_other q n Todo in
       record {
-        taken = taken_same controls w v refl (other Mess (λ s. cc)) h.queued.taken;
+        taken = taken_same w v refl (other Mess (λ s. cc)) h.queued.taken;
         no_todo = todo_alone v.parts ∙ part_gone q n Todo;
         no_intd = intd_same w.parts v.parts (λ p is. other p (intd_far p Todo is refl)) ∙ no_intd;
-        info = h.info.file;
-        info_there = other Info (λ s. cc) ∙ h.info.there;
-        text = h.info.synced;
-        lanes = λ ch. lane_state controls w v h.queued.taken.injection ch (other (lane_part ch) (lane_far ch).1) (h.lanes ch);
-        notes = Gone (ap file_in (other Bounce (λ s. cc) ∙ h.queued.no_bounce)) (Nothing h.queued.unnoted);
-        unsettled = λ ch there. h.queued.unreturned;
+        no_nul = h.no_nul;
+        info = h.made.info.file;
+        info_there = other Info (λ s. cc) ∙ h.made.info.there;
+        text = h.made.info.synced;
+        lanes = λ ch. lane_state w v h.queued.taken.injection ch (other (lane_part ch) (lane_far ch).1) (h.made.lanes ch);
+        notes = Gone (ap file_in (other Bounce (λ s. cc) ∙ h.queued.no_bounce)) (Nothing (fresh_notes h.queued.taken.injection.ledger h.queued.fresh));
+        unsettled = λ ch there. fresh_unreturned h.queued.taken.injection.ledger h.queued.fresh;
       }
 
   -- The rows of a command
@@ -295,33 +300,33 @@ module _ (controls : Controls) (now : ℕ) (a : List ℕ) (q : Queue) (G : Sound
   module _ (read wrote : ℕ) (bytes : List ℕ) (soon : read ≤ now) where
     abbrev Comes : Row → Place → CallData → Answer → Type 0
     Comes row p call given =
-        CleanerLeads controls now a q (called_queue q a read call given wrote q.role) row
+        CleanerLeads now a q (called_queue q a read call given wrote q.role) row
         (goes_on (leads_to row read (Answered (record { answer = given; bytes = bytes }))) p)
 
     abbrev Steps : Row → Place → CallData → Type 0
     Steps row p call = (given : Answer) → Fits q.disk call given wrote → Comes row p call given
 
-    foop_intd : (n : ℕ) (p : Place) → Rests controls now q (at.UnlinkIntd (command.Foop n)) → Steps (at.UnlinkIntd (command.Foop n)) p (Unlink (path (Of Intd n)))
+    foop_intd : (n : ℕ) (p : Place) → Rests now q (at.UnlinkIntd (command.Foop n)) → Steps (at.UnlinkIntd (command.Foop n)) p (Unlink (path (Of Intd n)))
     foop_intd n p h answer.Done fits =
         part_leads n Intd (at.UnlinkIntd (command.Foop n)) _ h.closed refl
         (record { closed = part_closed n Intd (λ s. cc) h.closed; rest = (part_spent n Intd h.rest, intd_gone n) })
-        (spent_phase controls (about q n) (about (gone q n Intd) n) refl (part_lost q n Intd) (part_there q n Intd) (λ _. intd_gone n) h.rest (G.fine n))
+        (spent_phase (about q n) (about (gone q n Intd) n) refl (part_lost q n Intd) (part_there q n Intd) (λ _. intd_gone n) h.rest (G.fine n))
         (λ k is. absurd (cc))
     foop_intd n p h (answer.Refused NotThere) fits =
         still (at.UnlinkIntd (command.Foop n)) _ (record { closed = h.closed; rest = (h.rest, intd_missed q.disk.names q.disk.files n fits) }) (λ k is. absurd (cc))
     foop_intd n p h (answer.Refused Fault) fits = still (at.UnlinkIntd (command.Foop n)) _ tt (λ k is. absurd (cc))
     foop_intd n p h given fits = absurd fits
 
-    foop_mess : (n : ℕ) (p : Place) → Rests controls now q (at.UnlinkSecond (command.Foop n)) → Steps (at.UnlinkSecond (command.Foop n)) p (Unlink (path (Of Mess n)))
+    foop_mess : (n : ℕ) (p : Place) → Rests now q (at.UnlinkSecond (command.Foop n)) → Steps (at.UnlinkSecond (command.Foop n)) p (Unlink (path (Of Mess n)))
     foop_mess n p h answer.Done fits =
         part_leads n Mess (at.UnlinkSecond (command.Foop n)) _ h.closed refl tt
-        (spent_phase controls (about q n) (about (gone q n Mess) n) refl (part_lost q n Mess) (part_there q n Mess) (λ _. intd_out (about q n).parts (about (gone q n Mess) n).parts (λ p is. part_lost q n Mess p) h.rest.1) h.rest.0 (G.fine n))
+        (spent_phase (about q n) (about (gone q n Mess) n) refl (part_lost q n Mess) (part_there q n Mess) (λ _. intd_out (about q n).parts (about (gone q n Mess) n).parts (λ p is. part_lost q n Mess p) h.rest.1) h.rest.0 (G.fine n))
         (λ k is. absurd (cc))
     foop_mess n p h (answer.Refused NotThere) fits = still (at.UnlinkSecond (command.Foop n)) _ tt (λ k is. absurd (cc))
     foop_mess n p h (answer.Refused Fault) fits = still (at.UnlinkSecond (command.Foop n)) _ tt (λ k is. absurd (cc))
     foop_mess n p h given fits = absurd fits
 
-    todo_intd : (n : ℕ) (p : Place) → Rests controls now q (at.UnlinkIntd (command.Todo n)) → Steps (at.UnlinkIntd (command.Todo n)) p (Unlink (path (Of Intd n)))
+    todo_intd : (n : ℕ) (p : Place) → Rests now q (at.UnlinkIntd (command.Todo n)) → Steps (at.UnlinkIntd (command.Todo n)) p (Unlink (path (Of Intd n)))
     todo_intd n p h answer.Done fits =
         let ready = part_ready n h.rest in
         part_leads n Intd (at.UnlinkIntd (command.Todo n)) _ h.closed refl
@@ -333,13 +338,13 @@ module _ (controls : Controls) (now : ℕ) (a : List ℕ) (q : Queue) (G : Sound
     todo_intd n p h (answer.Refused Fault) fits = still (at.UnlinkIntd (command.Todo n)) _ tt (λ k is. absurd (cc))
     todo_intd n p h given fits = absurd fits
 
-    todo_todo : (n : ℕ) (p : Place) → Rests controls now q (at.UnlinkSecond (command.Todo n)) → Steps (at.UnlinkSecond (command.Todo n)) p (Unlink (path (Of Todo n)))
+    todo_todo : (n : ℕ) (p : Place) → Rests now q (at.UnlinkSecond (command.Todo n)) → Steps (at.UnlinkSecond (command.Todo n)) p (Unlink (path (Of Todo n)))
     todo_todo n p h answer.Done fits =
         let done = part_done n h.rest.0 h.rest.1 in
         part_leads n Todo (at.UnlinkSecond (command.Todo n)) _ h.closed refl tt
         (Sorted done)
         (λ k is plus. let w : n ≡ k = cc in
-        subst (λ j. RestsAs now (gone q n Todo) j (IsPreprocessed controls)) w (record { closed = part_closed n Todo (λ s. cc) h.closed; rest = done }))
+        subst (λ j. RestsAs now (gone q n Todo) j IsPreprocessed) w (record { closed = part_closed n Todo (λ s. cc) h.closed; rest = done }))
     todo_todo n p h (answer.Refused NotThere) fits =
         let there = h.rest.0.queued.todo_there in
         let none = todo_missed q.disk.names q.disk.files n fits in
@@ -349,14 +354,14 @@ module _ (controls : Controls) (now : ℕ) (a : List ℕ) (q : Queue) (G : Sound
 
     -- The rows of a scan of `pid`
 
-    find_pid : (row : Row) (p : Place) → Rests controls now q (waiting p) → (never : (n : ℕ) → row ≡ at.UnlinkSecond (command.Todo n) → ⊥) → (o : Option (List ℕ))
-        → ((name : List ℕ) → o ≡ Some name → IsOnePart name) → CleanerLeads controls now a q q row (goes_on (found_step o) p)
-    find_pid row p h never None one = still row _ (next_stands controls now q p h) (λ n is plus. never n is)
+    find_pid : (row : Row) (p : Place) → Rests now q (waiting p) → (never : (n : ℕ) → row ≡ at.UnlinkSecond (command.Todo n) → ⊥) → (o : Option (List ℕ))
+        → ((name : List ℕ) → o ≡ Some name → IsOnePart name) → CleanerLeads now a q q row (goes_on (found_step o) p)
+    find_pid row p h never None one = still row _ (next_stands now q p h) (λ n is plus. never n is)
     find_pid row p h never (Some name) one = still row _ (h, one name refl) (λ n is plus. never n is)
 
-    searched : (row : Row) (p : Place) → Rests controls now q (waiting p) → ((n : ℕ) → row ≡ at.UnlinkSecond (command.Todo n) → ⊥) → (given : Answer)
+    searched : (row : Row) (p : Place) → Rests now q (waiting p) → ((n : ℕ) → row ≡ at.UnlinkSecond (command.Todo n) → ⊥) → (given : Answer)
         → Fits q.disk (NextName (codes "pid") p.name) given wrote
-        → CleanerLeads controls now a q (called_queue q a read (NextName (codes "pid") p.name) given wrote q.role) row (goes_on (found_step (name_told given)) p)
+        → CleanerLeads now a q (called_queue q a read (NextName (codes "pid") p.name) given wrote q.role) row (goes_on (found_step (name_told given)) p)
     searched row p h never (answer.Name name) fits = find_pid row p h never (Some name) (λ other e. let same : name ≡ other = cc in subst IsOnePart same fits.1.stands.1.whole)
     searched row p h never answer.NoName fits = find_pid row p h never None (λ _ e. absurd (cc))
     searched row p h never (answer.Refused why) fits = find_pid row p h never None (λ _ e. absurd (cc))
@@ -388,7 +393,7 @@ module _ (controls : Controls) (now : ℕ) (a : List ℕ) (q : Queue) (G : Sound
               written = sym told.moment_is;
             })
 
-    stat_pid : (p : Place) → Rests controls now q (waiting p) → IsOnePart p.name → Steps at.StatPid p (Stat (pid_path p.name))
+    stat_pid : (p : Place) → Rests now q (waiting p) → IsOnePart p.name → Steps at.StatPid p (Stat (pid_path p.name))
     stat_pid p h one (answer.Stat stat) fits =
         still at.StatPid _ (h, judged (pid_path p.name) p.name refl stat fits (parse (pid_path p.name)) refl, one) (λ n is. absurd (cc))
     stat_pid p h one (answer.Refused why) fits = still at.StatPid _ h (λ n is. absurd (cc))
@@ -423,18 +428,18 @@ module _ (controls : Controls) (now : ℕ) (a : List ℕ) (q : Queue) (G : Sound
       HasNone = (pid start seq : ℕ) (y : Entry) → look q (Pid pid start seq) ≡ Some y → look (without text) (Pid pid start seq) ≡ None
           → (o : List ℕ) (args : Arguments) → InTime now args → q.role y.number ≢ AsMessage o args
 
-      text_leads : (moment : ℕ) (p : Place) → Rests controls now q (waiting p) → (number : Option ℕ) → Elsewhere now a number q (without text) → HasNone
-          → CleanerLeads controls now a q (without text) (at.JudgePid moment) (record p { row = at.FindPid })
+      text_leads : (moment : ℕ) (p : Place) → Rests now q (waiting p) → (number : Option ℕ) → Elsewhere now a number q (without text) → HasNone
+          → CleanerLeads now a q (without text) (at.JudgePid moment) (record p { row = at.FindPid })
       text_leads moment p h number E pids = record {
         sound = record {
           suits = λ y z there. ⊎_elim
               (λ c. let w = text_gone y c.0 in absurd (cc))
               (λ c. G.suits y z (sym (text_look y c.0) ∙ there))
               (text_cases (path y) text);
-          fine = λ n. subst (Phase controls) (sym (text_about n)) (G.fine n);
+          fine = λ n. subst Phase (sym (text_about n)) (G.fine n);
           over = G.over;
         };
-        stands = rests_frame controls now now q (without text) (waiting p) (λ n _ c. (text_closed n c, text_about n)) h;
+        stands = rests_frame now now q (without text) (waiting p) (λ n _ c. (text_closed n c, text_about n)) h;
         number = number;
         elsewhere = E;
         outside = record {
@@ -456,8 +461,8 @@ module _ (controls : Controls) (now : ℕ) (a : List ℕ) (q : Queue) (G : Sound
       }
 
       -- one that is none of the queue's
-      foreign_leads : parse text ≡ None → (moment : ℕ) (p : Place) → Rests controls now q (waiting p)
-          → CleanerLeads controls now a q (without text) (at.JudgePid moment) (record p { row = at.FindPid })
+      foreign_leads : parse text ≡ None → (moment : ℕ) (p : Place) → Rests now q (waiting p)
+          → CleanerLeads now a q (without text) (at.JudgePid moment) (record p { row = at.FindPid })
       foreign_leads none moment p h = text_leads moment p h None E (λ pid start seq y there gone_then. let same = text_look (Pid pid start seq) (away (Pid pid start seq)) in absurd (cc))
         where
           away : (y : Name) → path y ≢ text
@@ -475,8 +480,8 @@ module _ (controls : Controls) (now : ℕ) (a : List ℕ) (q : Queue) (G : Sound
 
       -- one that is old
       old_leads : (pid start seq moment i : ℕ) → path (Pid pid start seq) ≡ text → q.disk.names text ≡ Some i → IsJudged q (Some (Pid pid start seq)) moment
-          → moment + 129600 < now → (p : Place) → Rests controls now q (waiting p)
-          → CleanerLeads controls now a q (without text) (at.JudgePid moment) (record p { row = at.FindPid })
+          → moment + 129600 < now → (p : Place) → Rests now q (waiting p)
+          → CleanerLeads now a q (without text) (at.JudgePid moment) (record p { row = at.FindPid })
       old_leads pid start seq moment i same there judge old p h = text_leads moment p h (Some i) E pids
         where
           looks : (y : Name) → (Concerns q y (Some i) → ⊥) → look (without text) y ≡ look q y
@@ -524,30 +529,30 @@ module _ (controls : Controls) (now : ℕ) (a : List ℕ) (q : Queue) (G : Sound
           }
 
     -- the unlink of a name that was judged old
-    unlinked : (text part : List ℕ) → text ≡ codes "pid/" ++ part → IsOnePart part → (moment : ℕ) → moment + 129600 < now → (p : Place) → Rests controls now q (waiting p)
+    unlinked : (text part : List ℕ) → text ≡ codes "pid/" ++ part → IsOnePart part → (moment : ℕ) → moment + 129600 < now → (p : Place) → Rests now q (waiting p)
         → (there : Option ℕ) → q.disk.names text ≡ there → (x : Option Name) → parse text ≡ x → IsJudged q x moment
-        → there ≢ None → CleanerLeads controls now a q (without text) (at.JudgePid moment) (record p { row = at.FindPid })
+        → there ≢ None → CleanerLeads now a q (without text) (at.JudgePid moment) (record p { row = at.FindPid })
     unlinked text part is one moment old p h there named None e judge some = foreign_leads text part is one e moment p h
     unlinked text part is one moment old p h there named (Some (Of k n)) e judge some = absurd judge
     unlinked text part is one moment old p h None named (Some (Pid pid start seq)) e judge some = absurd (some refl)
     unlinked text part is one moment old p h (Some i) named (Some (Pid pid start seq)) e judge some =
         old_leads text part is one pid start seq moment i (sym (path-parse text (Pid pid start seq) e)) named judge old p h
 
-    judge_pid : (moment : ℕ) (p : Place) → Rests controls now q (waiting p) → IsJudged q (parse (pid_path p.name)) moment → IsOnePart p.name → (t : Bool) → is_old moment read ≡ t
+    judge_pid : (moment : ℕ) (p : Place) → Rests now q (waiting p) → IsJudged q (parse (pid_path p.name)) moment → IsOnePart p.name → (t : Bool) → is_old moment read ≡ t
         → (call : CallData) → (if t then needs.File (Unlink (pid_path p.name)) else search_after p.name) ≡ needs.File call → (given : Answer) → Fits q.disk call given wrote
-        → CleanerLeads controls now a q (called_queue q a read call given wrote q.role) (at.JudgePid moment)
+        → CleanerLeads now a q (called_queue q a read call given wrote q.role) (at.JudgePid moment)
         (goes_on (if t then Goes at.FindPid else found_step (name_told given)) p)
     judge_pid moment p h judge one false young call due given fits =
         let same : NextName (codes "pid") p.name ≡ call = cc in
-        subst (λ c. Fits q.disk c given wrote → CleanerLeads controls now a q (called_queue q a read c given wrote q.role) (at.JudgePid moment) (goes_on (found_step (name_told given)) p)) same
+        subst (λ c. Fits q.disk c given wrote → CleanerLeads now a q (called_queue q a read c given wrote q.role) (at.JudgePid moment) (goes_on (found_step (name_told given)) p)) same
         (searched (at.JudgePid moment) p h (λ n is. absurd (cc)) given) fits
     judge_pid moment p h judge one true old call due given fits =
         let same : Unlink (pid_path p.name) ≡ call = cc in
-        subst (λ c. Fits q.disk c given wrote → CleanerLeads controls now a q (called_queue q a read c given wrote q.role) (at.JudgePid moment) (record p { row = at.FindPid })) same
+        subst (λ c. Fits q.disk c given wrote → CleanerLeads now a q (called_queue q a read c given wrote q.role) (at.JudgePid moment) (record p { row = at.FindPid })) same
         (at_old given) fits
       where
         at_old : (given : Answer) → Fits q.disk (Unlink (pid_path p.name)) given wrote
-            → CleanerLeads controls now a q (called_queue q a read (Unlink (pid_path p.name)) given wrote q.role) (at.JudgePid moment) (record p { row = at.FindPid })
+            → CleanerLeads now a q (called_queue q a read (Unlink (pid_path p.name)) given wrote q.role) (at.JudgePid moment) (record p { row = at.FindPid })
         at_old answer.Done fits =
             let past : moment + 129600 < read = ltb-true _ _ old in
             unlinked (pid_path p.name) p.name refl one moment (omega (arith, past, soon)) p h (q.disk.names (pid_path p.name)) refl (parse (pid_path p.name)) refl judge
@@ -559,7 +564,7 @@ module _ (controls : Controls) (now : ℕ) (a : List ℕ) (q : Queue) (G : Sound
     due_call : (row : Row) (p : Place) (own call : CallData) → ◌≡◌ {A = NeedData} (needs.File own) (needs.File call) → Steps row p own → Steps row p call
     due_call row p own call due h = let same : own ≡ call = cc in subst (Steps row p) same h
 
-    pub step : (row : Row) (p : Place) → StandsAt controls now q row p → (call : CallData) → due_at row p.name read ≡ needs.File call → Steps row p call
+    pub step : (row : Row) (p : Place) → StandsAt now q row p → (call : CallData) → due_at row p.name read ≡ needs.File call → Steps row p call
     step at.FindPid p h call due = due_call at.FindPid p _ call due (searched at.FindPid p h (λ n is. absurd (cc)))
     step at.StatPid p h call due = due_call at.StatPid p _ call due (stat_pid p h.0 h.1)
     step (at.JudgePid moment) p h call due = judge_pid moment p h.0 h.1 h.2 (is_old moment read) refl call due
@@ -572,5 +577,5 @@ module _ (controls : Controls) (now : ℕ) (a : List ℕ) (q : Queue) (G : Sound
     step (at.Ended status) p h call due = absurd (cc)
 
 pub cleaners_keep : CleanersKeep
-cleaners_keep controls now q a past read ready call told wrote G h soon due fits =
-    step controls now a q G read wrote told.bytes soon (place_after past).row (place_after past) h call due told.answer fits
+cleaners_keep now q a past read ready call told wrote G h soon due fits =
+    step now a q G read wrote told.bytes soon (place_after past).row (place_after past) h call due told.answer fits

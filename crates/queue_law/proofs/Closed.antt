@@ -1,7 +1,6 @@
 -- What a program that works at a closed number does to the queue: a name of the number goes, a file of it is made or written, or a
 -- descriptor is opened or closed.
 use Rattle.std.proofs.Common.{◌≡◌, ◌≢◌, inl, inr, ℕ, List, false, Option, Some, None, refl, sym, ap, ◌∙◌, subst, ⊎_elim}
-use Rattle.address_rules.specs.declared.controls.Controls.{Controls}
 use Rattle.call_fs.specs.Disk.{File, Open}
 use Rattle.call_fs.specs.Apply.{IsNew}
 use Rattle.call_fs.proofs.Maps.{put_other, put_at_other, put_at_cases}
@@ -84,8 +83,8 @@ closed_on now q r n mess role living c = record {
 }
 
 -- what waits in todo still does, if its message and todo are as before
-abbrev pub taken_same : (controls : Controls) (w v : About) → v.living ≡ w.living → v.parts Mess ≡ w.parts Mess → IsTaken controls w → IsTaken controls v
-taken_same controls w v living mess h = record {
+abbrev pub taken_same : (w v : About) → v.living ≡ w.living → v.parts Mess ≡ w.parts Mess → IsTaken w → IsTaken v
+taken_same w v living mess h = record {
   injection = h.injection;
   lives = living ∙ h.lives;
   accepted = h.accepted;
@@ -96,16 +95,15 @@ taken_same controls w v living mess h = record {
   spots = h.spots;
 }
 
-abbrev pub queued_same : (controls : Controls) (w v : About) → v.living ≡ w.living → v.parts Mess ≡ w.parts Mess → in_todo v.parts ≡ in_todo w.parts
-    → v.parts Bounce ≡ None → IsQueued controls w → IsQueued controls v
-queued_same controls w v living mess todo bounce h = record {
-  taken = taken_same controls w v living mess h.taken;
+abbrev pub queued_same : (w v : About) → v.living ≡ w.living → v.parts Mess ≡ w.parts Mess → in_todo v.parts ≡ in_todo w.parts
+    → v.parts Bounce ≡ None → IsQueued w → IsQueued v
+queued_same w v living mess todo bounce h = record {
+  taken = taken_same w v living mess h.taken;
   todo = h.todo;
   todo_there = todo ∙ h.todo_there;
   text = h.text;
   no_bounce = bounce;
-  unnoted = h.unnoted;
-  unreturned = h.unreturned;
+  fresh = h.fresh;
 }
 
 module _ (now : ℕ) (a : List ℕ) (q : Queue) (S : NamesSuit q) (n : ℕ) (c : IsClosed now q n) where
@@ -212,14 +210,14 @@ module _ (now : ℕ) (a : List ℕ) (q : Queue) (S : NamesSuit q) (n : ℕ) (c :
     bytes_closed = closed_on now q new_bytes n bytes_mess refl refl c
 
 -- what holds of the queue, after a step that concerns one number
-pub leads_on : (controls : Controls) (now : ℕ) (a : List ℕ) (q r : Queue) (G : Sound controls q) (n : ℕ) → Elsewhere now a (Some n) q r → NamesSuit r
-    → Phase controls (about r n) → NoneLost controls r.books → Outside q.disk r.disk → LeavesOld q r → LeadsOn controls now a (Some n) q r
-leads_on controls now a q r G n E suits fine over outside old = record {
+pub leads_on : (now : ℕ) (a : List ℕ) (q r : Queue) (G : Sound q) (n : ℕ) → Elsewhere now a (Some n) q r → NamesSuit r
+    → Phase (about r n) → NoneLost r.books → Outside q.disk r.disk → LeavesOld q r → LeadsOn now a (Some n) q r
+leads_on now a q r G n E suits fine over outside old = record {
   sound = record {
     suits = suits;
     fine = λ k. ⊎_elim
-        (λ (same : ◌≡◌ {A = Option ℕ} (Some n) (Some k)). let w : n ≡ k = cc in subst (λ j. Phase controls (about r j)) w fine)
-        (λ far. subst (Phase controls) (sym (about_same now a (Some n) q r E k far)) (G.fine k))
+        (λ (same : ◌≡◌ {A = Option ℕ} (Some n) (Some k)). let w : n ≡ k = cc in subst (λ j. Phase (about r j)) w fine)
+        (λ far. subst Phase (sym (about_same now a (Some n) q r E k far)) (G.fine k))
         (tells_number (Some n) k);
     over = over;
   };

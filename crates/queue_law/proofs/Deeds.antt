@@ -1,6 +1,5 @@
 -- What one call of an injector does to the queue: it makes a file, writes one, or changes a name.
 use Rattle.std.proofs.Common.{◌≡◌, ◌≢◌, ◌⊎◌, inr, ℕ, List, Bool, true, false, Option, Some, None, refl, sym, ap, ◌∙◌, subst, ⊎_elim}
-use Rattle.address_rules.specs.declared.controls.Controls.{Controls}
 use Rattle.call_fs.specs.Maps.{put, put_at}
 use Rattle.call_fs.specs.Disk.{File, Among}
 use Rattle.call_fs.specs.declared.modes.Mode.{Mode}
@@ -65,12 +64,12 @@ IsOwn q a args n = IsNowhere q n ⊎ ((q.role n ≡ AsMessage a args) × Touches
 
 -- What a call of a leads to: of the number in `number` this holds then, of all else nothing changed, and the next row
 -- has what it rests on.
-pub record Outcome (controls : Controls) (now : ℕ) (q : Queue) (a : List ℕ) (args : Arguments) (r : Queue) (row : Row) : Type 0 where
+pub record Outcome (now : ℕ) (q : Queue) (a : List ℕ) (args : Arguments) (r : Queue) (row : Row) : Type 0 where
   pub number : Option ℕ
   pub elsewhere : Elsewhere now a number q r
   pub suits : NamesSuit r
-  pub fine : (n : ℕ) → number ≡ Some n → Phase controls (about r n)
-  pub over : NoneLost controls r.books
+  pub fine : (n : ℕ) → number ≡ Some n → Phase (about r n)
+  pub over : NoneLost r.books
   pub accepted : (i : Injection) → IsInjected q.books i → i.accepted ≡ true → IsInjected r.books i
   pub waits : IsEarly q → (n : ℕ) (i : Injection) → r.books.living n ≡ Some i → i.accepted ≡ true → in_todo (about r n).parts ≢ None
   pub none_over : IsEarly q → (i : Injection) → Among i r.books.over → i.accepted ≡ true → ⊥
@@ -82,8 +81,8 @@ pub record Outcome (controls : Controls) (now : ℕ) (q : Queue) (a : List ℕ) 
   pub next : Basis r a args row
 
 -- a number whose injection has begun is free
-pub begun_phase : (controls : Controls) (q : Queue) (a : List ℕ) (args : Arguments) (n : ℕ) → IsBegun (about q n) a args n → Phase controls (about q n)
-begun_phase controls q a args n h = Free (record {
+pub begun_phase : (q : Queue) (a : List ℕ) (args : Arguments) (n : ℕ) → IsBegun (about q n) a args n → Phase (about q n)
+begun_phase q a args n h = Free (record {
   not_accepted = λ i lives t. let w = h.lives in let v : i.accepted ≡ false = cc in off (sym v ∙ t);
   unsorted = h.unsorted;
   no_todo = h.no_todo;
@@ -262,16 +261,16 @@ written_old q j f new = record {
 }
 
 -- the outcome of each deed
-module _ (controls : Controls) (now : ℕ) (q : Queue) (a : List ℕ) (args : Arguments) (G : Sound controls q) where
+module _ (now : ℕ) (q : Queue) (a : List ℕ) (args : Arguments) (G : Sound q) where
   abbrev pub Leads : Queue → Row → Type 0
-  Leads r row = Outcome controls now q a args r row
+  Leads r row = Outcome now q a args r row
 
   number_own : (n : ℕ) → IsOwn q a args n → (k : ℕ) → ◌≡◌ {A = Option ℕ} (Some n) (Some k) → IsOwn q a args k
   number_own n own k same = let w : n ≡ k = cc in subst (IsOwn q a args) w own
 
   pub made_outcome : (x : Name) (fd i read : ℕ) (role : Role) (m : ℕ) (row : Row) → IsNew q.disk (path x) fd i → is_later_name x ≡ false → IsUnsorted (about q m) → IsOwn q a args m
       → Concerns q x (Some m) → Apart now q a (Some m) → IsRight x (record { number = i; file = empty_file read }) role
-      → Phase controls (about (made q a x fd i read role) m) → Basis (made q a x fd i read role) a args row
+      → Phase (about (made q a x fd i read role) m) → Basis (made q a x fd i read role) a args row
       → Leads (made q a x fd i read role) row
   made_outcome x fd i read role m row new early unsorted own concerns apart right fine next = record {
     number = Some m;
@@ -291,7 +290,7 @@ module _ (controls : Controls) (now : ℕ) (q : Queue) (a : List ℕ) (args : Ar
         (todo_out (about (made q a x fd i read role) k).parts (about q k).parts (λ part is. made_none q x a fd i read role new (Of part k)) none);
     none_over = λ e. e.none_over;
     suits = made_suits now q G.suits x a fd i read role new right;
-    fine = at_number (made q a x fd i read role) (Phase controls) m fine;
+    fine = at_number (made q a x fd i read role) (Phase) m fine;
     later = λ part n later. made_other q x a fd i read role new (Of part n) (later_far x part n early later);
     unsorted = at_number q IsUnsorted m unsorted;
     own = number_own m own;
@@ -319,7 +318,7 @@ module _ (controls : Controls) (now : ℕ) (q : Queue) (a : List ℕ) (args : Ar
         (λ part is gone. find_none q.disk.names q.disk.files (Of part k) (not_found q.disk.names (put q.disk.files j f) (Of part k) gone)) none);
     none_over = λ e. e.none_over;
     suits = written_suits now q G.suits j f recent;
-    fine = at_number (written q j f) (Phase controls) n (begun_phase controls (written q j f) a args n begins);
+    fine = at_number (written q j f) (Phase) n (begun_phase (written q j f) a args n begins);
     later = λ part k later. find_far q.disk.names q.disk.files (Of part k) j f (λ z h same.
         let mine = early_role x j (q.role j) early (G.suits x (entry q.disk.files j) (find_some q.disk.names q.disk.files x j there)).0 in
         let his = later_role part k z.number (q.role z.number) later (G.suits (Of part k) z h).0 in
@@ -338,10 +337,10 @@ module _ (controls : Controls) (now : ℕ) (q : Queue) (a : List ℕ) (args : Ar
 
   pub named_outcome : (x : Name) (o : Option ℕ) (c : Books) (n : ℕ) (row : Row) → is_later_name x ≡ false → IsUnsorted (about q n) → q.role n ≡ AsMessage a args
       → Touches q a args n → ((k : ℕ) → o ≡ Some k → (y : Name) × (q.disk.names (path y) ≡ Some k)) → Concerns q x (Some n) → NameSuits (named q x o c) x → ((k : ℕ) → k ≢ n → c.living k ≡ q.books.living k)
-      → ((i : Injection) → IsInjected q.books i → i.accepted ≡ true → IsInjected c i) → NoneLost controls c
+      → ((i : Injection) → IsInjected q.books i → i.accepted ≡ true → IsInjected c i) → NoneLost c
       → (IsEarly q → (k : ℕ) (i : Injection) → c.living k ≡ Some i → i.accepted ≡ true → in_todo (about (named q x o c) k).parts ≢ None)
       → (IsEarly q → (i : Injection) → Among i c.over → i.accepted ≡ true → ⊥)
-      → Phase controls (about (named q x o c) n) → Basis (named q x o c) a args row → Leads (named q x o c) row
+      → Phase (about (named q x o c) n) → Basis (named q x o c) a args row → Leads (named q x o c) row
   named_outcome x o c n row early unsorted mine touches queued concerns here living accepted over waits none_over fine next = record {
     number = Some n;
     elsewhere = record {
@@ -356,7 +355,7 @@ module _ (controls : Controls) (now : ℕ) (q : Queue) (a : List ℕ) (args : Ar
     waits = waits;
     none_over = none_over;
     suits = named_suits now q G.suits x o c here;
-    fine = at_number (named q x o c) (Phase controls) n fine;
+    fine = at_number (named q x o c) (Phase) n fine;
     later = λ part k later. named_other q x o c (Of part k) (later_far x part k early later);
     unsorted = at_number q IsUnsorted n unsorted;
     own = number_own n (inr (mine, touches));

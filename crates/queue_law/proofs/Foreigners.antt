@@ -1,6 +1,5 @@
 -- A step of a program that is none of the queue's.
 use Rattle.std.proofs.Common.{◌≡◌, ℕ, List, true, Some, None, sym, ap, ◌∙◌, subst}
-use Rattle.address_rules.specs.declared.controls.Controls.{Controls}
 use Rattle.call_fs.specs.Disk.{Among}
 use Rattle.queue_paths.specs.Names.{Name, path}
 use Rattle.queue_paths.specs.Names.Name.{Of}
@@ -21,11 +20,11 @@ module _ (a : List ℕ) (q r : Queue) (F : Foreign a q r) where
   pub foreign_about : (n : ℕ) → about r n ≡ about q n
   foreign_about n = λ i. record { parts = λ part. same (Of part n) i; living = (F.books i).living n }
 
-  pub foreign_sound : (controls : Controls) → Sound controls q → Sound controls r
-  foreign_sound controls G = record {
+  pub foreign_sound : Sound q → Sound r
+  foreign_sound G = record {
     suits = λ x y h. let was = sym (same x) ∙ h in subst (IsRight x y) (sym (kept x y was)) (G.suits x y was);
-    fine = λ n. subst (Phase controls) (sym (foreign_about n)) (G.fine n);
-    over = subst (NoneLost controls) (sym F.books) G.over;
+    fine = λ n. subst Phase (sym (foreign_about n)) (G.fine n);
+    over = subst (NoneLost) (sym F.books) G.over;
   }
 
   pub foreign_elsewhere : (now : ℕ) → Elsewhere now a None q r
@@ -47,7 +46,7 @@ module _ (a : List ℕ) (q r : Queue) (F : Foreign a q r) where
 
 pub foreigners_keep : ForeignersKeep
 foreigners_keep = record {
-  sound = λ controls a q r F. foreign_sound a q r F controls;
+  sound = λ a q r F. foreign_sound a q r F;
   elsewhere = λ now a q r F. foreign_elsewhere a q r F now;
   abouts = foreign_about;
   early = foreign_early;

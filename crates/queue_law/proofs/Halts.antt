@@ -1,6 +1,5 @@
 -- A machine stop: what was synced survives as it was.
 use Rattle.std.proofs.Common.{◌≡◌, ℕ, suc, ◌<◌, ◌≤◌, List, [], ◌∷◌, length, Bool, false, Option, Some, None, refl, sym, ap, ◌∙◌, subst, ⊎_elim, arith, slice_get, le_antisymm}
-use Rattle.address_rules.specs.declared.controls.Controls.{Controls}
 use Rattle.call_fs.specs.Disk.{File, Among, IsSynced}
 use Rattle.call_fs.specs.Survival.{HadAt, Survives, AllSurvive, settled}
 use Rattle.queue_paths.specs.Names.{Name}
@@ -99,35 +98,35 @@ module _ (q : Queue) (contents : ℕ → List ℕ) (survives : AllSurvive q.disk
       let s = survives _ y.number w.0 in
       settled_synced y.file (contents y.number) text synced (subst (λ (z : Entry). Survives z.file (contents y.number)) (sym w.1) s)
 
-  lane_after : (controls : Controls) (n : ℕ) (i : Injection) (ch : Channel) → LaneState controls (about q n) i ch
-      → LaneState controls (about (after_halt contents q) n) i ch
+  lane_after : (n : ℕ) (i : Injection) (ch : Channel) → LaneState (about q n) i ch
+      → LaneState (about (after_halt contents q) n) i ch
   unfolding after_file
-  lane_after controls n i ch (LaneGone none all) = LaneGone (still_absent (Of (lane_part ch) n) none) all
-  lane_after controls n i ch (LaneThere y there marked) =
+  lane_after n i ch (LaneGone none all) = LaneGone (still_absent (Of (lane_part ch) n) none) all
+  lane_after n i ch (LaneThere y there marked) =
       let w = found q.disk.names q.disk.files (Of (lane_part ch) n) y there in
       let s = survives _ y.number w.0 in
       LaneThere (after_file y) (still_there (Of (lane_part ch) n) y there)
-      (marked_survives controls i ch y.file (contents y.number) marked (subst (λ (z : Entry). Survives z.file (contents y.number)) (sym w.1) s))
+      (marked_survives i ch y.file (contents y.number) marked (subst (λ (z : Entry). Survives z.file (contents y.number)) (sym w.1) s))
 
   -- the notes that a bounce file has stay
-  notes_by : (controls : Controls) (n : ℕ) (i : Injection) (o : Option Entry) → look q (Of Bounce n) ≡ o → NotesState controls i (file_in o)
-      → NotesState controls i (file_in (look (after_halt contents q) (Of Bounce n)))
+  notes_by : (n : ℕ) (i : Injection) (o : Option Entry) → look q (Of Bounce n) ≡ o → NotesState i (file_in o)
+      → NotesState i (file_in (look (after_halt contents q) (Of Bounce n)))
   unfolding after_file
-  notes_by controls n i None none (There f is has) = let w : ◌≡◌ {A = Option File} None (Some f) = is in absurd (cc)
-  notes_by controls n i None none (Gone is settled) = Gone (ap file_in (still_absent (Of Bounce n) none)) settled
-  notes_by controls n i (Some y) there (There f is has) =
+  notes_by n i None none (There f is has) = let w : ◌≡◌ {A = Option File} None (Some f) = is in absurd (cc)
+  notes_by n i None none (Gone is settled) = Gone (ap file_in (still_absent (Of Bounce n) none)) settled
+  notes_by n i (Some y) there (There f is has) =
       let w = found q.disk.names q.disk.files (Of Bounce n) y there in
       let s = survives _ y.number w.0 in
       let first : ◌≡◌ {A = Option File} (Some y.file) (Some f) = is in
       let same : y.file ≡ f = cc in
-      let kept : HasNotes controls i y.file = subst (HasNotes controls i) (sym same) has in
+      let kept : HasNotes i y.file = subst (HasNotes i) (sym same) has in
       There (settled (contents y.number) y.file) (ap file_in (still_there (Of Bounce n) y there))
-      (notes_stay.survives controls i (contents y.number) y.file kept (subst (λ (z : Entry). Survives z.file (contents y.number)) (sym w.1) s))
-  notes_by controls n i (Some y) there (Gone is settled) = let w : ◌≡◌ {A = Option File} (Some y.file) None = is in absurd (cc)
+      (notes_stay.survives i (contents y.number) y.file kept (subst (λ (z : Entry). Survives z.file (contents y.number)) (sym w.1) s))
+  notes_by n i (Some y) there (Gone is settled) = let w : ◌≡◌ {A = Option File} (Some y.file) None = is in absurd (cc)
 
-  notes_after : (controls : Controls) (n : ℕ) (i : Injection) → NotesState controls i (file_in (look q (Of Bounce n)))
-      → NotesState controls i (file_in (look (after_halt contents q) (Of Bounce n)))
-  notes_after controls n i h = notes_by controls n i (look q (Of Bounce n)) refl h
+  notes_after : (n : ℕ) (i : Injection) → NotesState i (file_in (look q (Of Bounce n)))
+      → NotesState i (file_in (look (after_halt contents q) (Of Bounce n)))
+  notes_after n i h = notes_by n i (look q (Of Bounce n)) refl h
 
   pub still_no_intd : (n : ℕ) → in_intd (about q n).parts ≡ None → in_intd (about (after_halt contents q) n).parts ≡ None
   still_no_intd n = intd_out (about q n).parts (about (after_halt contents q) n).parts (λ part is. still_absent (Of part n))
@@ -143,14 +142,14 @@ module _ (q : Queue) (contents : ℕ → List ℕ) (survives : AllSurvive q.disk
   pub still_todo_synced : (n : ℕ) (y : Entry) (text : List ℕ) → in_todo (about q n).parts ≡ Some y → IsSynced y.file text → IsSynced (after_file y).file text
   still_todo_synced n y text there = let at = todo_there (about q n).parts y there in still_synced (Of at.0 n) y text at.2
 
-  phase_after : (controls : Controls) (n : ℕ) → Phase controls (about q n) → Phase controls (about (after_halt contents q) n)
-  phase_after controls n (Free h) = Free (record {
+  phase_after : (n : ℕ) → Phase (about q n) → Phase (about (after_halt contents q) n)
+  phase_after n (Free h) = Free (record {
     not_accepted = h.not_accepted;
     unsorted = λ part later. still_absent (Of part n) (h.unsorted part later);
     no_todo = still_no_todo n h.no_todo;
     intd_below = λ none. still_no_intd n (h.intd_below (was_absent (Of Mess n) none));
   })
-  phase_after controls n (Queued h) = Queued (record {
+  phase_after n (Queued h) = Queued (record {
     taken = record {
       injection = h.taken.injection;
       lives = h.taken.lives;
@@ -165,10 +164,9 @@ module _ (q : Queue) (contents : ℕ → List ℕ) (survives : AllSurvive q.disk
     todo_there = still_in_todo n h.todo h.todo_there;
     text = still_todo_synced n h.todo _ h.todo_there h.text;
     no_bounce = still_absent (Of Bounce n) h.no_bounce;
-    unnoted = h.unnoted;
-    unreturned = h.unreturned;
+    fresh = h.fresh;
   })
-  phase_after controls n (Sorted h) = Sorted (record {
+  phase_after n (Sorted h) = Sorted (record {
     taken = record {
       injection = h.taken.injection;
       lives = h.taken.lives;
@@ -181,14 +179,15 @@ module _ (q : Queue) (contents : ℕ → List ℕ) (survives : AllSurvive q.disk
     };
     no_todo = still_no_todo n h.no_todo;
     no_intd = still_no_intd n h.no_intd;
+    no_nul = h.no_nul;
     info = after_file h.info;
     info_there = still_there (Of Info n) h.info h.info_there;
     text = still_synced (Of Info n) h.info _ h.info_there h.text;
-    lanes = λ ch. lane_after controls n h.taken.injection ch (h.lanes ch);
-    notes = notes_after controls n h.taken.injection h.notes;
+    lanes = λ ch. lane_after n h.taken.injection ch (h.lanes ch);
+    notes = notes_after n h.taken.injection h.notes;
     unsettled = λ ch there. h.unsettled ch (λ none. there (still_absent (Of (lane_part ch) n) none));
   })
-  phase_after controls n (Finished h) = Finished (record {
+  phase_after n (Finished h) = Finished (record {
     injection = h.injection;
     lives = h.lives;
     accepted = h.accepted;
@@ -201,14 +200,14 @@ module _ (q : Queue) (contents : ℕ → List ℕ) (survives : AllSurvive q.disk
     settled = h.settled;
   })
 
-  pub sound_after : (controls : Controls) → Sound controls q → Sound controls (after_halt contents q)
-  sound_after controls G = record {
+  pub sound_after : Sound q → Sound (after_halt contents q)
+  sound_after G = record {
     suits = λ x y h.
         let w = found q.disk.names _ x y h in
         let right = G.suits x (entry q.disk.files y.number) (find_some q.disk.names q.disk.files x y.number w.0) in
         let recent = settled_recent (q.role y.number) (q.disk.files y.number) (contents y.number) right.1 in
         (right.0, subst (λ (z : Entry). IsRecent z.file (q.role y.number)) (sym w.1) recent);
-    fine = λ n. phase_after controls n (G.fine n);
+    fine = λ n. phase_after n (G.fine n);
     over = G.over;
   }
 

@@ -1,6 +1,5 @@
 -- How an injector fares: as it starts, calls, ends, is stopped, and as time goes on.
 use Rattle.std.proofs.Common.{◌≡◌, ℕ, ◌+◌, ◌≤◌, List, [], Bool, true, false, refl, sym, ◌∙◌, subst, ⊎_elim, arith, nat_lt, ltb-false, le_refl, le_trans}
-use Rattle.address_rules.specs.declared.controls.Controls.{Controls}
 use Rattle.call_fs.specs.declared.past.NeedData.{NeedData}
 use Rattle.call_fs.specs.declared.past.NeedData.TheVariants as needs
 use Rattle.call_fs.specs.declared.past.Own.{Own}
@@ -80,39 +79,39 @@ pub injector_done : (now : ℕ) (q : Queue) (a : List ℕ) (args : Arguments) (p
 injector_done now q a args past lives ended read ready F alive next =
     ends_queued q.books a args (inject_after args past) (end_due _ _ _ next) (F.stands alive).settles
 
-sound_by : (controls : Controls) (now : ℕ) (q : Queue) → Sound controls q → (a : List ℕ) (args : Arguments) (r : Queue) (row : Row) → Outcome controls now q a args r row → Sound controls r
-sound_by controls now q G a args r row O = record {
+sound_by : (now : ℕ) (q : Queue) → Sound q → (a : List ℕ) (args : Arguments) (r : Queue) (row : Row) → Outcome now q a args r row → Sound r
+sound_by now q G a args r row O = record {
   suits = O.suits;
   fine = λ n. ⊎_elim
       (O.fine n)
-      (λ far. subst (Phase controls) (sym (about_same now a O.number q r O.elsewhere n far)) (G.fine n))
+      (λ far. subst Phase (sym (about_same now a O.number q r O.elsewhere n far)) (G.fine n))
       (tells_number O.number n);
   over = O.over;
 }
 
 -- a number that a call concerns isn't preprocessed, so that those that are stay as they were
-sorted_by : (controls : Controls) (now : ℕ) (q : Queue) (a : List ℕ) (args : Arguments) (r : Queue) (row : Row) → Outcome controls now q a args r row → (n : ℕ) → IsSorted (about q n) → about r n ≡ about q n
-sorted_by controls now q a args r row O n sorted = ⊎_elim
+sorted_by : (now : ℕ) (q : Queue) (a : List ℕ) (args : Arguments) (r : Queue) (row : Row) → Outcome now q a args r row → (n : ℕ) → IsSorted (about q n) → about r n ≡ about q n
+sorted_by now q a args r row O n sorted = ⊎_elim
     (λ here. absurd (sorted.2 (O.unsorted n here sorted.0 sorted.1)))
     (λ far. about_same now a O.number q r O.elsewhere n far)
     (tells_number O.number n)
 
-pub injector_calls : (controls : Controls) (now : ℕ) (q : Queue) (a : List ℕ) (args : Arguments) (past : List Own) (read : ℕ) (ready : Found) (call : CallData) (told : Told) (wrote : ℕ)
-    → Sound controls q → InjectorFares now q a args past true false → last_read args.start past ≤ read → now ≤ read + 43200
+pub injector_calls : (now : ℕ) (q : Queue) (a : List ℕ) (args : Arguments) (past : List Own) (read : ℕ) (ready : Found) (call : CallData) (told : Told) (wrote : ℕ)
+    → Sound q → InjectorFares now q a args past true false → last_read args.start past ≤ read → now ≤ read + 43200
     → Next args past read ready ≡ needs.File call → Fits q.disk call told.answer wrote
-    → InjectorCalls controls now q a args past read ready call told wrote
-injector_calls controls now q a args past read ready call told wrote G F no_earlier no_stall next fits =
+    → InjectorCalls now q a args past read ready call told wrote
+injector_calls now q a args past read ready call told wrote G F no_earlier no_stall next fits =
     let S = F.stands refl in
     let due = call_due _ _ _ call next in
     let late : args.start ≤ read = le_trans F.reads no_earlier in
     let soon : InTime now args = in_time_call now args.start read due.1 no_stall in
-    let w = step controls now q a args G read late wrote (inject_after args past) call due.0 (S.relies soon, S.settles) told.answer fits in
+    let w = step now q a args G read late wrote (inject_after args past) call due.0 (S.relies soon, S.settles) told.answer fits in
     let O = w.1 in
     record {
       role = w.0;
       number = O.number;
       elsewhere = O.elsewhere;
-      sound = sound_by controls now q G a args _ _ O;
+      sound = sound_by now q G a args _ _ O;
       fares = record {
         stands = λ _. record { relies = λ _. O.next.0; settles = O.next.1 };
         queued = λ row. subst (Settles (booked q.books a args call told.answer) a args) row O.next.1;
@@ -124,7 +123,7 @@ injector_calls controls now q a args past read ready call told wrote G F no_earl
       spares = spares_by now a args soon q _ O.number O.elsewhere G.suits O.own;
       names = spares_names now a args soon q _ O.number O.elsewhere G.suits O.own;
       accepted = O.accepted;
-      sorted = sorted_by controls now q a args _ _ O;
+      sorted = sorted_by now q a args _ _ O;
       unsorted = λ n none part later. O.later part n later ∙ none part later;
       early = λ e. record {
         unsorted = λ n part later. O.later part n later ∙ e.unsorted n part later;

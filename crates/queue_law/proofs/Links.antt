@@ -1,6 +1,5 @@
 -- The rows of an injector's table at which a name comes or goes.
 use Rattle.std.proofs.Common.{◌≡◌, ◌≢◌, ◌⊎◌, inl, inr, ℕ, List, ◌++◌, true, false, Option, Some, None, option_to_list, refl, sym, ap, ◌∙◌, subst, ⊎_elim}
-use Rattle.address_rules.specs.declared.controls.Controls.{Controls}
 use Rattle.call_fs.specs.Maps.{put}
 use Rattle.call_fs.specs.Disk.{Among}
 use Rattle.queue_inject.specs.declared.injection.Arguments.{Arguments}
@@ -28,26 +27,26 @@ use Rattle.queue_law.proofs.Deeds.{named, begun_phase, later_far, named_other, L
 use Rattle.queue_law.proofs.Rows.{message_next}
 
 -- a number without a message: nothing of it is there, and nothing is owed
-record IsGone (controls : Controls) (w : About) : Type 0 where
+record IsGone (w : About) : Type 0 where
   unsorted : IsUnsorted w
   no_todo : in_todo w.parts ≡ None
   no_intd : in_intd w.parts ≡ None
-  settled : (i : Injection) → w.living ≡ Some i → i.accepted ≡ true → IsSettled controls i
+  settled : (i : Injection) → w.living ≡ Some i → i.accepted ≡ true → IsSettled i
 
-gone_of : (controls : Controls) (w : About) → Phase controls w → w.parts Mess ≡ None → IsGone controls w
-gone_of controls w (Free h) none = record {
+gone_of : (w : About) → Phase w → w.parts Mess ≡ None → IsGone w
+gone_of w (Free h) none = record {
   unsorted = h.unsorted;
   no_todo = h.no_todo;
   no_intd = h.intd_below none;
   settled = λ i lives t. absurd (h.not_accepted i lives t);
 }
-gone_of controls w (Queued h) none = let t = h.taken.mess_there in absurd (cc)
-gone_of controls w (Sorted h) none = let t = h.taken.mess_there in absurd (cc)
-gone_of controls w (Finished h) none = record {
+gone_of w (Queued h) none = let t = h.taken.mess_there in absurd (cc)
+gone_of w (Sorted h) none = let t = h.taken.mess_there in absurd (cc)
+gone_of w (Finished h) none = record {
   unsorted = h.unsorted;
   no_todo = h.no_todo;
   no_intd = h.no_intd;
-  settled = λ i lives t. let l = h.lives in let same : h.injection ≡ i = cc in subst (IsSettled controls) same h.settled;
+  settled = λ i lives t. let l = h.lives in let same : h.injection ≡ i = cc in subst IsSettled same h.settled;
 }
 
 -- the books when an injection begins: the life of the one before is over
@@ -93,9 +92,9 @@ still_accepted b a args n own i h t = ⊎_elim
     (λ (over : Among i b.over). inr over)
     h
 
-module _ (controls : Controls) (now : ℕ) (q : Queue) (a : List ℕ) (args : Arguments) (G : Sound controls q) where
+module _ (now : ℕ) (q : Queue) (a : List ℕ) (args : Arguments) (G : Sound q) where
   abbrev To : Queue → Row → Type 0
-  To = Leads controls now q a args G
+  To = Leads now q a args G
 
   -- where a name now leads
   put_right : (x : Name) (i : ℕ) (c : Books) (y : Entry) → IsRight x y (q.role y.number) → y ≡ entry q.disk.files i
@@ -113,7 +112,7 @@ module _ (controls : Controls) (now : ℕ) (q : Queue) (a : List ℕ) (args : Ar
       let c = beginning q.books a args n in
       let r = named q x (Some n) c in
       let none = find_none q.disk.names q.disk.files x free in
-      let F = gone_of controls (about q n) (G.fine n) none in
+      let F = gone_of (about q n) (G.fine n) none in
       let pid = Pid args.pid args.start seq in
       let y : Entry = record { number = n; file = h.file } in
       let is = (found q.disk.names q.disk.files pid y h.pid).1 in
@@ -125,7 +124,7 @@ module _ (controls : Controls) (now : ℕ) (q : Queue) (a : List ℕ) (args : Ar
         no_todo = todo_same (about q n).parts (about r n).parts (λ part is. other (Of part n) (todo_apart part n x is refl)) ∙ F.no_todo;
         lives = put_same q.books.living n _;
       } in
-      named_outcome controls now q a args G x (Some n) c n (at.UnlinkPid seq n (record { 0 = fd })) refl F.unsorted h.mine (inl none)
+      named_outcome now q a args G x (Some n) c n (at.UnlinkPid seq n (record { 0 = fd })) refl F.unsorted h.mine (inl none)
       (λ k is. (pid, (found q.disk.names q.disk.files pid y h.pid).0 ∙ is))
       refl
       (put_right x n c y ((refl, (a, args, h.mine)), (G.suits pid y h.pid).1) is)
@@ -139,7 +138,7 @@ module _ (controls : Controls) (now : ℕ) (q : Queue) (a : List ℕ) (args : Ar
       e.waits k i (sym s.1 ∙ lives) t (sym (todo_same (about q k).parts (about r k).parts (λ part is. other (Of part k) (todo_apart part k x is refl))) ∙ none))
       (put_cases q.books.living n (Some (begun a args n)) k))
       (λ e i w t. ⊎_elim (λ lives. e.waits n i lives t F.no_todo) (λ over. e.none_over i over t) (old_among (q.books.living n) q.books.over i w))
-      (begun_phase controls r a args n begins) (
+      (begun_phase r a args n begins) (
         record {
           mess = record {
             holds = record {
@@ -157,9 +156,9 @@ module _ (controls : Controls) (now : ℕ) (q : Queue) (a : List ℕ) (args : Ar
   -- a name of this injector's goes
   gone_row : (x : Name) (n : ℕ) (row : Row) → is_later_name x ≡ false → is_todo_name x ≡ false → IsUnsorted (about q n) → q.role n ≡ AsMessage a args
       → (about q n).living ≡ Some (begun a args n) → Concerns q x (Some n)
-      → Phase controls (about (named q x None q.books) n) → Basis (named q x None q.books) a args row → To (named q x None q.books) row
+      → Phase (about (named q x None q.books) n) → Basis (named q x None q.books) a args row → To (named q x None q.books) row
   gone_row x n row early no_todo unsorted mine lives concerns fine next =
-      named_outcome controls now q a args G x None q.books n row early unsorted mine (inr lives) (λ k is. absurd (cc)) concerns
+      named_outcome now q a args G x None q.books n row early unsorted mine (inr lives) (λ k is. absurd (cc)) concerns
       (λ z h. let w = find_gone q.disk.names q.disk.files x in absurd (cc)) (λ _ _. refl) (λ _ w _. w) G.over
       (λ e k i lives t none. e.waits k i lives t
       (sym (todo_same (about q k).parts (about (named q x None q.books) k).parts (λ part is. named_other q x None q.books (Of part k) (todo_apart part k x is no_todo))) ∙ none))
@@ -187,7 +186,7 @@ module _ (controls : Controls) (now : ℕ) (q : Queue) (a : List ℕ) (args : Ar
       let d = h.mess.holds.rest in
       let begins = begun_still x n refl (λ s. cc) refl d.bare.begins in
       let no_intd = intd_same (about q n).parts (about r n).parts (λ part is. named_other q x None q.books (Of part n) (intd_apart part n x is refl)) ∙ d.bare.no_intd in
-      gone_row x n _ refl refl d.bare.begins.unsorted h.mess.holds.mine d.bare.begins.lives (λ y e. let w = h.pid in cc) (begun_phase controls r a args n begins)
+      gone_row x n _ refl refl d.bare.begins.unsorted h.mess.holds.mine d.bare.begins.lives (λ y e. let w = h.pid in cc) (begun_phase r a args n begins)
       (message_next r a args n fd 0 (record {
         holds = record { mine = h.mess.holds.mine; rest = record { bare = record { begins = begins; no_intd = no_intd }; holds = d.holds } };
         opened = h.mess.opened;
@@ -199,7 +198,7 @@ module _ (controls : Controls) (now : ℕ) (q : Queue) (a : List ℕ) (args : Ar
       let x = Of Intd n in
       let r = named q x None q.books in
       let begins = begun_still x n refl (λ s. cc) refl h.rest in
-      gone_row x n _ refl refl h.rest.unsorted h.mine h.rest.lives refl (begun_phase controls r a args n begins)
+      gone_row x n _ refl refl h.rest.unsorted h.mine h.rest.lives refl (begun_phase r a args n begins)
       (record { mine = h.mine; rest = record { begins = begins; no_intd = intd_alone (about r n).parts ∙ find_gone q.disk.names q.disk.files x } }, bad)
 
   pub clean_mess_row : (n : ℕ) (cause : ℕ) → Holds q a args n (λ w. IsBare w a args n) → IsFailure cause
@@ -227,7 +226,7 @@ module _ (controls : Controls) (now : ℕ) (q : Queue) (a : List ℕ) (args : Ar
       let y : Entry = record { number = h.number; file = w.file } in
       let is = (found q.disk.names q.disk.files (Of Intd n) y w.intd).1 in
       let lives : c.living n ≡ Some (taken a args n) = put_same q.books.living n _ ∙ ap (accept a) w.begins.lives ∙ accept_own a args n in
-      named_outcome controls now q a args G x (Some h.number) c n at.Queued refl w.begins.unsorted h.holds.mine (inr w.begins.lives)
+      named_outcome now q a args G x (Some h.number) c n at.Queued refl w.begins.unsorted h.holds.mine (inr w.begins.lives)
       (λ k is. (Of Intd n, (found q.disk.names q.disk.files (Of Intd n) y w.intd).0 ∙ is))
       refl
       (put_right x h.number c y (G.suits (Of Intd n) y w.intd) is)
@@ -256,7 +255,8 @@ module _ (controls : Controls) (now : ℕ) (q : Queue) (a : List ℕ) (args : Ar
           spots = record {
             delivered = λ s none. absurd none;
             failed = λ s none. absurd none;
-            noted = λ s none. absurd none;
+            noted = λ it none. absurd none;
+            marked = λ it none. absurd none;
             bounced = λ b none. absurd none;
           };
         };
@@ -264,7 +264,6 @@ module _ (controls : Controls) (now : ℕ) (q : Queue) (a : List ℕ) (args : Ar
         todo_there = todo_alone (about (named q x (Some h.number) c) n).parts ∙ find_put q.disk.names q.disk.files x h.number ∙ ap Some (sym is);
         text = w.fulfils;
         no_bounce = named_other q x (Some h.number) c (Of Bounce n) (λ s. cc) ∙ w.begins.unsorted Bounce refl;
-        unnoted = refl;
-        unreturned = record { none = refl; kept = refl };
+        fresh = refl;
       }))
       (tt, (taken a args n, inl lives, refl, refl, refl))

@@ -1,36 +1,37 @@
 -- Channel files: through machine stops, marks, and as ledgers grow.
 use Rattle.std.proofs.Common.{◌≡◌, ◌⊎◌, inl, inr, ℕ, zero, suc, ◌+◌, ◌-◌, ◌<◌, ◌≤◌, List, [], ◌∷◌, ◌++◌, length, take, drop, Option, Some, refl, sym, ap, ◌∙◌, subst, ⊎_elim, arith, slice_get, le_antisymm, append_assoc}
 use Rattle.std.specs.List.{enumerate_from}
-use Rattle.address_rules.specs.declared.controls.Controls.{Controls}
-use Rattle.call_fs.specs.Disk.{File, Among, IsSynced}
+use Rattle.call_fs.specs.Disk.{File, Among}
 use Rattle.call_fs.specs.Survival.{HadAt, Survives, settled}
 use Rattle.call_fs.specs.Apply.{lying, put_over, overwritten, overwritten_part}
 use Rattle.send_known.specs.declared.channel.Channel.{Channel}
+use Rattle.address_rules.specs.declared.controls.Controls.{Controls}
 use Rattle.queue_law.specs.Ledgers.{Ledger, Line, HasGrown, line_in}
-use Rattle.queue_law.specs.Books.{Injection, with_line}
-use Rattle.queue_law.specs.Routes.{lane_text, spot_of}
-use Rattle.queue_law.specs.Marks.{IsDelivered, IsDone, IsMarked, IsNoted, AllMarked, IsLaneDone}
+use Rattle.queue_law.specs.Books.{Injection, lane_in, spot_in, with_line}
+use Rattle.queue_law.specs.Entered.{named_by}
+use Rattle.queue_law.specs.Routes.{Recipient, lane_text, spot_of}
+use Rattle.queue_law.specs.Marks.{IsDone, IsMarked, AllMarked, IsLaneDone}
 use Rattle.queue_law.proofs.Growth.{line_grows}
 
 -- a machine stop: a mark may be lost, and none is made up
-pub marked_survives : (controls : Controls) (i : Injection) (ch : Channel) (f : File) (bytes : List ℕ) → AllMarked controls i ch f → Survives f bytes
-    → AllMarked controls i ch (settled bytes f)
-marked_survives controls i ch f bytes m s = record { present = here; synced = here; since = λ place value h. absurd h; no_shorter = long; no_longer = long }
+pub marked_survives : (i : Injection) (ch : Channel) (f : File) (bytes : List ℕ) → AllMarked i ch f → Survives f bytes
+    → AllMarked i ch (settled bytes f)
+marked_survives i ch f bytes m s = record { present = here; synced = here; since = λ place value h. absurd h; no_shorter = long; no_longer = long }
   where
-    long : length bytes ≡ length (lane_text controls i.args ch)
+    long : length bytes ≡ length (lane_in i ch)
     long = le_antisymm (omega (arith, s.no_longer, m.no_longer)) (omega (arith, s.no_shorter, m.no_shorter))
 
-    had : (k : ℕ) (value : Option ℕ) → k < length (lane_text controls i.args ch) → HadAt f k value
-        → (value ≡ slice_get (lane_text controls i.args ch) k) ⊎ (IsDone i.ledger ch k × (value ≡ Some 68))
+    had : (k : ℕ) (value : Option ℕ) → k < length (lane_in i ch) → HadAt f k value
+        → (value ≡ slice_get (lane_in i ch) k) ⊎ (IsDone i.ledger ch k × (value ≡ Some 68))
     had k value lt w = ⊎_elim
         (λ (kept : value ≡ slice_get f.kept k). ⊎_elim
-        (λ (e : slice_get f.kept k ≡ slice_get (lane_text controls i.args ch) k). inl (kept ∙ e))
+        (λ (e : slice_get f.kept k ≡ slice_get (lane_in i ch) k). inl (kept ∙ e))
         (λ (e : IsDone i.ledger ch k × (slice_get f.kept k ≡ Some 68)). inr (e.0, kept ∙ e.1))
         (m.synced.each k lt))
         (λ given. let e = m.since k given.0 given.1 in inr (e.1, given.2 ∙ ap Some e.0))
         w
 
-    here : IsMarked (lane_text controls i.args ch) i.ledger ch bytes
+    here : IsMarked (lane_in i ch) i.ledger ch bytes
     here = record {
       long = long;
       each = λ k lt. let size = m.synced.long in had k (slice_get bytes k) lt (s.below k (omega arith) (omega arith));
@@ -121,17 +122,17 @@ marks_given m n at place value h = ⊎_elim
     (few m))
     (few n)
 
--- a mark at the place of a recipient that was delivered, or is noted
-pub marked_over : (controls : Controls) (i : Injection) (ch : Channel) (f : File) (now at : ℕ) → IsDone i.ledger ch at → AllMarked controls i ch f
-    → AllMarked controls i ch (overwritten now at (68 ∷ []) f)
-marked_over controls i ch f now at done m =
+-- a mark at the place of a recipient that is done
+pub marked_over : (i : Injection) (ch : Channel) (f : File) (now at : ℕ) → IsDone i.ledger ch at → AllMarked i ch f
+    → AllMarked i ch (overwritten now at (68 ∷ []) f)
+marked_over i ch f now at done m =
     let w = is_over at f.bytes in
     record {
       present = record {
         long = w.long ∙ m.present.long;
         each = λ k lt. ⊎_elim
             (λ (e : slice_get (over at f.bytes) k ≡ slice_get f.bytes k). ⊎_elim
-            (λ (v : slice_get f.bytes k ≡ slice_get (lane_text controls i.args ch) k). inl (e ∙ v))
+            (λ (v : slice_get f.bytes k ≡ slice_get (lane_in i ch) k). inl (e ∙ v))
             (λ (v : IsDone i.ledger ch k × (slice_get f.bytes k ≡ Some 68)). inr (v.0, e ∙ v.1))
             (m.present.each k lt))
             (λ (e : (k ≡ at) × (slice_get (over at f.bytes) k ≡ Some 68)). inr (subst (IsDone i.ledger ch) (sym e.0) done, e.1))
@@ -147,17 +148,14 @@ marked_over controls i ch f now at done m =
     }
 
 -- so of one that failed, after however many bytes
-pub marked_part : (controls : Controls) (i : Injection) (ch : Channel) (f : File) (now at wrote : ℕ) → IsDone i.ledger ch at → AllMarked controls i ch f
-    → AllMarked controls i ch (overwritten_part now at (68 ∷ []) wrote f)
-marked_part controls i ch f now at zero done m = m
-marked_part controls i ch f now at (suc zero) done m = marked_over controls i ch f now at done m
-marked_part controls i ch f now at (suc (suc k)) done m = marked_over controls i ch f now at done m
+pub marked_part : (i : Injection) (ch : Channel) (f : File) (now at wrote : ℕ) → IsDone i.ledger ch at → AllMarked i ch f
+    → AllMarked i ch (overwritten_part now at (68 ∷ []) wrote f)
+marked_part i ch f now at zero done m = m
+marked_part i ch f now at (suc zero) done m = marked_over i ch f now at done m
+marked_part i ch f now at (suc (suc k)) done m = marked_over i ch f now at done m
 
 done_grown : (l m : Ledger) → HasGrown l m → (ch : Channel) (place : ℕ) → IsDone l ch place → IsDone m ch place
-done_grown l m g ch place done = ⊎_elim
-    (λ (delivered : IsDelivered l ch place). inl (g.delivered (record { channel = ch; place = place }) delivered))
-    (λ (noted : IsNoted l ch place). inr (g.noted (record { channel = ch; place = place }) noted))
-    done
+done_grown l m g ch place done = (done.0, g.marked (named_by done.0 ch place) done.1)
 
 grown_bytes : (text bytes : List ℕ) (l m : Ledger) → HasGrown l m → (ch : Channel) → IsMarked text l ch bytes → IsMarked text m ch bytes
 grown_bytes text bytes l m g ch marked = record {
@@ -168,27 +166,22 @@ grown_bytes text bytes l m g ch marked = record {
       (marked.each k lt);
 }
 
--- a ledger that grows
-pub marked_grown : (controls : Controls) (i : Injection) (line : Line) (ch : Channel) (f : File) → AllMarked controls i ch f → AllMarked controls (with_line line i) ch f
-marked_grown controls i line ch f m =
+-- a ledger that grows by a line that doesn't route the message anew
+pub marked_grown : (i : Injection) (line : Line) → (line_in line i.ledger).routes ≡ i.ledger.routes → (ch : Channel) (f : File) → AllMarked i ch f → AllMarked (with_line line i) ch f
+marked_grown i line same ch f m =
     let g = line_grows line i.ledger in
+    let text : lane_in i ch ≡ lane_in (with_line line i) ch = ap (λ (c : Controls). lane_text c i.args ch) (sym same) in
     record {
-      present = grown_bytes (lane_text controls i.args ch) f.bytes i.ledger (line_in line i.ledger) g ch m.present;
-      synced = grown_bytes (lane_text controls i.args ch) f.kept i.ledger (line_in line i.ledger) g ch m.synced;
+      present = subst (λ (t : List ℕ). IsMarked t (line_in line i.ledger) ch f.bytes) text (grown_bytes (lane_in i ch) f.bytes i.ledger (line_in line i.ledger) g ch m.present);
+      synced = subst (λ (t : List ℕ). IsMarked t (line_in line i.ledger) ch f.kept) text (grown_bytes (lane_in i ch) f.kept i.ledger (line_in line i.ledger) g ch m.synced);
       since = λ place value h. let w = m.since place value h in (w.0, done_grown i.ledger (line_in line i.ledger) g ch place w.1);
-      no_shorter = m.no_shorter;
-      no_longer = m.no_longer;
+      no_shorter = m.no_shorter ∙ ap length text;
+      no_longer = m.no_longer ∙ ap length text;
     }
 
-pub lane_grown : (controls : Controls) (i : Injection) (line : Line) (ch : Channel) → IsLaneDone controls i ch → IsLaneDone controls (with_line line i) ch
-lane_grown controls i line ch all r on = done_grown i.ledger (line_in line i.ledger) (line_grows line i.ledger) ch (spot_of controls i.args r).place (all r on)
-
--- as preprocessing wrote it, no record is marked
-pub marked_new : (controls : Controls) (i : Injection) (ch : Channel) (f : File) → IsSynced f (lane_text controls i.args ch) → AllMarked controls i ch f
-marked_new controls i ch f s = record {
-  present = record { long = ap length s.holds; each = λ k lt. inl (ap (λ (bytes : List ℕ). slice_get bytes k) s.holds) };
-  synced = record { long = ap length s.all; each = λ k lt. inl (ap (λ (bytes : List ℕ). slice_get bytes k) s.all) };
-  since = λ place value h. absurd (subst (λ (given : List (ℕ × ℕ)). Among (place, value) given) s.none_given h);
-  no_shorter = s.no_shorter;
-  no_longer = s.no_longer;
-}
+pub lane_grown : (i : Injection) (line : Line) → (line_in line i.ledger).routes ≡ i.ledger.routes → (ch : Channel) → IsLaneDone i ch → IsLaneDone (with_line line i) ch
+lane_grown i line same ch = subst
+    (λ (c : Controls). ((r : Recipient i.args) → (spot_of i.ledger.routes i.args r).channel ≡ ch → IsDone i.ledger ch (spot_of i.ledger.routes i.args r).place)
+    → (r : Recipient i.args) → (spot_of c i.args r).channel ≡ ch → IsDone (line_in line i.ledger) ch (spot_of c i.args r).place)
+    (sym same)
+    (λ all r on. done_grown i.ledger (line_in line i.ledger) (line_grows line i.ledger) ch (spot_in i r).place (all r on))

@@ -1,11 +1,10 @@
 -- The notes that a bounce file has stay.
-use Rattle.std.proofs.Common.{◌≡◌, ℕ, ◌+◌, ◌≤◌, List, [], ◌∷◌, ◌++◌, length, take, Option, Some, None, Bool, true, false, bytes_eq, inr, refl, sym, ap, ◌∙◌, subst, arith, append_assoc, append-nil, eqb-true}
+use Rattle.std.proofs.Common.{◌≡◌, ℕ, ◌+◌, ◌≤◌, List, [], ◌∷◌, ◌++◌, length, take, Option, Some, None, Bool, true, false, bytes_eq, inr, refl, sym, ap, ◌∙◌, subst, ⊎_elim, arith, append_assoc, append-nil, eqb-true}
 use Rattle.std.specs.Prelude.{◌&&◌, ◌||◌, ◌==◌, if◌then◌else◌}
-use Rattle.std.specs.List.{list_any}
-use Rattle.std.proofs.lemmas.Bool.{and_parts}
+use Rattle.std.proofs.lemmas.Bool.{and_parts, eq-eqb}
 use Rattle.address_rules.specs.declared.controls.Controls.{Controls}
 use Rattle.address_rules.specs.Names.{stripped}
-use Rattle.address_rules.specs.Routes.{route_of}
+use Rattle.address_rules.specs.Routes.{address_in, route_of}
 use Rattle.bounce_record.specs.Notes.{count, note_name, with_note}
 use Rattle.bounce_record.specs.Resting.{BeginsWith, IsWhole}
 use Rattle.bounce_record.specs.Resting.IsWhole.{Bare}
@@ -18,9 +17,9 @@ use Rattle.queue_inject.specs.declared.injection.Arguments.{Arguments}
 use Rattle.queue_inject.specs.Texts.{recipients_of}
 use Rattle.send_known.specs.declared.channel.Channel.{Channel}
 use Rattle.send_known.specs.declared.channel.Channel.TheVariants.{Local, Remote}
-use Rattle.queue_law.specs.Books.{Injection}
-use Rattle.queue_law.specs.Ledgers.{Bounced, Ledger, Spot}
-use Rattle.queue_law.specs.Notes.{Covers, HasNotes, HeldOrReturned, NotesDone, NotesAccount, NotesState, NotesStay, counted_among, counted_as, is_channel, is_noted, is_spot, noted_among, noted_as, one_if, told_name, with_bounced, with_noted}
+use Rattle.queue_law.specs.Books.{Injection, routed_in, spot_in}
+use Rattle.queue_law.specs.Ledgers.{Bounced, Named, Spot}
+use Rattle.queue_law.specs.Notes.{Covers, HasNotes, HeldOrReturned, NotesDone, NotesAccount, NotesState, NotesStay, counted_among, counted_as, is_channel, is_noted_as, is_spot, name_at, name_in, named_now, noted_as, one_if, told_name, with_bounced, with_noted}
 use Rattle.queue_law.specs.Notes.HeldOrReturned.{Held, Returned, Void}
 use Rattle.queue_law.specs.Notes.NotesDone.{Dropped, Injected, Nothing}
 use Rattle.queue_law.specs.Notes.NotesState.{Gone, There}
@@ -29,20 +28,17 @@ use Rattle.queue_law.proofs.Places.{longer, on_route, size, to}
 
 -- nobody is noted
 
-is_none : (l : Ledger) (s : Spot) → l.noted ≡ [] → is_noted l s ≡ false
-is_none l s e = ap (λ (t : List Spot). list_any (is_spot s) t) e
-
-none_among : (controls : Controls) (l : Ledger) (earlier later : List (List ℕ)) (name : List ℕ) → l.noted ≡ [] → noted_among controls l earlier later name ≡ 0
-none_among controls l earlier [] name e = refl
-none_among controls l earlier (address ∷ later) name e =
-    let here : one_if (is_noted l (spot_after controls earlier address) && bytes_eq (told_name controls address) name) ≡ 0 =
-    ap (λ (b : Bool). one_if (b && bytes_eq (told_name controls address) name)) (is_none l (spot_after controls earlier address) e) in
-    let rest = none_among controls l (earlier ++ address ∷ []) later name e in
+none_among : (routes : Controls) (noted : List Named) (earlier later : List (List ℕ)) (name : List ℕ) → noted ≡ [] → counted_among routes (is_noted_as noted name) earlier later ≡ 0
+none_among routes noted earlier [] name e = refl
+none_among routes noted earlier (address ∷ later) name e =
+    let here : one_if (is_noted_as noted name (spot_after routes earlier address) (address_in (route_of routes address))) ≡ 0 =
+    ap (λ (t : List Named). one_if (is_noted_as t name (spot_after routes earlier address) (address_in (route_of routes address)))) e in
+    let rest = none_among routes noted (earlier ++ address ∷ []) later name e in
     omega (arith, here, rest)
 
-covers_none : (controls : Controls) (i : Injection) (text : List ℕ) → i.ledger.noted ≡ [] → Covers controls i text
-covers_none controls i text e name =
-    let none : noted_as controls i name ≡ 0 = none_among controls i.ledger [] (recipients_of i.args) name e in omega (arith, none)
+covers_none : (i : Injection) (text : List ℕ) → i.ledger.noted ≡ [] → Covers i text
+covers_none i text e name =
+    let none : noted_as i name ≡ 0 = none_among i.ledger.routes i.ledger.noted [] (recipients_of i.args) name e in omega (arith, none)
 
 -- No two recipients have one spot
 
@@ -69,50 +65,60 @@ same_spot s t h =
     let w = and_parts (is_channel s.channel t.channel) (s.place == t.place) h in
     (same_channel s.channel t.channel w.0, eqb-true s.place t.place w.1)
 
--- Counting noted recipients
+-- Counting recipients
 
-joined : (controls : Controls) (l : Ledger) (e xs ys : List (List ℕ)) (name : List ℕ)
-    → noted_among controls l e (xs ++ ys) name ≡ noted_among controls l e xs name + noted_among controls l (e ++ xs) ys name
-joined controls l e [] ys name =
-    let same : noted_among controls l e ys name ≡ noted_among controls l (e ++ []) ys name =
-    ap (λ (t : List (List ℕ)). noted_among controls l t ys name) (sym (append-nil e)) in
-    let nothing : noted_among controls l e [] name ≡ 0 = refl in
+joined : (routes : Controls) (such : Spot → List ℕ → Bool) (e xs ys : List (List ℕ))
+    → counted_among routes such e (xs ++ ys) ≡ counted_among routes such e xs + counted_among routes such (e ++ xs) ys
+joined routes such e [] ys =
+    let same : counted_among routes such e ys ≡ counted_among routes such (e ++ []) ys =
+    ap (λ (t : List (List ℕ)). counted_among routes such t ys) (sym (append-nil e)) in
+    let nothing : counted_among routes such e [] ≡ 0 = refl in
     omega (arith, nothing, same)
-joined controls l e (x ∷ xs) ys name =
-    let rest = joined controls l (e ++ x ∷ []) xs ys name in
-    let same = ap (λ (t : List (List ℕ)). noted_among controls l t ys name) (append_assoc e (x ∷ []) xs) in
+joined routes such e (x ∷ xs) ys =
+    let rest = joined routes such (e ++ x ∷ []) xs ys in
+    let same = ap (λ (t : List (List ℕ)). counted_among routes such t ys) (append_assoc e (x ∷ []) xs) in
     omega (arith, rest, same)
 
-module _ (controls : Controls) (i : Injection) (s : Spot) (name : List ℕ) where
-  abbrev more : Ledger
-  more = record i.ledger { noted = s ∷ i.ledger.noted }
+one_more : (b c d : Bool) → one_if ((b && d) || c) ≤ one_if c + one_if d
+one_more true true true = omega arith
+one_more true true false = omega arith
+one_more true false true = omega arith
+one_more true false false = omega arith
+one_more false true true = omega arith
+one_more false true false = omega arith
+one_more false false true = omega arith
+one_more false false false = omega arith
 
-  others_same : (e xs : List (List ℕ)) → ((f g : List (List ℕ)) (a : List ℕ) → xs ≡ f ++ a ∷ g → is_spot (spot_after controls (e ++ f) a) s ≡ false)
-      → noted_among controls more e xs name ≡ noted_among controls i.ledger e xs name
+module _ (by : Controls) (i : Injection) (r : Recipient i.args) (name : List ℕ) where
+  abbrev routes : Controls
+  routes = i.ledger.routes
+
+  abbrev spot : Spot
+  spot = spot_in i r
+
+  -- one recipient more is noted
+  abbrev one : Named
+  one = record { spot = spot; by = by }
+
+  abbrev less : Spot → List ℕ → Bool
+  less = is_noted_as i.ledger.noted name
+
+  abbrev more : Spot → List ℕ → Bool
+  more = is_noted_as (one ∷ i.ledger.noted) name
+
+  others_same : (e xs : List (List ℕ)) → ((f g : List (List ℕ)) (a : List ℕ) → xs ≡ f ++ a ∷ g → is_spot (spot_after routes (e ++ f) a) spot ≡ false)
+      → counted_among routes more e xs ≡ counted_among routes less e xs
   others_same e [] apart = refl
   others_same e (x ∷ xs) apart =
-      let here : is_spot (spot_after controls e x) s ≡ false =
-      ap (λ (t : List (List ℕ)). is_spot (spot_after controls t x) s) (sym (append-nil e)) ∙ apart [] xs x refl in
-      let one : one_if (is_noted more (spot_after controls e x) && bytes_eq (told_name controls x) name) ≡ one_if (is_noted i.ledger (spot_after controls e x) && bytes_eq (told_name controls x) name) =
-      ap (λ (b : Bool). one_if ((b || is_noted i.ledger (spot_after controls e x)) && bytes_eq (told_name controls x) name)) here in
-      let rest : noted_among controls more (e ++ x ∷ []) xs name ≡ noted_among controls i.ledger (e ++ x ∷ []) xs name =
+      let address = address_in (route_of routes x) in
+      let here : is_spot (spot_after routes e x) spot ≡ false =
+      ap (λ (t : List (List ℕ)). is_spot (spot_after routes t x) spot) (sym (append-nil e)) ∙ apart [] xs x refl in
+      let same : one_if (more (spot_after routes e x) address) ≡ one_if (less (spot_after routes e x) address) =
+      ap (λ (b : Bool). one_if ((b && bytes_eq (told_name by address) name) || less (spot_after routes e x) address)) here in
+      let rest : counted_among routes more (e ++ x ∷ []) xs ≡ counted_among routes less (e ++ x ∷ []) xs =
       others_same (e ++ x ∷ []) xs (λ f g a split.
-      ap (λ (t : List (List ℕ)). is_spot (spot_after controls t a) s) (append_assoc e (x ∷ []) f) ∙ apart (x ∷ f) g a (ap (λ (t : List (List ℕ)). x ∷ t) split)) in
-      omega (arith, one, rest)
-
-  one_more : (b c d : Bool) → one_if ((b || c) && d) ≤ one_if (c && d) + one_if d
-  one_more true true true = omega arith
-  one_more true true false = omega arith
-  one_more true false true = omega arith
-  one_more true false false = omega arith
-  one_more false true true = omega arith
-  one_more false true false = omega arith
-  one_more false false true = omega arith
-  one_more false false false = omega arith
-
-module _ (controls : Controls) (i : Injection) (r : Recipient i.args) (name : List ℕ) where
-  abbrev spot : Spot
-  spot = spot_of controls i.args r
+      ap (λ (t : List (List ℕ)). is_spot (spot_after routes t a) spot) (append_assoc e (x ∷ []) f) ∙ apart (x ∷ f) g a (ap (λ (t : List (List ℕ)). x ∷ t) split)) in
+      omega (arith, same, rest)
 
   -- a recipient with those before it
   abbrev at : (f g : List (List ℕ)) (a : List ℕ) → recipients_of i.args ≡ f ++ a ∷ g → Recipient i.args
@@ -122,56 +128,47 @@ module _ (controls : Controls) (i : Injection) (r : Recipient i.args) (name : Li
   not_true true h = absurd (h refl)
   not_true false h = refl
 
-  before : (f g : List (List ℕ)) (a : List ℕ) → r.earlier ≡ f ++ a ∷ g → is_spot (spot_after controls ([] ++ f) a) spot ≡ false
-  before f g a split = not_true (is_spot (spot_after controls f a) spot) (λ same.
+  before : (f g : List (List ℕ)) (a : List ℕ) → r.earlier ≡ f ++ a ∷ g → is_spot (spot_after routes ([] ++ f) a) spot ≡ false
+  before f g a split = not_true (is_spot (spot_after routes f a) spot) (λ same.
       let whole : recipients_of i.args ≡ f ++ a ∷ (g ++ r.address ∷ r.later) = r.split ∙ ap (λ (t : List (List ℕ)). t ++ r.address ∷ r.later) split ∙ append_assoc f (a ∷ g) (r.address ∷ r.later) in
-      let w = same_spot (spot_after controls f a) spot same in
-      spots_apart controls i.args (spot_of controls i.args r).channel (at f (g ++ r.address ∷ r.later) a whole) r w.0 refl w.1 g split)
+      let w = same_spot (spot_after routes f a) spot same in
+      spots_apart routes i.args spot.channel (at f (g ++ r.address ∷ r.later) a whole) r w.0 refl w.1 g split)
 
-  after : (f g : List (List ℕ)) (a : List ℕ) → r.later ≡ f ++ a ∷ g → is_spot (spot_after controls ((r.earlier ++ r.address ∷ []) ++ f) a) spot ≡ false
-  after f g a split = not_true (is_spot (spot_after controls ((r.earlier ++ r.address ∷ []) ++ f) a) spot) (λ same.
+  after : (f g : List (List ℕ)) (a : List ℕ) → r.later ≡ f ++ a ∷ g → is_spot (spot_after routes ((r.earlier ++ r.address ∷ []) ++ f) a) spot ≡ false
+  after f g a split = not_true (is_spot (spot_after routes ((r.earlier ++ r.address ∷ []) ++ f) a) spot) (λ same.
       let front : (r.earlier ++ r.address ∷ []) ++ f ≡ r.earlier ++ r.address ∷ f = append_assoc r.earlier (r.address ∷ []) f in
       let whole : recipients_of i.args ≡ ((r.earlier ++ r.address ∷ []) ++ f) ++ a ∷ g =
       r.split ∙ ap (λ (t : List (List ℕ)). r.earlier ++ r.address ∷ t) split ∙ sym (ap (λ (t : List (List ℕ)). t ++ a ∷ g) front ∙ append_assoc r.earlier (r.address ∷ f) (a ∷ g)) in
-      let w = same_spot (spot_after controls ((r.earlier ++ r.address ∷ []) ++ f) a) spot same in
-      spots_apart controls i.args (spot_of controls i.args r).channel r (at ((r.earlier ++ r.address ∷ []) ++ f) g a whole) refl w.0 (sym w.1) f front)
+      let w = same_spot (spot_after routes ((r.earlier ++ r.address ∷ []) ++ f) a) spot same in
+      spots_apart routes i.args spot.channel r (at ((r.earlier ++ r.address ∷ []) ++ f) g a whole) refl w.0 (sym w.1) f front)
 
-  abbrev less_among : List (List ℕ) → List (List ℕ) → ℕ
-  less_among e xs = noted_among controls i.ledger e xs name
+  abbrev counts : (Spot → List ℕ → Bool) → ℕ
+  counts such = one_if (such spot (routed_in i r))
 
-  abbrev more_among : List (List ℕ) → List (List ℕ) → ℕ
-  more_among e xs = noted_among controls (with_noted spot i).ledger e xs name
-
-  abbrev less_here : ℕ
-  less_here = one_if (is_noted i.ledger (spot_after controls r.earlier r.address) && bytes_eq (told_name controls r.address) name)
-
-  abbrev more_here : ℕ
-  more_here = one_if (is_noted (with_noted spot i).ledger (spot_after controls r.earlier r.address) && bytes_eq (told_name controls r.address) name)
-
-  noted_more : noted_as controls (with_noted spot i) name ≤ noted_as controls i name + one_if (bytes_eq (told_name controls r.address) name)
+  noted_more : noted_as (with_noted one i) name ≤ noted_as i name + one_if (bytes_eq (told_name by (routed_in i r)) name)
   noted_more =
-      let of_more : noted_as controls (with_noted spot i) name ≡ more_among [] r.earlier + (more_here + more_among (r.earlier ++ r.address ∷ []) r.later) =
-      ap (λ (t : List (List ℕ)). more_among [] t) r.split ∙ joined controls (with_noted spot i).ledger [] r.earlier (r.address ∷ r.later) name in
-      let of_less : noted_as controls i name ≡ less_among [] r.earlier + (less_here + less_among (r.earlier ++ r.address ∷ []) r.later) =
-      ap (λ (t : List (List ℕ)). less_among [] t) r.split ∙ joined controls i.ledger [] r.earlier (r.address ∷ r.later) name in
-      let first : more_among [] r.earlier ≡ less_among [] r.earlier = others_same controls i spot name [] r.earlier (λ f g a split. before f g a split) in
-      let last : more_among (r.earlier ++ r.address ∷ []) r.later ≡ less_among (r.earlier ++ r.address ∷ []) r.later =
-      others_same controls i spot name (r.earlier ++ r.address ∷ []) r.later (λ f g a split. after f g a split) in
-      let here : more_here ≤ less_here + one_if (bytes_eq (told_name controls r.address) name) =
-      one_more controls i spot name (is_spot (spot_after controls r.earlier r.address) spot) (is_noted i.ledger (spot_after controls r.earlier r.address)) (bytes_eq (told_name controls r.address) name) in
+      let of_more : noted_as (with_noted one i) name ≡ counted_among routes more [] r.earlier + (counts more + counted_among routes more (r.earlier ++ r.address ∷ []) r.later) =
+      ap (λ (t : List (List ℕ)). counted_among routes more [] t) r.split ∙ joined routes more [] r.earlier (r.address ∷ r.later) in
+      let of_less : noted_as i name ≡ counted_among routes less [] r.earlier + (counts less + counted_among routes less (r.earlier ++ r.address ∷ []) r.later) =
+      ap (λ (t : List (List ℕ)). counted_among routes less [] t) r.split ∙ joined routes less [] r.earlier (r.address ∷ r.later) in
+      let first : counted_among routes more [] r.earlier ≡ counted_among routes less [] r.earlier = others_same [] r.earlier (λ f g a split. before f g a split) in
+      let last : counted_among routes more (r.earlier ++ r.address ∷ []) r.later ≡ counted_among routes less (r.earlier ++ r.address ∷ []) r.later =
+      others_same (r.earlier ++ r.address ∷ []) r.later (λ f g a split. after f g a split) in
+      let here : counts more ≤ counts less + one_if (bytes_eq (told_name by (routed_in i r)) name) =
+      one_more (is_spot spot spot) (less spot (routed_in i r)) (bytes_eq (told_name by (routed_in i r)) name) in
       omega (arith, of_more, of_less, first, last, here)
 
-entered : (controls : Controls) (i : Injection) (r : Recipient i.args) (base report : List ℕ) (f : File) → Covers controls i base
-    → f.bytes ≡ with_note base (stripped controls.virtual_domains (routed controls i.args r)) report → HasNotes controls (with_noted (spot_of controls i.args r) i) (synced f)
-entered controls i r base report f old e =
-    let address : List ℕ = stripped controls.virtual_domains (routed controls i.args r) in
+entered : (by : Controls) (i : Injection) (r : Recipient i.args) (base report : List ℕ) (f : File) → Covers i base
+    → f.bytes ≡ with_note base (stripped by.virtual_domains (routed_in i r)) report → HasNotes (with_noted (record { spot = spot_in i r; by = by }) i) (synced f)
+entered by i r base report f old e =
+    let address : List ℕ = stripped by.virtual_domains (routed_in i r) in
     record {
       fixed = f.bytes;
       whole = subst IsWhole (sym e) (whole base address report);
       begins = syncs f;
       covers = λ name.
-          let grown_by : noted_as controls (with_noted (spot_of controls i.args r) i) name ≤ noted_as controls i name + one_if (bytes_eq (note_name address) name) = noted_more controls i r name in
-          let old_covers : noted_as controls i name ≤ count base name = old name in
+          let grown_by : noted_as (with_noted (record { spot = spot_in i r; by = by }) i) name ≤ noted_as i name + one_if (bytes_eq (note_name address) name) = noted_more by i r name in
+          let old_covers : noted_as i name ≤ count base name = old name in
           let counted : count f.bytes name ≡ count base name + one_if (bytes_eq (note_name address) name) = ap (λ (t : List ℕ). count t name) e ∙ count_more base address report name ∙ ap (λ (k : ℕ). count base name + k) (as_if (bytes_eq (note_name address) name)) in
           omega (arith, grown_by, old_covers, counted);
     }
@@ -180,24 +177,51 @@ entered controls i r base report f old e =
     as_if true = refl
     as_if false = refl
 
-one_less : (b c d : Bool) → (b ≡ true → c ≡ true) → one_if (b && d) ≤ one_if (c && d)
-one_less true true true h = omega arith
-one_less true true false h = omega arith
-one_less true false d h = absurd (cc (h refl))
-one_less false c d h = omega arith
+one_less : (b c : Bool) → (b ≡ true → c ≡ true) → one_if b ≤ one_if c
+one_less true true h = omega arith
+one_less true false h = absurd (cc (h refl))
+one_less false c h = omega arith
 
-fewer : (controls : Controls) (l : Ledger) (such : Spot → Bool) → ((s : Spot) → such s ≡ true → is_noted l s ≡ true) → (e xs : List (List ℕ)) (name : List ℕ)
-    → counted_among controls such e xs name ≤ noted_among controls l e xs name
-fewer controls l such h e [] name = omega arith
-fewer controls l such h e (x ∷ xs) name =
-    let here = one_less (such (spot_after controls e x)) (is_noted l (spot_after controls e x)) (bytes_eq (told_name controls x) name) (h (spot_after controls e x)) in
-    let rest = fewer controls l such h (e ++ x ∷ []) xs name in
+pub fewer : (routes : Controls) (such other : Spot → List ℕ → Bool) → ((s : Spot) (address : List ℕ) → such s address ≡ true → other s address ≡ true) → (e xs : List (List ℕ))
+    → counted_among routes such e xs ≤ counted_among routes other e xs
+fewer routes such other h e [] = omega arith
+fewer routes such other h e (x ∷ xs) =
+    let here = one_less (such (spot_after routes e x) (address_in (route_of routes x))) (other (spot_after routes e x) (address_in (route_of routes x))) (h (spot_after routes e x) (address_in (route_of routes x))) in
+    let rest = fewer routes such other h (e ++ x ∷ []) xs in
     omega (arith, here, rest)
 
-counted : (controls : Controls) (i : Injection) (such : Spot → Bool) → ((s : Spot) → such s ≡ true → is_noted i.ledger s ≡ true) → (text : List ℕ) → Covers controls i text
-    → (name : List ℕ) → counted_as controls such i name ≤ count text name
-counted controls i such h text covers name =
-    let less = fewer controls i.ledger such h [] (recipients_of i.args) name in
+-- who is noted is found under its name
+
+pub spot_itself : (s : Spot) → is_spot s s ≡ true
+spot_itself s = by s.channel (eq-eqb s.place s.place refl)
+  where
+    by : (c : Channel) → (s.place == s.place) ≡ true → (is_channel c c && (s.place == s.place)) ≡ true
+    by Local e = e
+    by Remote e = e
+
+found_as : (noted : List Named) (it : Named) (name address : List ℕ) → Among it noted → bytes_eq (told_name it.by address) name ≡ true → is_noted_as noted name it.spot address ≡ true
+found_as [] it name address among e = absurd among
+found_as (x ∷ xs) it name address among e = ⊎_elim
+    (λ (same : it ≡ x).
+    let both : (is_spot it.spot it.spot && bytes_eq (told_name it.by address) name) ≡ true = ap (λ (b : Bool). b && bytes_eq (told_name it.by address) name) (spot_itself it.spot) ∙ e in
+    let here : (is_spot it.spot x.spot && bytes_eq (told_name x.by address) name) ≡ true =
+    ap (λ (z : Named). is_spot it.spot z.spot && bytes_eq (told_name z.by address) name) (sym same) ∙ both in
+    ap (λ (b : Bool). b || is_noted_as xs name it.spot address) here)
+    (λ (rest : Among it xs). or_true (is_spot it.spot x.spot && bytes_eq (told_name x.by address) name) (is_noted_as xs name it.spot address) (found_as xs it name address rest e))
+    among
+  where
+    or_true : (b c : Bool) → c ≡ true → (b || c) ≡ true
+    or_true true c e = refl
+    or_true false c e = e
+
+counted : (i : Injection) (such : Spot → Bool) → ((s : Spot) → such s ≡ true → Among (named_now i.ledger s) i.ledger.noted) → (text : List ℕ) → Covers i text
+    → (name : List ℕ) → counted_as such i name ≤ count text name
+counted i such h text covers name =
+    let less = fewer i.ledger.routes (λ s address. such s && bytes_eq (name_at i.ledger s address) name) (is_noted_as i.ledger.noted name)
+    (λ s address e.
+    let w = and_parts (such s) (bytes_eq (name_at i.ledger s address) name) e in
+    found_as i.ledger.noted (named_now i.ledger s) name address (h s w.0) w.1)
+    [] (recipients_of i.args) in
     let more = covers name in
     omega (arith, less, more)
 
@@ -220,57 +244,55 @@ syncs_on fixed f h = record {
 
 pub notes_stay : NotesStay
 notes_stay = record {
-  none = λ controls i now e. record { fixed = []; whole = Bare refl; begins = created now; covers = covers_none controls i [] e };
-  grows = λ controls i more now f h. record { fixed = h.fixed; whole = h.whole; begins = grows h.fixed more now f h.begins; covers = h.covers };
-  grows_in_part = λ controls i more now wrote f h. record { fixed = h.fixed; whole = h.whole; begins = grows_in_part h.fixed more now wrote f h.begins; covers = h.covers };
-  survives = λ controls i bytes f h s. record { fixed = h.fixed; whole = h.whole; begins = survives h.fixed bytes f h.begins s; covers = h.covers };
-  named = λ controls i f h. (
+  none = λ i now e. record { fixed = []; whole = Bare refl; begins = created now; covers = covers_none i [] e };
+  grows = λ i more now f h. record { fixed = h.fixed; whole = h.whole; begins = grows h.fixed more now f h.begins; covers = h.covers };
+  grows_in_part = λ i more now wrote f h. record { fixed = h.fixed; whole = h.whole; begins = grows_in_part h.fixed more now wrote f h.begins; covers = h.covers };
+  survives = λ i bytes f h s. record { fixed = h.fixed; whole = h.whole; begins = survives h.fixed bytes f h.begins s; covers = h.covers };
+  named = λ i f h. (
     (λ name. let less = h.covers name in let more = named_in h.fixed f.bytes name h.whole h.begins.present in omega (arith, less, more)),
     (λ name. let less = h.covers name in let more = named_in h.fixed f.kept name h.whole h.begins.kept in omega (arith, less, more)),
   );
   counted = counted;
-  syncs = λ controls i f h. record { fixed = h.fixed; whole = h.whole; begins = syncs_on h.fixed f h.begins; covers = h.covers };
+  syncs = λ i f h. record { fixed = h.fixed; whole = h.whole; begins = syncs_on h.fixed f h.begins; covers = h.covers };
   entered = entered;
 }
 
 -- Where the notes of a message are
 
-accepted : (controls : Controls) (i : Injection) (b : Bounced) (bounce : Option File) → NotesState controls i bounce → NotesState controls (with_bounced b i) bounce
-accepted controls i b bounce (There f e h) = There f e (record { fixed = h.fixed; whole = h.whole; begins = h.begins; covers = h.covers })
-accepted controls i b bounce (Gone e (Injected c among covers)) = Gone e (Injected c (inr among) covers)
-accepted controls i b bounce (Gone e (Dropped is from)) = Gone e (Dropped is from)
-accepted controls i b bounce (Gone e (Nothing none)) = Gone e (Nothing none)
+accepted : (i : Injection) (b : Bounced) (bounce : Option File) → NotesState i bounce → NotesState (with_bounced b i) bounce
+accepted i b bounce (There f e h) = There f e (record { fixed = h.fixed; whole = h.whole; begins = h.begins; covers = h.covers })
+accepted i b bounce (Gone e (Injected c among covers)) = Gone e (Injected c (inr among) covers)
+accepted i b bounce (Gone e (Dropped is from)) = Gone e (Dropped is from)
+accepted i b bounce (Gone e (Nothing none)) = Gone e (Nothing none)
 
-returned : (controls : Controls) (i : Injection) (b : Bounced) (f : File) → Among b i.ledger.bounced → b.notes ≡ f.bytes → NotesState controls i (Some f) → NotesState controls i None
-returned controls i b f among is (There g e h) =
+returned : (i : Injection) (b : Bounced) (f : File) → Among b i.ledger.bounced → b.read.notes ≡ f.bytes → NotesState i (Some f) → NotesState i None
+returned i b f among is (There g e h) =
     let same : f ≡ g = cc e in
-    let begins : take (length h.fixed) b.notes ≡ h.fixed = ap (λ (t : List ℕ). take (length h.fixed) t) (is ∙ ap (λ (x : File). x.bytes) same) ∙ h.begins.present in
+    let begins : take (length h.fixed) b.read.notes ≡ h.fixed = ap (λ (t : List ℕ). take (length h.fixed) t) (is ∙ ap (λ (x : File). x.bytes) same) ∙ h.begins.present in
     Gone refl (Injected b among (λ name.
     let less = h.covers name in
-    let more = named_in h.fixed b.notes name h.whole begins in
+    let more = named_in h.fixed b.read.notes name h.whole begins in
     omega (arith, less, more)))
-returned controls i b f among is (Gone e s) = absurd (cc e)
+returned i b f among is (Gone e s) = absurd (cc e)
 
-settled_account : (controls : Controls) (i : Injection) (such : Spot → Bool) → ((s : Spot) → such s ≡ true → is_noted i.ledger s ≡ true) → (r : Recipient i.args)
-    → such (spot_of controls i.args r) ≡ true → (bounce : Option File) → NotesDone controls i → HeldOrReturned controls i such (told_name controls r.address) bounce
-settled_account controls i such h r so bounce (Injected b among covers) = Returned b among (counted controls i such h b.notes covers (told_name controls r.address))
-settled_account controls i such h r so bounce (Dropped is from) = Void is from
-settled_account controls i such h r so bounce (Nothing none) =
-    let both : true ≡ false = sym (h (spot_of controls i.args r) so) ∙ is_none i.ledger (spot_of controls i.args r) none in
-    absurd (cc both)
+settled_account : (i : Injection) (such : Spot → Bool) → ((s : Spot) → such s ≡ true → Among (named_now i.ledger s) i.ledger.noted) → (r : Recipient i.args)
+    → such (spot_in i r) ≡ true → (bounce : Option File) → NotesDone i → HeldOrReturned i such (name_in i r) bounce
+settled_account i such h r so bounce (Injected b among covers) = Returned b among (counted i such h b.read.notes covers (name_in i r))
+settled_account i such h r so bounce (Dropped is from) = Void is from
+settled_account i such h r so bounce (Nothing none) = absurd (subst (λ (xs : List Named). Among (named_now i.ledger (spot_in i r)) xs) none (h (spot_in i r) so))
 
 pub notes_account : NotesAccount
 notes_account = record {
-  created = λ controls i now none. There (empty_file now) refl (notes_stay.none controls i now none);
+  created = λ i now none. There (empty_file now) refl (notes_stay.none i now none);
   accepted = accepted;
   returned = returned;
-  dropped = λ controls i from. Gone refl (Dropped refl from);
+  dropped = λ i from. Gone refl (Dropped refl from);
   accounted = accounted;
 }
   where
-    accounted : (controls : Controls) (i : Injection) (such : Spot → Bool) → ((s : Spot) → such s ≡ true → is_noted i.ledger s ≡ true) → (r : Recipient i.args)
-        → such (spot_of controls i.args r) ≡ true → (bounce : Option File) → NotesState controls i bounce → HeldOrReturned controls i such (told_name controls r.address) bounce
-    accounted controls i such h r so bounce (There f e has) =
-        let named = notes_stay.named controls i f has in
-        Held f e (counted controls i such h f.bytes named.0 (told_name controls r.address)) (counted controls i such h f.kept named.1 (told_name controls r.address))
-    accounted controls i such h r so bounce (Gone e settled) = settled_account controls i such h r so bounce settled
+    accounted : (i : Injection) (such : Spot → Bool) → ((s : Spot) → such s ≡ true → Among (named_now i.ledger s) i.ledger.noted) → (r : Recipient i.args)
+        → such (spot_in i r) ≡ true → (bounce : Option File) → NotesState i bounce → HeldOrReturned i such (name_in i r) bounce
+    accounted i such h r so bounce (There f e has) =
+        let named = notes_stay.named i f has in
+        Held f e (counted i such h f.bytes named.0 (name_in i r)) (counted i such h f.kept named.1 (name_in i r))
+    accounted i such h r so bounce (Gone e settled) = settled_account i such h r so bounce settled

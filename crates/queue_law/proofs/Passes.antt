@@ -66,13 +66,13 @@ part_role target.Info n i role h = h
 part_role target.Local n i role h = h
 part_role target.Remote n i role h = h
 
-module _ (controls : Controls) (now : ℕ) (a : List ℕ) (q : Queue) (G : Sound controls q) (n : ℕ) (R : RestsAs now q n (IsQueued controls)) where
+module _ (controls : Controls) (now : ℕ) (a : List ℕ) (q : Queue) (G : Sound q) (n : ℕ) (R : RestsAs now q n IsQueued) where
   -- to what a step leads
   abbrev To : Queue → Row → Type 0
-  To r row = PassLeads controls now a q r n row
+  To r row = PassLeads now a q r n row
 
   -- its number rests then too
-  abbrev rests_on : (r : Queue) → IsClosed now r n → IsQueued controls (about r n) → RestsAs now r n (IsQueued controls)
+  abbrev rests_on : (r : Queue) → IsClosed now r n → IsQueued (about r n) → RestsAs now r n IsQueued
   rests_on r c w = record { closed = c; rest = w }
 
   -- descriptors alone changed
@@ -82,7 +82,7 @@ module _ (controls : Controls) (now : ℕ) (a : List ℕ) (q : Queue) (G : Sound
   of_fds opens holder row others holds =
       let r = with_fds q opens holder in
       record {
-        leads = leads_on controls now a q r G n (fds_elsewhere now a q G.suits n R.closed opens holder others) G.suits (Queued R.rest) G.over (outside_same q.disk opens)
+        leads = leads_on now a q r G n (fds_elsewhere now a q G.suits n R.closed opens holder others) G.suits (Queued R.rest) G.over (outside_same q.disk opens)
             (record { files = λ _ _ _ _. refl; roles = λ _ _ _. refl });
         stands = record {
           rests = λ _. record { closed = closed_on now q r n refl refl refl R.closed; rest = R.rest };
@@ -100,9 +100,9 @@ module _ (controls : Controls) (now : ℕ) (a : List ℕ) (q : Queue) (G : Sound
       let part = file_part t in
       let r = gone q n part in
       let f = far t in
-      let w = queued_same controls (about q n) (about r n) refl (part_other q n part Mess f.mess) (todo_same (about q n).parts (about r n).parts (λ p is. part_other q n part p (todo_far p part is f.todo))) (part_lost q n part Bounce R.rest.no_bounce) R.rest in
+      let w = queued_same (about q n) (about r n) refl (part_other q n part Mess f.mess) (todo_same (about q n).parts (about r n).parts (λ p is. part_other q n part p (todo_far p part is f.todo))) (part_lost q n part Bounce R.rest.no_bounce) R.rest in
       record {
-        leads = leads_on controls now a q r G n (part_elsewhere now a q G.suits n R.closed part) (part_suits q G.suits n part) (Queued w) G.over (part_outside q n part)
+        leads = leads_on now a q r G n (part_elsewhere now a q G.suits n R.closed part) (part_suits q G.suits n part) (Queued w) G.over (part_outside q n part)
             (record { files = λ _ _ _ _. refl; roles = λ _ _ _. refl });
         stands = record {
           rests = λ _. record { closed = closed_on now q r n (part_other q n part Mess f.mess) refl refl R.closed; rest = w };
@@ -120,9 +120,9 @@ module _ (controls : Controls) (now : ℕ) (a : List ℕ) (q : Queue) (G : Sound
       let r = made q a x fd i read role in
       let f = far t in
       let other = new_other now a q G.suits n R.closed part fd i read new in
-      let w = queued_same controls (about q n) (about r n) refl (other Mess f.mess) (todo_same (about q n).parts (about r n).parts (λ p is. other p (todo_far p part is f.todo))) (other Bounce f.bounce ∙ R.rest.no_bounce) R.rest in
+      let w = queued_same (about q n) (about r n) refl (other Mess f.mess) (todo_same (about q n).parts (about r n).parts (λ p is. other p (todo_far p part is f.todo))) (other Bounce f.bounce ∙ R.rest.no_bounce) R.rest in
       record {
-        leads = leads_on controls now a q r G n (new_elsewhere now a q G.suits n R.closed part fd i read new)
+        leads = leads_on now a q r G n (new_elsewhere now a q G.suits n R.closed part fd i read new)
             (made_suits now q G.suits x a fd i read role new (right_part t n (record { number = i; file = empty_file read })))
             (Queued w) G.over (made_outside q x fd i read new) (made_old q a x fd i read role new);
         stands = record {
@@ -144,10 +144,10 @@ module _ (controls : Controls) (now : ℕ) (a : List ℕ) (q : Queue) (G : Sound
       let mine = part_role t n h.file.number (q.role h.file.number) (G.suits (Of part n) h.file h.there).0 in
       let it = far t in
       let mess = bytes_mess now a q G.suits n R.closed part h.file f h.there mine in
-      let w = queued_same controls (about q n) (about r n) refl mess (bytes_todo now a q G.suits n R.closed part h.file f h.there mine it.todo)
+      let w = queued_same (about q n) (about r n) refl mess (bytes_todo now a q G.suits n R.closed part h.file f h.there mine it.todo)
       (find_absent q.disk.names q.disk.files (Of Bounce n) h.file.number f R.rest.no_bounce) R.rest in
       record {
-        leads = leads_on controls now a q r G n (bytes_elsewhere now a q G.suits n R.closed part h.file f h.there mine)
+        leads = leads_on now a q r G n (bytes_elsewhere now a q G.suits n R.closed part h.file f h.there mine)
             (bytes_suit now a q G.suits n R.closed part h.file f h.there mine) (Queued w) G.over
             (bytes_outside now a q G.suits n R.closed part h.file f h.there mine) (bytes_old now a q G.suits n R.closed part h.file f h.there mine);
         stands = record {
@@ -342,4 +342,4 @@ passes_keep controls now q a n past read ready asked told wrote G S due fits =
     let p = pass_after controls n past in
     let due_it : due_at p.row (record p { n = n }) ≡ needs.File asked = subst (λ k. due_at p.row (record p { n = k }) ≡ needs.File asked) (numbered controls n past) due in
     let w = step controls now a q G n (S.rests (calling_holds p.row p asked due)) read wrote told.bytes p.row p S.holds asked due_it told.answer fits in
-    (w.0, subst (λ (next : Pass). PassLeads controls now a q (called_queue q a read asked told.answer wrote w.0) n next.row) (sym (calling_moves controls p.row p asked due read told)) w.1)
+    (w.0, subst (λ (next : Pass). PassLeads now a q (called_queue q a read asked told.answer wrote w.0) n next.row) (sym (calling_moves controls p.row p asked due read told)) w.1)

@@ -1,8 +1,7 @@
 -- What a todo pass has made when it gives its command, and what others leave alone.
-use Rattle.std.proofs.Common.{◌≡◌, ◌≢◌, ℕ, ◌≤◌, List, [], ◌∷◌, ◌++◌, take, slice_get, All, Option, Some, None, refl, sym, ap, ◌∙◌, subst}
+use Rattle.std.proofs.Common.{◌≡◌, ◌≢◌, inr, ℕ, ◌≤◌, List, [], ◌∷◌, ◌++◌, take, slice_get, All, Option, Some, None, refl, sym, ap, ◌∙◌, subst}
 use Rattle.std.specs.Option.{IfSome}
 use Rattle.std.proofs.lemmas.List.Elements.{All-weaker}
-use Rattle.address_rules.specs.declared.controls.Controls.{Controls}
 use Rattle.call_fs.specs.Disk.{IsSynced, IsWhole}
 use Rattle.call_fs.specs.declared.calls.Fd.{Fd}
 use Rattle.envelope_records.specs.Envelope.{IsAddress, HasEnvelope, Reading, read_envelope, todo_head, todo_text}
@@ -38,7 +37,14 @@ use Rattle.queue_law.specs.Ready.{HasSynced, IsMade}
 use Rattle.queue_law.specs.Ready.IsMade.{NotNeeded, IsThere}
 use Rattle.queue_law.specs.Rests.{Spares}
 use Rattle.queue_law.specs.Steps.{Elsewhere}
-use Rattle.queue_law.specs.Passes.{file_part, HasOpen, Writes, HoldsAt, PassStands, PassesMake, PassIsLeftAlone}
+use Rattle.queue_law.specs.Passes.{file_part, HasOpen, Writes, HoldsAt, PassStands, PassesGive, PassesMake, PassIsLeftAlone}
+use Rattle.queue_law.specs.Books.{with_line}
+use Rattle.queue_law.specs.Ledgers.{IsFresh, Ledger, line_in}
+use Rattle.queue_law.specs.Ledgers.Line.{Routes}
+use Rattle.queue_law.specs.Senders.{MayEnter, entered_queue}
+use Rattle.queue_law.proofs.Cleaners.{made_same, synced_same}
+use Rattle.queue_law.proofs.Lines.{fresh_spots}
+use Rattle.queue_law.proofs.Sends.{entered_living, entries_keep}
 use Rattle.queue_law.proofs.Looks.{find_some, find_none, not_found, found}
 use Rattle.queue_law.proofs.Rests.{closed_later}
 
@@ -123,11 +129,62 @@ passes_make controls n past first q run leads at_give Q =
     let local : p.sorted.local ≡ lane_text controls args channel.Local = ap (λ (s : Texts). s.local) sorted ∙ ap (λ rs. channel_text (locals_of controls rs)) so.recipients in
     let remote : p.sorted.remote ≡ lane_text controls args channel.Remote = ap (λ (s : Texts). s.remote) sorted ∙ ap (λ rs. channel_text (remotes_of controls rs)) so.recipients in
     record {
-      queued = Q;
       info = subst (HasSynced w Info) info (there_part q Info n p.sorted.info F.complete.info);
       lanes = both (λ ch. IsMade w (lane_part ch) (lane_text controls args ch))
           (subst (IsMade w Local) local (made_part q Local n p.sorted.local F.complete.local))
           (subst (IsMade w Remote) remote (made_part q Remote n p.sorted.remote F.complete.remote));
+    }
+
+-- whatever comes of the giving
+pub passes_give : PassesGive
+passes_give routes now q a n plain G rests made =
+    let Q = rests.rest in
+    let i = Q.taken.injection in
+    let w = about q n in
+    let r = entered_queue q n (Routes routes) in
+    let lives = entered_living now q a G n (Routes routes) i Q.taken.lives in
+    let fresh : IsFresh (line_in (Routes routes) i.ledger) = ap (λ (l : Ledger). line_in (Routes routes) l) Q.fresh in
+    let may : MayEnter w (Routes routes) = record {
+      mess = Q.taken.mess;
+      there = Q.taken.mess_there;
+      injection = i;
+      lives = Q.taken.lives;
+      accepted = Q.taken.accepted;
+      fits = λ none. let there = Q.todo_there in absurd (cc);
+    } in
+    record {
+      leads = entries_keep now q a G n (Routes routes) may;
+      ready = record {
+        closed = record {
+          mess = rests.closed.mess;
+          there = rests.closed.there;
+          shut = inr (record { injection = with_line (Routes routes) i; lives = lives; accepted = Q.taken.accepted });
+        };
+        rest = record {
+          queued = record {
+            taken = record {
+              injection = with_line (Routes routes) i;
+              lives = lives;
+              accepted = Q.taken.accepted;
+              mess = Q.taken.mess;
+              mess_there = Q.taken.mess_there;
+              message = Q.taken.message;
+              valid = Q.taken.valid;
+              spots = fresh_spots (with_line (Routes routes) i) fresh;
+            };
+            todo = Q.todo;
+            todo_there = Q.todo_there;
+            text = Q.text;
+            no_bounce = Q.no_bounce;
+            fresh = fresh;
+          };
+          no_nul = plain;
+          made = record {
+            info = synced_same w (about r n) Info (info_of i.args) refl made.info;
+            lanes = λ ch. made_same w (about r n) (lane_part ch) (lane_text routes i.args ch) refl (made.lanes ch);
+          };
+        };
+      };
     }
 
 -- What others leave alone
@@ -202,17 +259,17 @@ module _ (now : ℕ) (a o : List ℕ) (m : Option ℕ) (q r : Queue) (E : Elsewh
   holds_still n (at.Shut fd why) same h = open_still fd.0 h
   holds_still n row same h = tt
 
-  pass_stands : (controls : Controls) (k : Option ℕ) → Spares now k q r → (n : ℕ) → k ≢ Some n → (row : Row) → PassStands controls now q a n row → PassStands controls now r a n row
-  pass_stands controls k S n far row h = record {
+  pass_stands : (k : Option ℕ) → Spares now k q r → (n : ℕ) → k ≢ Some n → (row : Row) → PassStands now q a n row → PassStands now r a n row
+  pass_stands k S n far row h = record {
     rests = λ holds. let w = h.rests holds in record {
       closed = S.closed n far w.closed;
-      rest = subst (IsQueued controls) (sym (S.abouts n far w.closed)) w.rest;
+      rest = subst IsQueued (sym (S.abouts n far w.closed)) w.rest;
     };
     holds = holds_still n row (λ holds. S.abouts n far (h.rests holds).closed) h.holds;
   }
 
-pass_later : (controls : Controls) (now m : ℕ) → now ≤ m → (q : Queue) (a : List ℕ) (n : ℕ) (row : Row) → PassStands controls now q a n row → PassStands controls m q a n row
-pass_later controls now m later q a n row h = record {
+pass_later : (now m : ℕ) → now ≤ m → (q : Queue) (a : List ℕ) (n : ℕ) (row : Row) → PassStands now q a n row → PassStands m q a n row
+pass_later now m later q a n row h = record {
   rests = λ holds. let w = h.rests holds in record { closed = closed_later now m later q n w.closed; rest = w.rest };
   holds = h.holds;
 }
@@ -220,6 +277,6 @@ pass_later controls now m later q a n row h = record {
 pub pass_is_left_alone : PassIsLeftAlone
 pass_is_left_alone = record {
   alone = λ now a o m q r E other n row h same. left_alone now a o m q r E other n row h same;
-  stands = λ controls now a o m k q r E other S n far row h. pass_stands now a o m q r E other controls k S n far row h;
+  stands = λ now a o m k q r E other S n far row h. pass_stands now a o m q r E other k S n far row h;
   later = pass_later;
 }

@@ -16,9 +16,11 @@ use Rattle.todo_pass.specs.Places.{HasRecord, place_by, text_by}
 use Rattle.todo_pass.specs.Sorting.{local_of, remote_of, channel_text, sorted_of}
 use Rattle.todo_pass.proofs.Places.{each_at_its_place}
 use Rattle.queue_law.specs.Ledgers.{Spot}
-use Rattle.queue_law.specs.Books.{Injection}
+use Rattle.call_fs.specs.Disk.{Among}
+use Rattle.queue_law.specs.Books.{Injection, lane_in, routed_in, spot_in}
+use Rattle.queue_law.specs.Entered.{named_by}
 use Rattle.queue_law.specs.Routes.{IsSpot, Recipient, channel_of, lane_text, routed, spot_of, todo_in}
-use Rattle.queue_law.specs.Marks.{IsDelivered, IsDone, IsMarked, IsNoted, HasItsSpots}
+use Rattle.queue_law.specs.Marks.{IsDone, IsMarked, HasItsSpots}
 
 text_is : (controls : Controls) (args : Arguments) (route : Route) → text_by (sorted_of controls (todo_in args)) route ≡ lane_text controls args (channel_of route)
 text_is controls args (Local address) = refl
@@ -55,24 +57,24 @@ pub some_apart : ◌≡◌ {A = Option ℕ} (Some 68) (Some 84) → ⊥
 some_apart e = let w : ◌≡◌ {A = ℕ} 68 84 = ap (λ (o : Option ℕ). unwrap_or o 0) e in omega arith
 
 -- what is done is a recipient of the message
-pub done_spot : (controls : Controls) (i : Injection) → HasItsSpots controls i → (ch : Channel) (k : ℕ) → IsDone i.ledger ch k
-    → IsSpot controls i.args (record { channel = ch; place = k })
-done_spot controls i h ch k done = ⊎_elim
-    (λ (delivered : IsDelivered i.ledger ch k). h.delivered (record { channel = ch; place = k }) delivered)
-    (λ (noted : IsNoted i.ledger ch k). h.failed (record { channel = ch; place = k }) (h.noted (record { channel = ch; place = k }) noted))
-    done
+pub done_spot : (i : Injection) → HasItsSpots i → (ch : Channel) (k : ℕ) → IsDone i.ledger ch k
+    → IsSpot i.ledger.routes i.args (record { channel = ch; place = k })
+done_spot i h ch k done = ⊎_elim
+    (λ (delivered : Among (record { channel = ch; place = k }) i.ledger.delivered). h.delivered (record { channel = ch; place = k }) delivered)
+    (λ (noted : Among (named_by done.0 ch k) i.ledger.noted). h.failed (record { channel = ch; place = k }) (h.noted (named_by done.0 ch k) noted))
+    (h.marked (named_by done.0 ch k) done.1)
 
--- a record that reads `D` is of a recipient that was delivered, or is noted
-pub reads_done : (controls : Controls) (i : Injection) (ch : Channel) (bytes : List ℕ) → IsMarked (lane_text controls i.args ch) i.ledger ch bytes
-    → (r : Recipient i.args) → (spot_of controls i.args r).channel ≡ ch → slice_get bytes (spot_of controls i.args r).place ≡ Some 68
-    → IsDone i.ledger ch (spot_of controls i.args r).place
-reads_done controls i ch bytes m r on reads =
-    let place = (spot_of controls i.args r).place in
-    let h = record_on controls i.args r ch on in
-    let within = inside (lane_text controls i.args ch) place (routed controls i.args r) h in
+-- a record that reads `D` is of a recipient that is done
+pub reads_done : (i : Injection) (ch : Channel) (bytes : List ℕ) → IsMarked (lane_in i ch) i.ledger ch bytes
+    → (r : Recipient i.args) → (spot_in i r).channel ≡ ch → slice_get bytes (spot_in i r).place ≡ Some 68
+    → IsDone i.ledger ch (spot_in i r).place
+reads_done i ch bytes m r on reads =
+    let place = (spot_in i r).place in
+    let h = record_on i.ledger.routes i.args r ch on in
+    let within = inside (lane_in i ch) place (routed_in i r) h in
     ⊎_elim
-    (λ (same : slice_get bytes place ≡ slice_get (lane_text controls i.args ch) place).
-    absurd (some_apart (sym reads ∙ same ∙ letter (lane_text controls i.args ch) place (routed controls i.args r) h)))
+    (λ (same : slice_get bytes place ≡ slice_get (lane_in i ch) place).
+    absurd (some_apart (sym reads ∙ same ∙ letter (lane_in i ch) place (routed_in i r) h)))
     (λ (done : IsDone i.ledger ch place × (slice_get bytes place ≡ Some 68)). done.0)
     (m.each place (omega arith))
 
@@ -173,43 +175,43 @@ front_part (x ∷ front) part rest (b ∷ bytes) l h =
     (b ∷ t.0, (t.1.0, (ap (λ z. b ∷ z) t.1.1.0, ap suc t.1.1.1)))
 
 -- a record that reads `T` stands in a marked file as it does in the text
-pub reads_open : (controls : Controls) (i : Injection) (ch : Channel) (bytes : List ℕ) → HasItsSpots controls i
-    → IsMarked (lane_text controls i.args ch) i.ledger ch bytes → (r : Recipient i.args) → (spot_of controls i.args r).channel ≡ ch
-    → slice_get bytes (spot_of controls i.args r).place ≡ slice_get (lane_text controls i.args ch) (spot_of controls i.args r).place
-    → HasRecord bytes (spot_of controls i.args r).place (routed controls i.args r)
-reads_open controls i ch bytes spots m r on same =
+pub reads_open : (i : Injection) (ch : Channel) (bytes : List ℕ) → HasItsSpots i
+    → IsMarked (lane_in i ch) i.ledger ch bytes → (r : Recipient i.args) → (spot_in i r).channel ≡ ch
+    → slice_get bytes (spot_in i r).place ≡ slice_get (lane_in i ch) (spot_in i r).place
+    → HasRecord bytes (spot_in i r).place (routed_in i r)
+reads_open i ch bytes spots m r on same =
     record { front = t.0; rest = t.1.0; split = t.1.1.0; place_is = h.place_is ∙ sym t.1.1.1 }
   where
     place : ℕ
-    place = (spot_of controls i.args r).place
+    place = (spot_in i r).place
 
-    h : HasRecord (lane_text controls i.args ch) (spot_of controls i.args r).place (routed controls i.args r)
-    h = record_on controls i.args r ch on
+    h : HasRecord (lane_in i ch) (spot_in i r).place (routed_in i r)
+    h = record_on i.ledger.routes i.args r ch on
 
-    agree : (k : ℕ) → (spot_of controls i.args r).place ≤ k → k < (spot_of controls i.args r).place + length (record_of (routed controls i.args r))
-        → slice_get bytes k ≡ slice_get (lane_text controls i.args ch) k
+    agree : (k : ℕ) → (spot_in i r).place ≤ k → k < (spot_in i r).place + length (record_of (routed_in i r))
+        → slice_get bytes k ≡ slice_get (lane_in i ch) k
     agree k low high =
-        let within = inside (lane_text controls i.args ch) (spot_of controls i.args r).place (routed controls i.args r) h in
+        let within = inside (lane_in i ch) (spot_in i r).place (routed_in i r) h in
         ⊎_elim
-        (λ w. let here : k ≡ (spot_of controls i.args r).place = w.1 in
-        subst (λ p. slice_get bytes p ≡ slice_get (lane_text controls i.args ch) p) (sym here) same)
+        (λ w. let here : k ≡ (spot_in i r).place = w.1 in
+        subst (λ p. slice_get bytes p ≡ slice_get (lane_in i ch) p) (sym here) same)
         (λ w.
-        let far : k ≢ (spot_of controls i.args r).place = w.1 in
+        let far : k ≢ (spot_in i r).place = w.1 in
         ⊎_elim
-        (λ (e : slice_get bytes k ≡ slice_get (lane_text controls i.args ch) k). e)
+        (λ (e : slice_get bytes k ≡ slice_get (lane_in i ch) k). e)
         (λ (done : IsDone i.ledger ch k × (slice_get bytes k ≡ Some 68)).
-        let s = done_spot controls i spots ch k done.0 in
-        let there : (spot_of controls i.args s.0).place ≡ k = sym (ap (λ (z : Spot). z.place) s.1) in
-        let on' : (spot_of controls i.args s.0).channel ≡ ch = sym (ap (λ (z : Spot). z.channel) s.1) in
-        let more = λ (lt : (spot_of controls i.args r).place < (spot_of controls i.args s.0).place). apart_records controls i.args ch r s.0 on on' lt in
+        let s = done_spot i spots ch k done.0 in
+        let there : (spot_in i s.0).place ≡ k = sym (ap (λ (z : Spot). z.place) s.1) in
+        let on' : (spot_in i s.0).channel ≡ ch = sym (ap (λ (z : Spot). z.channel) s.1) in
+        let more = λ (lt : (spot_in i r).place < (spot_in i s.0).place). apart_records i.ledger.routes i.args ch r s.0 on on' lt in
         let past = more (omega (arith, there, far, low)) in
         absurd (omega (arith, past, there, high)))
         (m.each k (omega (arith, within, high))))
-        (eqb_tells k (spot_of controls i.args r).place)
+        (eqb_tells k (spot_in i r).place)
 
-    t : (fore : List ℕ) × ((new : List ℕ) × ((bytes ≡ fore ++ (record_of (routed controls i.args r) ++ new)) × (length fore ≡ length h.front)))
+    t : (fore : List ℕ) × ((new : List ℕ) × ((bytes ≡ fore ++ (record_of (routed_in i r) ++ new)) × (length fore ≡ length h.front)))
     t =
         let at = h.place_is in
-        front_part h.front (record_of (routed controls i.args r)) h.rest bytes
+        front_part h.front (record_of (routed_in i r)) h.rest bytes
         (sym (ap length h.split) ∙ sym m.long)
         (λ k low high. agree k (omega arith) (omega arith) ∙ ap (λ z. slice_get z k) h.split)

@@ -26,8 +26,8 @@ use Rattle.send_known.specs.declared.channel.Channel.TheVariants as channel
 use Rattle.todo_pass.specs.Places.{place_by}
 use Rattle.todo_pass.specs.Sorting.{local_of, remote_of, channel_text}
 use Rattle.queue_law.specs.Ledgers.{Spot}
-use Rattle.queue_law.specs.Books.{Injection, IsValid}
-use Rattle.queue_law.specs.Routes.{Recipient, channel_of, spot_of, routed, lane_text}
+use Rattle.queue_law.specs.Books.{Injection, IsValid, lane_in, routed_in, spot_in}
+use Rattle.queue_law.specs.Routes.{Recipient, channel_of, routed, lane_text}
 use Rattle.queue_law.specs.Marks.{IsDone, HasItsSpots}
 use Rattle.queue_law.specs.Accounts.{IsRecordOf, RecipientsAreNumbered, RecordsAreOfRecipients}
 use Rattle.queue_law.proofs.Places.{some_apart, to, size, on_route, rest_part, apart_records, done_spot}
@@ -110,98 +110,98 @@ goes_to controls earlier r a channel.Remote (Local address) e is = let w = ap re
 text_append : (xs ys : List (List ℕ)) → channel_text (xs ++ ys) ≡ channel_text xs ++ channel_text ys
 text_append xs ys = flat_map-append record_of xs ys
 
-module _ (controls : Controls) (i : Injection) (ch : Channel) (plain : (r : Recipient i.args) → HasNoNul (routed controls i.args r)) (spots : HasItsSpots controls i) where
+module _ (i : Injection) (ch : Channel) (plain : (r : Recipient i.args) → HasNoNul (routed_in i r)) (spots : HasItsSpots i) where
   abbrev text : List (List ℕ) → List ℕ
-  text later = channel_text (filter_map (to controls ch) later)
+  text later = channel_text (filter_map (to i.ledger.routes ch) later)
 
   -- the bytes that records of these recipients have, after those of others
   abbrev Agrees : List (List ℕ) → List (List ℕ) → List ℕ → Type 0
-  Agrees earlier later bytes = (k : ℕ) → k < length bytes → (slice_get bytes k ≡ slice_get (text later) k) ⊎ (IsDone i.ledger ch (size controls ch earlier + k) × (slice_get bytes k ≡ Some 68))
+  Agrees earlier later bytes = (k : ℕ) → k < length bytes → (slice_get bytes k ≡ slice_get (text later) k) ⊎ (IsDone i.ledger ch (size i.ledger.routes ch earlier + k) × (slice_get bytes k ≡ Some 68))
 
   -- they are read as records of these recipients, one for each
   record Reads (earlier later : List (List ℕ)) (records : List Record) : Type 0 where
-    each : (it : Record) → Among it records → (r : Recipient i.args) × IsRecordOf controls i ch r it
-    all : (middle rest : List (List ℕ)) (x a : List ℕ) → later ≡ middle ++ x ∷ rest → to controls ch x ≡ Some a
-        → (it : Record) × Among it records × ((it.place ≡ size controls ch (earlier ++ middle)) × ((it.address ≡ a) × (it.done ≡ true → IsDone i.ledger ch it.place)))
+    each : (it : Record) → Among it records → (r : Recipient i.args) × IsRecordOf i ch r it
+    all : (middle rest : List (List ℕ)) (x a : List ℕ) → later ≡ middle ++ x ∷ rest → to i.ledger.routes ch x ≡ Some a
+        → (it : Record) × Among it records × ((it.place ≡ size i.ledger.routes ch (earlier ++ middle)) × ((it.address ≡ a) × (it.done ≡ true → IsDone i.ledger ch it.place)))
 
-  size_next : (earlier : List (List ℕ)) (x : List ℕ) (o : Option (List ℕ)) → to controls ch x ≡ o
-      → size controls ch (earlier ++ x ∷ []) ≡ size controls ch earlier + length (channel_text (cons_option o []))
+  size_next : (earlier : List (List ℕ)) (x : List ℕ) (o : Option (List ℕ)) → to i.ledger.routes ch x ≡ o
+      → size i.ledger.routes ch (earlier ++ x ∷ []) ≡ size i.ledger.routes ch earlier + length (channel_text (cons_option o []))
   size_next earlier x o is =
-      ap length (ap channel_text (filter_map-append (to controls ch) earlier (x ∷ [])) ∙ text_append (filter_map (to controls ch) earlier) (filter_map (to controls ch) (x ∷ [])))
+      ap length (ap channel_text (filter_map-append (to i.ledger.routes ch) earlier (x ∷ [])) ∙ text_append (filter_map (to i.ledger.routes ch) earlier) (filter_map (to i.ledger.routes ch) (x ∷ [])))
       ∙ length-append (text earlier) (text (x ∷ []))
-      ∙ ap (λ (o : Option (List ℕ)). size controls ch earlier + length (channel_text (cons_option o []))) is
+      ∙ ap (λ (o : Option (List ℕ)). size i.ledger.routes ch earlier + length (channel_text (cons_option o []))) is
 
   -- a recipient of another channel
-  reads_skip : (earlier later : List (List ℕ)) (x : List ℕ) (records : List Record) → to controls ch x ≡ None
+  reads_skip : (earlier later : List (List ℕ)) (x : List ℕ) (records : List Record) → to i.ledger.routes ch x ≡ None
       → Reads (earlier ++ x ∷ []) later records → Reads earlier (x ∷ later) records
   reads_skip earlier later x records none h = record { each = h.each; all = all }
     where
-      all : (middle rest : List (List ℕ)) (y a : List ℕ) → x ∷ later ≡ middle ++ y ∷ rest → to controls ch y ≡ Some a
-          → (it : Record) × Among it records × ((it.place ≡ size controls ch (earlier ++ middle)) × ((it.address ≡ a) × (it.done ≡ true → IsDone i.ledger ch it.place)))
-      all [] rest y a e is = let same : x ≡ y = cc in let w = ap (to controls ch) same in absurd (cc)
+      all : (middle rest : List (List ℕ)) (y a : List ℕ) → x ∷ later ≡ middle ++ y ∷ rest → to i.ledger.routes ch y ≡ Some a
+          → (it : Record) × Among it records × ((it.place ≡ size i.ledger.routes ch (earlier ++ middle)) × ((it.address ≡ a) × (it.done ≡ true → IsDone i.ledger ch it.place)))
+      all [] rest y a e is = let same : x ≡ y = cc in let w = ap (to i.ledger.routes ch) same in absurd (cc)
       all (z ∷ middle) rest y a e is =
           let same : x ≡ z = cc in
           let tail : later ≡ middle ++ y ∷ rest = cc in
           let w = h.all middle rest y a tail is in
           let at : (earlier ++ x ∷ []) ++ middle ≡ earlier ++ z ∷ middle = append_assoc earlier (x ∷ []) middle ∙ ap (λ v. earlier ++ v ∷ middle) same in
-          (w.0, w.1, (w.2.0 ∙ ap (size controls ch) at, w.2.1))
+          (w.0, w.1, (w.2.0 ∙ ap (size i.ledger.routes ch) at, w.2.1))
 
   -- a recipient of this one, and its record
   reads_next : (earlier later : List (List ℕ)) (x a : List ℕ) (it : Record) (records : List Record) → (split : recipients_of i.args ≡ earlier ++ x ∷ later)
-      → to controls ch x ≡ Some a → it.place ≡ size controls ch earlier → it.address ≡ a → (it.done ≡ true → IsDone i.ledger ch it.place)
+      → to i.ledger.routes ch x ≡ Some a → it.place ≡ size i.ledger.routes ch earlier → it.address ≡ a → (it.done ≡ true → IsDone i.ledger ch it.place)
       → Reads (earlier ++ x ∷ []) later records → Reads earlier (x ∷ later) (it ∷ records)
   reads_next earlier later x a it records split is place address done h = record { each = each; all = all }
     where
-      each : (other : Record) → Among other (it ∷ records) → (r : Recipient i.args) × IsRecordOf controls i ch r other
+      each : (other : Record) → Among other (it ∷ records) → (r : Recipient i.args) × IsRecordOf i ch r other
       each other (inl same) =
-          let w = goes_to controls earlier x a ch (route_of controls x) refl is in (
+          let w = goes_to i.ledger.routes earlier x a ch (route_of i.ledger.routes x) refl is in (
             record { earlier = earlier; address = x; later = later; split = split },
-            subst (IsRecordOf controls i ch (record { earlier = earlier; address = x; later = later; split = split })) (sym same)
+            subst (IsRecordOf i ch (record { earlier = earlier; address = x; later = later; split = split })) (sym same)
                 (record { on = w.0; place_is = place ∙ sym w.1.1; address_is = address ∙ sym w.1.0; done = done }),
           )
       each other (inr rest) = h.each other rest
 
-      all : (middle rest : List (List ℕ)) (y b : List ℕ) → x ∷ later ≡ middle ++ y ∷ rest → to controls ch y ≡ Some b
-          → (other : Record) × Among other (it ∷ records) × ((other.place ≡ size controls ch (earlier ++ middle)) × ((other.address ≡ b) × (other.done ≡ true → IsDone i.ledger ch other.place)))
+      all : (middle rest : List (List ℕ)) (y b : List ℕ) → x ∷ later ≡ middle ++ y ∷ rest → to i.ledger.routes ch y ≡ Some b
+          → (other : Record) × Among other (it ∷ records) × ((other.place ≡ size i.ledger.routes ch (earlier ++ middle)) × ((other.address ≡ b) × (other.done ≡ true → IsDone i.ledger ch other.place)))
       all [] rest y b e goes =
           let same : x ≡ y = cc in
-          let w = ap (to controls ch) same in
+          let w = ap (to i.ledger.routes ch) same in
           let address' : a ≡ b = cc in
           let at : earlier ≡ earlier ++ [] = sym (append-nil earlier) in
-          (it, inl refl, (place ∙ ap (size controls ch) at, (address ∙ address', done)))
+          (it, inl refl, (place ∙ ap (size i.ledger.routes ch) at, (address ∙ address', done)))
       all (z ∷ middle) rest y b e goes =
           let same : x ≡ z = cc in
           let tail : later ≡ middle ++ y ∷ rest = cc in
           let w = h.all middle rest y b tail goes in
           let at : (earlier ++ x ∷ []) ++ middle ≡ earlier ++ z ∷ middle = append_assoc earlier (x ∷ []) middle ∙ ap (λ v. earlier ++ v ∷ middle) same in
-          (w.0, inr w.1, (w.2.0 ∙ ap (size controls ch) at, w.2.1))
+          (w.0, inr w.1, (w.2.0 ∙ ap (size i.ledger.routes ch) at, w.2.1))
 
   -- the bytes of records that agree with the text of these recipients are read so
   abbrev Lined : List (List ℕ) → Type 0
   Lined later = (earlier : List (List ℕ)) (bytes : List ℕ) (records : List Record) → recipients_of i.args ≡ earlier ++ later → length bytes ≡ length (text later)
-      → Agrees earlier later bytes → bytes ≡ flat_map text_of records → All Plain records → AreFrom (size controls ch earlier) records → Reads earlier later records
+      → Agrees earlier later bytes → bytes ≡ flat_map text_of records → All Plain records → AreFrom (size i.ledger.routes ch earlier) records → Reads earlier later records
 
   lined_none : Lined []
   lined_none earlier bytes [] split long agrees is p from = record { each = λ it h. absurd h; all = λ middle rest x a e. absurd (none_in middle rest x e) }
   lined_none earlier bytes (it ∷ records) split long agrees is p from = let w = ap length is in absurd (omega (arith, w, long))
 
-  lined_skip : (x : List ℕ) (later : List (List ℕ)) → Lined later → to controls ch x ≡ None → Lined (x ∷ later)
+  lined_skip : (x : List ℕ) (later : List (List ℕ)) → Lined later → to i.ledger.routes ch x ≡ None → Lined (x ∷ later)
   lined_skip x later rec none earlier bytes records split long agrees is p from =
-      let same : text (x ∷ later) ≡ text later = ap (λ (o : Option (List ℕ)). channel_text (cons_option o (filter_map (to controls ch) later))) none in
+      let same : text (x ∷ later) ≡ text later = ap (λ (o : Option (List ℕ)). channel_text (cons_option o (filter_map (to i.ledger.routes ch) later))) none in
       let grown = size_next earlier x None none in
-      let still : size controls ch earlier ≡ size controls ch (earlier ++ x ∷ []) = omega (arith, grown) in
+      let still : size i.ledger.routes ch earlier ≡ size i.ledger.routes ch (earlier ++ x ∷ []) = omega (arith, grown) in
       reads_skip earlier later x records none
       (rec (earlier ++ x ∷ []) bytes records (split ∙ sym (append_assoc earlier (x ∷ []) later)) (long ∙ ap length same)
       (λ k lt. ⊎_elim
       (λ (e : slice_get bytes k ≡ slice_get (text (x ∷ later)) k). inl (e ∙ ap (λ z. slice_get z k) same))
-      (λ (e : IsDone i.ledger ch (size controls ch earlier + k) × (slice_get bytes k ≡ Some 68)).
+      (λ (e : IsDone i.ledger ch (size i.ledger.routes ch earlier + k) × (slice_get bytes k ≡ Some 68)).
       inr (subst (λ n. IsDone i.ledger ch (n + k)) still e.0, e.1))
       (agrees k lt))
       is p (subst (λ n. AreFrom n records) still from))
 
-  lined_next : (x a : List ℕ) (later : List (List ℕ)) → Lined later → to controls ch x ≡ Some a → Lined (x ∷ later)
+  lined_next : (x a : List ℕ) (later : List (List ℕ)) → Lined later → to i.ledger.routes ch x ≡ Some a → Lined (x ∷ later)
   lined_next x a later rec is earlier bytes [] split long agrees read p from =
-      let t : text (x ∷ later) ≡ record_of a ++ text later = ap (λ (o : Option (List ℕ)). channel_text (cons_option o (filter_map (to controls ch) later))) is in
+      let t : text (x ∷ later) ≡ record_of a ++ text later = ap (λ (o : Option (List ℕ)). channel_text (cons_option o (filter_map (to i.ledger.routes ch) later))) is in
       let w = ap length t in
       let v = ap length read in
       absurd (omega (arith, w, v, long))
@@ -212,13 +212,13 @@ module _ (controls : Controls) (i : Injection) (ch : Channel) (plain : (r : Reci
       (subst (λ n. AreFrom n records) place_new from.1))
     where
       t : text (x ∷ later) ≡ 84 ∷ ((a ++ 0 ∷ []) ++ text later)
-      t = ap (λ (o : Option (List ℕ)). channel_text (cons_option o (filter_map (to controls ch) later))) is
+      t = ap (λ (o : Option (List ℕ)). channel_text (cons_option o (filter_map (to i.ledger.routes ch) later))) is
 
       r : Recipient i.args
       r = record { earlier = earlier; address = x; later = later; split = split }
 
-      w : (channel_of (route_of controls x) ≡ ch) × ((address_in (route_of controls x) ≡ a) × (place_by controls earlier (route_of controls x) ≡ size controls ch earlier))
-      w = goes_to controls earlier x a ch (route_of controls x) refl is
+      w : (channel_of (route_of i.ledger.routes x) ≡ ch) × ((address_in (route_of i.ledger.routes x) ≡ a) × (place_by i.ledger.routes earlier (route_of i.ledger.routes x) ≡ size i.ledger.routes ch earlier))
+      w = goes_to i.ledger.routes earlier x a ch (route_of i.ledger.routes x) refl is
 
       inner : (k : ℕ) → k < length (a ++ 0 ∷ []) → slice_get tail k ≡ slice_get ((a ++ 0 ∷ []) ++ text later) k
       inner k lt =
@@ -226,13 +226,13 @@ module _ (controls : Controls) (i : Injection) (ch : Channel) (plain : (r : Reci
           let size_p = length-append (a ++ 0 ∷ []) (text later) in
           ⊎_elim
           (λ (e : slice_get (c ∷ tail) (suc k) ≡ slice_get (text (x ∷ later)) (suc k)). e ∙ ap (λ z. slice_get z (suc k)) t)
-          (λ (e : IsDone i.ledger ch (size controls ch earlier + suc k) × (slice_get (c ∷ tail) (suc k) ≡ Some 68)).
-          let s = done_spot controls i spots ch (size controls ch earlier + suc k) e.0 in
-          let there : (spot_of controls i.args s.0).place ≡ size controls ch earlier + suc k = sym (ap (λ (z : Spot). z.place) s.1) in
-          let on : (spot_of controls i.args s.0).channel ≡ ch = sym (ap (λ (z : Spot). z.channel) s.1) in
+          (λ (e : IsDone i.ledger ch (size i.ledger.routes ch earlier + suc k) × (slice_get (c ∷ tail) (suc k) ≡ Some 68)).
+          let s = done_spot i spots ch (size i.ledger.routes ch earlier + suc k) e.0 in
+          let there : (spot_in i s.0).place ≡ size i.ledger.routes ch earlier + suc k = sym (ap (λ (z : Spot). z.place) s.1) in
+          let on : (spot_in i s.0).channel ≡ ch = sym (ap (λ (z : Spot). z.channel) s.1) in
           let here = w.1.1 in
           let ends = ap (λ z. length (record_of z)) w.1.0 in
-          let past = apart_records controls i.args ch r s.0 w.0 on (omega (arith, there, here)) in
+          let past = apart_records i.ledger.routes i.args ch r s.0 w.0 on (omega (arith, there, here)) in
           absurd (omega (arith, past, there, here, ends, lt)))
           (agrees (suc k) (omega (arith, size_t, size_p, lt, long)))
 
@@ -253,9 +253,9 @@ module _ (controls : Controls) (i : Injection) (ch : Channel) (plain : (r : Reci
       done marked = ⊎_elim
           (λ (e : slice_get (c ∷ tail) 0 ≡ slice_get (text (x ∷ later)) 0).
           absurd (some_apart (ap Some (sym (head ∙ ap letter_of marked)) ∙ e ∙ ap (λ z. slice_get z 0) t)))
-          (λ (e : IsDone i.ledger ch (size controls ch earlier + 0) × (slice_get (c ∷ tail) 0 ≡ Some 68)).
+          (λ (e : IsDone i.ledger ch (size i.ledger.routes ch earlier + 0) × (slice_get (c ∷ tail) 0 ≡ Some 68)).
           let at = from.0 in
-          let here : size controls ch earlier + 0 ≡ it.place = omega (arith, at) in
+          let here : size i.ledger.routes ch earlier + 0 ≡ it.place = omega (arith, at) in
           subst (IsDone i.ledger ch) here e.0)
           (agrees 0 (omega arith))
 
@@ -267,14 +267,14 @@ module _ (controls : Controls) (i : Injection) (ch : Channel) (plain : (r : Reci
           let four = ap length t in
           omega (arith, one, two, three, four, long)
 
-      step_is : size controls ch (earlier ++ x ∷ []) ≡ size controls ch earlier + suc (length (a ++ 0 ∷ []))
+      step_is : size i.ledger.routes ch (earlier ++ x ∷ []) ≡ size i.ledger.routes ch earlier + suc (length (a ++ 0 ∷ []))
       step_is = let one = size_next earlier x (Some a) is in let two = length-append (record_of a) [] in omega (arith, one, two)
 
-      place_new : size controls ch earlier + length (text_of it) ≡ size controls ch (earlier ++ x ∷ [])
+      place_new : size i.ledger.routes ch earlier + length (text_of it) ≡ size i.ledger.routes ch (earlier ++ x ∷ [])
       place_new = let one = step_is in let two = ap (λ z. length (z ++ 0 ∷ [])) cut.0 in omega (arith, one, two)
 
       agrees_new : (k : ℕ) → k < length new.0 → (slice_get new.0 k ≡ slice_get (text later) k)
-          ⊎ (IsDone i.ledger ch (size controls ch (earlier ++ x ∷ []) + k) × (slice_get new.0 k ≡ Some 68))
+          ⊎ (IsDone i.ledger ch (size i.ledger.routes ch (earlier ++ x ∷ []) + k) × (slice_get new.0 k ≡ Some 68))
       agrees_new k lt =
           let long_t = ap length new.1 in
           let long_p = length-append (a ++ 0 ∷ []) new.0 in
@@ -283,42 +283,42 @@ module _ (controls : Controls) (i : Injection) (ch : Channel) (plain : (r : Reci
           sym (get_after (a ++ 0 ∷ []) new.0 k) ∙ ap (λ z. slice_get z (length (a ++ 0 ∷ []) + k)) (sym new.1) in
           let there : slice_get (text (x ∷ later)) (suc (length (a ++ 0 ∷ []) + k)) ≡ slice_get (text later) k =
           ap (λ z. slice_get z (suc (length (a ++ 0 ∷ []) + k))) t ∙ get_after (a ++ 0 ∷ []) (text later) k in
-          let at : size controls ch earlier + suc (length (a ++ 0 ∷ []) + k) ≡ size controls ch (earlier ++ x ∷ []) + k = omega (arith, one) in
+          let at : size i.ledger.routes ch earlier + suc (length (a ++ 0 ∷ []) + k) ≡ size i.ledger.routes ch (earlier ++ x ∷ []) + k = omega (arith, one) in
           ⊎_elim
           (λ (e : slice_get (c ∷ tail) (suc (length (a ++ 0 ∷ []) + k)) ≡ slice_get (text (x ∷ later)) (suc (length (a ++ 0 ∷ []) + k))). inl (here ∙ e ∙ there))
-          (λ (e : IsDone i.ledger ch (size controls ch earlier + suc (length (a ++ 0 ∷ []) + k)) × (slice_get (c ∷ tail) (suc (length (a ++ 0 ∷ []) + k)) ≡ Some 68)).
+          (λ (e : IsDone i.ledger ch (size i.ledger.routes ch earlier + suc (length (a ++ 0 ∷ []) + k)) × (slice_get (c ∷ tail) (suc (length (a ++ 0 ∷ []) + k)) ≡ Some 68)).
           inr (subst (IsDone i.ledger ch) at e.0, here ∙ e.1))
           (agrees (suc (length (a ++ 0 ∷ []) + k)) (omega (arith, long_t, long_p, lt)))
 
-  lined_by : (x : List ℕ) (later : List (List ℕ)) → Lined later → (o : Option (List ℕ)) → to controls ch x ≡ o → Lined (x ∷ later)
+  lined_by : (x : List ℕ) (later : List (List ℕ)) → Lined later → (o : Option (List ℕ)) → to i.ledger.routes ch x ≡ o → Lined (x ∷ later)
   lined_by x later rec None is = lined_skip x later rec is
   lined_by x later rec (Some a) is = lined_next x a later rec is
 
   lined : (later : List (List ℕ)) → Lined later
   lined [] = lined_none
-  lined (x ∷ later) = lined_by x later (lined later) (to controls ch x) refl
+  lined (x ∷ later) = lined_by x later (lined later) (to i.ledger.routes ch x) refl
 
 lane_is : (controls : Controls) (args : Arguments) (ch : Channel) → lane_text controls args ch ≡ channel_text (filter_map (to controls ch) (recipients_of args))
 lane_is controls args channel.Local = refl
 lane_is controls args channel.Remote = refl
 
 pub records_are : RecordsAreOfRecipients
-records_are controls i ch bytes records none valid spots m read =
-    let lane = lane_is controls i.args ch in
-    let h = lined controls i ch (routed_plain controls i.args none valid) spots (recipients_of i.args) [] bytes records refl (m.long ∙ ap length lane)
+records_are i ch bytes records none valid spots m read =
+    let lane = lane_is i.ledger.routes i.args ch in
+    let h = lined i ch (routed_plain i.ledger.routes i.args none valid) spots (recipients_of i.args) [] bytes records refl (m.long ∙ ap length lane)
     (λ k lt.
     let size_b = m.long in
     let at : k ≡ 0 + k = omega arith in
     ⊎_elim
-    (λ (e : slice_get bytes k ≡ slice_get (lane_text controls i.args ch) k). inl (e ∙ ap (λ z. slice_get z k) lane))
+    (λ (e : slice_get bytes k ≡ slice_get (lane_in i ch) k). inl (e ∙ ap (λ z. slice_get z k) lane))
     (λ (e : IsDone i.ledger ch k × (slice_get bytes k ≡ Some 68)). inr (subst (IsDone i.ledger ch) at e.0, e.1))
     (m.each k (omega (arith, size_b, lt))))
     read.text read.plain (are_from bytes records read [] records refl) in
     record {
       each = h.each;
       all = λ r on.
-          let p = on_route controls r.earlier r.address ch (route_of controls r.address) refl on in
-          let w = h.all r.earlier r.later r.address (routed controls i.args r) r.split p.0 in
+          let p = on_route i.ledger.routes r.earlier r.address ch (route_of i.ledger.routes r.address) refl on in
+          let w = h.all r.earlier r.later r.address (routed_in i r) r.split p.0 in
           (w.0, w.1, record { on = on; place_is = w.2.0 ∙ sym p.1; address_is = w.2.1.0; done = w.2.1.1 });
     }
 

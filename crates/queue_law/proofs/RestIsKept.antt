@@ -1,6 +1,5 @@
 -- A number at work rests on, whatever other programs do.
 use Rattle.std.proofs.Common.{◌≡◌, ◌≢◌, ◌⊎◌, inl, inr, ℕ, ◌≤◌, List, Option, Some, None, refl, sym, ap, ◌∙◌, ⊎_elim}
-use Rattle.address_rules.specs.declared.controls.Controls.{Controls}
 use Rattle.call_fs.specs.Survival.{AllSurvive}
 use Rattle.queue_clean.specs.declared.command.Command.{Command}
 use Rattle.queue_clean.specs.declared.command.Command.TheVariants as command
@@ -10,7 +9,7 @@ use Rattle.queue_clean.specs.Commands.{message_of}
 use Rattle.queue_clean.specs.Table.{Place, pid_path}
 use Rattle.queue_paths.specs.Names.{Name, Part, parse}
 use Rattle.queue_paths.specs.Names.Name.{Pid, Of}
-use Rattle.queue_paths.specs.Names.Part.{Mess, Todo, Info, Bounce}
+use Rattle.queue_paths.specs.Names.Part.{Mess, Info, Bounce}
 use Rattle.queue_law.specs.Numbers.{Entry, Queue, look, NamesSuit, about, IsQueued}
 use Rattle.queue_law.specs.Numbers.Role.{AsOld}
 use Rattle.queue_law.specs.Routes.{lane_part}
@@ -25,13 +24,13 @@ use Rattle.queue_law.proofs.Halts.{after_file, after_moment, after_number, still
 use Rattle.queue_law.proofs.Rests.{closed_later, closed_far, judged_far}
 use Rattle.queue_law.proofs.Cleaners.{stands_frame}
 
-rest_later : (controls : Controls) (now m : ℕ) → now ≤ m → (q : Queue) (p : Place) → CleanerStands controls now q p → CleanerStands controls m q p
-rest_later controls now m later q p h =
-    stands_frame controls now m q q p.row p (λ n _ c. (closed_later now m later q n c, refl)) (λ x moment j. j) h
+rest_later : (now m : ℕ) → now ≤ m → (q : Queue) (p : Place) → CleanerStands now q p → CleanerStands m q p
+rest_later now m later q p h =
+    stands_frame now m q q p.row p (λ n _ c. (closed_later now m later q n c, refl)) (λ x moment j. j) h
 
-rest_spared : (controls : Controls) (now : ℕ) (m : Option ℕ) (q r : Queue) → Spares now m q r → SparesNames q r → (p : Place) → IsBeside m p
-    → CleanerStands controls now q p → CleanerStands controls now r p
-rest_spared controls now m q r S names p beside h = stands_frame controls now now q r p.row p keep names h
+rest_spared : (now : ℕ) (m : Option ℕ) (q r : Queue) → Spares now m q r → SparesNames q r → (p : Place) → IsBeside m p
+    → CleanerStands now q p → CleanerStands now r p
+rest_spared now m q r S names p beside h = stands_frame now now q r p.row p keep names h
   where
     far : (n : ℕ) → (number_at p.row ≡ Some n) ⊎ (number_at (waiting p) ≡ Some n) → m ≢ Some n
     far n at is = ⊎_elim (λ here. (beside n is).0 here) (λ there. (beside n is).1 there) at
@@ -82,8 +81,8 @@ module _ (q : Queue) (contents : ℕ → List ℕ) (survives : AllSurvive q.disk
   made_halt n part text (NotNeeded none absent) = NotNeeded none (still_absent q contents survives (Of part n) absent)
   made_halt n part text (IsThere h) = IsThere (synced_halt n part text h)
 
-  abbrev queued_halt : (controls : Controls) (n : ℕ) → IsQueued controls (about q n) → IsQueued controls (about (after_halt contents q) n)
-  queued_halt controls n h = record {
+  abbrev queued_halt : (n : ℕ) → IsQueued (about q n) → IsQueued (about (after_halt contents q) n)
+  queued_halt n h = record {
     taken = record {
       injection = h.taken.injection;
       lives = h.taken.lives;
@@ -98,29 +97,28 @@ module _ (q : Queue) (contents : ℕ → List ℕ) (survives : AllSurvive q.disk
     todo_there = still_in_todo q contents survives n h.todo h.todo_there;
     text = still_todo_synced q contents survives n h.todo _ h.todo_there h.text;
     no_bounce = still_absent q contents survives (Of Bounce n) h.no_bounce;
-    unnoted = h.unnoted;
-    unreturned = h.unreturned;
+    fresh = h.fresh;
   }
 
-  needs_halt : (controls : Controls) (it : Command) (n : ℕ) → Needs controls it (about q n) → Needs controls it (about (after_halt contents q) n)
-  needs_halt controls (command.Foop k) n h = record {
+  needs_halt : (it : Command) (n : ℕ) → Needs it (about q n) → Needs it (about (after_halt contents q) n)
+  needs_halt (command.Foop k) n h = record {
     unsorted = λ part later. still_absent q contents survives (Of part n) (h.unsorted part later);
     no_todo = still_no_todo q contents survives n h.no_todo;
   }
-  needs_halt controls (command.Todo k) n h = record {
-    queued = queued_halt controls n h.queued;
-    info = synced_halt n Info _ h.info;
-    lanes = λ ch. made_halt n (lane_part ch) _ (h.lanes ch);
+  needs_halt (command.Todo k) n h = record {
+    queued = queued_halt n h.queued;
+    no_nul = h.no_nul;
+    made = record { info = synced_halt n Info _ h.made.info; lanes = λ ch. made_halt n (lane_part ch) _ (h.made.lanes ch) };
   }
 
-  rests_halt : (controls : Controls) (now : ℕ) (row : Row) → Rests controls now q row → Rests controls now (after_halt contents q) row
-  rests_halt controls now (at.UnlinkIntd it) h =
-      record { closed = closed_halt now (message_of it) h.closed; rest = needs_halt controls it (message_of it) h.rest }
-  rests_halt controls now (at.UnlinkSecond it) h = record {
+  rests_halt : (now : ℕ) (row : Row) → Rests now q row → Rests now (after_halt contents q) row
+  rests_halt now (at.UnlinkIntd it) h =
+      record { closed = closed_halt now (message_of it) h.closed; rest = needs_halt it (message_of it) h.rest }
+  rests_halt now (at.UnlinkSecond it) h = record {
     closed = closed_halt now (message_of it) h.closed;
-    rest = (needs_halt controls it (message_of it) h.rest.0, still_no_intd q contents survives (message_of it) h.rest.1);
+    rest = (needs_halt it (message_of it) h.rest.0, still_no_intd q contents survives (message_of it) h.rest.1);
   }
-  rests_halt controls now row h = tt
+  rests_halt now row h = tt
 
   judged_halt : (x : Option Name) (moment : ℕ) → IsJudged q x moment → IsJudged (after_halt contents q) x moment
   judged_halt (Some (Pid p s k)) moment h = ⊎_elim
@@ -135,15 +133,15 @@ module _ (q : Queue) (contents : ℕ → List ℕ) (survives : AllSurvive q.disk
   judged_halt (Some (Of part n)) moment h = absurd h
   judged_halt None moment h = h
 
-  stands_halt : (controls : Controls) (now : ℕ) (row : Row) (p : Place) → StandsAt controls now q row p → StandsAt controls now (after_halt contents q) row p
-  stands_halt controls now at.FindPid p h = rests_halt controls now (waiting p) h
-  stands_halt controls now at.StatPid p h = (rests_halt controls now (waiting p) h.0, h.1)
-  stands_halt controls now (at.JudgePid moment) p h = (rests_halt controls now (waiting p) h.0, judged_halt (parse (pid_path p.name)) moment h.1, h.2)
-  stands_halt controls now at.TakeInput p h = tt
-  stands_halt controls now (at.UnlinkIntd it) p h = rests_halt controls now (at.UnlinkIntd it) h
-  stands_halt controls now (at.UnlinkSecond it) p h = rests_halt controls now (at.UnlinkSecond it) h
-  stands_halt controls now (at.Answer reply) p h = tt
-  stands_halt controls now (at.Ended status) p h = tt
+  stands_halt : (now : ℕ) (row : Row) (p : Place) → StandsAt now q row p → StandsAt now (after_halt contents q) row p
+  stands_halt now at.FindPid p h = rests_halt now (waiting p) h
+  stands_halt now at.StatPid p h = (rests_halt now (waiting p) h.0, h.1)
+  stands_halt now (at.JudgePid moment) p h = (rests_halt now (waiting p) h.0, judged_halt (parse (pid_path p.name)) moment h.1, h.2)
+  stands_halt now at.TakeInput p h = tt
+  stands_halt now (at.UnlinkIntd it) p h = rests_halt now (at.UnlinkIntd it) h
+  stands_halt now (at.UnlinkSecond it) p h = rests_halt now (at.UnlinkSecond it) h
+  stands_halt now (at.Answer reply) p h = tt
+  stands_halt now (at.Ended status) p h = tt
 
 pub rest_is_kept : RestIsKept
 rest_is_kept = record {
@@ -151,5 +149,5 @@ rest_is_kept = record {
   spared = rest_spared;
   closed = spares_closed;
   foreign = spares_foreign;
-  halts = λ controls now q contents survives p. stands_halt q contents survives controls now p.row p;
+  halts = λ now q contents survives p. stands_halt q contents survives now p.row p;
 }

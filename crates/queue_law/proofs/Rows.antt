@@ -1,6 +1,5 @@
 -- The rows of an injector's table at which a file is made or written.
 use Rattle.std.proofs.Common.{◌≡◌, ◌≢◌, inl, inr, ℕ, zero, suc, ◌+◌, ◌≤◌, List, length, take, drop, Option, Some, None, refl, sym, ap, ◌∙◌, subst}
-use Rattle.address_rules.specs.declared.controls.Controls.{Controls}
 use Rattle.call_fs.specs.Disk.{File, IsSynced}
 use Rattle.call_fs.specs.Apply.{empty_file, grown, grown_part, synced, IsNew}
 use Rattle.queue_inject.specs.declared.injection.Arguments.{Arguments}
@@ -70,9 +69,9 @@ todo_next q a args n fd done whole h =
     ))
     (λ status bad. (record { mine = h.holds.mine; rest = w.begins }, bad))
 
-module _ (controls : Controls) (now : ℕ) (q : Queue) (a : List ℕ) (args : Arguments) (G : Sound controls q) where
+module _ (now : ℕ) (q : Queue) (a : List ℕ) (args : Arguments) (G : Sound q) where
   abbrev To : Queue → Row → Type 0
-  To = Leads controls now q a args G
+  To = Leads now q a args G
 
   -- the number of a new file has no message yet
   unused_mess : (fd i : ℕ) (x : Name) → IsNew q.disk (path x) fd i → (y : Entry) → look q (Of Mess i) ≡ Some y → ⊥
@@ -82,7 +81,7 @@ module _ (controls : Controls) (now : ℕ) (q : Queue) (a : List ℕ) (args : Ar
       new.unused.unnamed (path (Of Mess i)) (there ∙ ap Some number)
 
   -- so it isn't preprocessed
-  unused_unsorted : (fd i : ℕ) (x : Name) → IsNew q.disk (path x) fd i → Phase controls (about q i) → IsUnsorted (about q i)
+  unused_unsorted : (fd i : ℕ) (x : Name) → IsNew q.disk (path x) fd i → Phase (about q i) → IsUnsorted (about q i)
   unused_unsorted fd i x new (Free h) = h.unsorted
   unused_unsorted fd i x new (Queued h) = absurd (unused_mess fd i x new h.taken.mess h.taken.mess_there)
   unused_unsorted fd i x new (Sorted h) = absurd (unused_mess fd i x new h.taken.mess h.taken.mess_there)
@@ -99,12 +98,12 @@ module _ (controls : Controls) (now : ℕ) (q : Queue) (a : List ℕ) (args : Ar
       let nowhere : IsNowhere q i = unnamed q x a fd i read role new in
       let same : about (made q a x fd i read role) i ≡ about q i =
       λ j. record { parts = λ part. other (Of part i) (λ s. cc) j; living = q.books.living i } in
-      made_outcome controls now q a args G x fd i read role i (at.LinkMess seq i (record { 0 = fd })) new refl (unused_unsorted fd i x new (G.fine i))
+      made_outcome now q a args G x fd i read role i (at.LinkMess seq i (record { 0 = fd })) new refl (unused_unsorted fd i x new (G.fine i))
       (inl nowhere)
       (λ y h. let w = number x y h in let v = new.free in absurd (cc))
       (λ o args' apart soon y z h his touches s. new.unused.unnamed (path y) (number y z h ∙ sym s))
       (refl, late)
-      (subst (Phase controls) (sym same) (G.fine i)) (
+      (subst Phase (sym same) (G.fine i)) (
         record {
           mine = put_same q.role i role;
           file = empty_file read;
@@ -132,11 +131,11 @@ module _ (controls : Controls) (now : ℕ) (q : Queue) (a : List ℕ) (args : Ar
         no_todo = todo_same (about q n).parts (about r n).parts (λ part is. other (Of part n) (todo_apart part n x is refl)) ∙ b.no_todo;
         lives = b.lives;
       } in
-      made_outcome controls now q a args G x fd i read role n (in_todo (intd_text args) n fd 0) new refl b.unsorted (inr (h.mine, inr b.lives))
+      made_outcome now q a args G x fd i read role n (in_todo (intd_text args) n fd 0) new refl b.unsorted (inr (h.mine, inr b.lives))
       refl
       (own_apart now q G.suits a args n h.mine)
       (refl, tt)
-      (begun_phase controls r a args n begins)
+      (begun_phase r a args n begins)
       (todo_next r a args n fd 0 whole (record {
         number = i;
         holds = record {
@@ -174,7 +173,7 @@ module _ (controls : Controls) (now : ℕ) (q : Queue) (a : List ℕ) (args : Ar
   mess_row : (n : ℕ) (f : File) (row : Row) → q.role n ≡ AsMessage a args → IsBare (about q n) a args n → args.start ≤ f.moment
       → Basis (written q n f) a args row → To (written q n f) row
   mess_row n f row mine bare late next =
-      written_outcome controls now q a args G (Of Mess n) n f n row refl bare.begins.unsorted (found q.disk.names q.disk.files (Of Mess n) _ bare.begins.mess).0 mine (ap (made_for n) mine) (subst (IsRecent f) (sym mine) late) (bare_written n f bare).begins next
+      written_outcome now q a args G (Of Mess n) n f n row refl bare.begins.unsorted (found q.disk.names q.disk.files (Of Mess n) _ bare.begins.mess).0 mine (ap (made_for n) mine) (subst (IsRecent f) (sym mine) late) (bare_written n f bare).begins next
 
   draft_bytes : (n fd : ℕ) (bytes : List ℕ) → AtMess q a args n fd bytes → (q.disk.files n).bytes ≡ bytes
   draft_bytes n fd bytes h = let d = h.holds.rest in ap (λ (f : File). f.bytes) (sym (file_is (Of Mess n) n _ d.bare.begins.mess)) ∙ d.holds
@@ -252,7 +251,7 @@ module _ (controls : Controls) (now : ℕ) (q : Queue) (a : List ℕ) (args : Ar
       → Basis (written q i f) a args row → To (written q i f) row
   todo_row n i f row P h next =
       let role = (G.suits (Of Intd n) _ h.rest.intd).0 in
-      written_outcome controls now q a args G (Of Intd n) i f n row refl h.rest.begins.unsorted (found q.disk.names q.disk.files (Of Intd n) _ h.rest.intd).0 h.mine (ap (made_for i) role) (subst (IsRecent f) (sym role) tt)
+      written_outcome now q a args G (Of Intd n) i f n row refl h.rest.begins.unsorted (found q.disk.names q.disk.files (Of Intd n) _ h.rest.intd).0 h.mine (ap (made_for i) role) (subst (IsRecent f) (sym role) tt)
       (intd_written n i f P (λ _. Unit {0}) h.mine h.rest tt).begins next
 
   todo_bytes : (n fd : ℕ) (bytes : List ℕ) (h : AtTodo q a args n fd bytes) → (q.disk.files h.number).bytes ≡ bytes

@@ -1,11 +1,13 @@
 -- What a sender does to the queue: it reads, marks records, takes files away, and enters what was delivered.
 use Rattle.std.proofs.Common.{◌≡◌, ◌≢◌, inl, inr, ℕ, List, [], ◌∷◌, true, false, Option, Some, None, option_map, refl, sym, ap, ◌∙◌, subst, ⊎_elim}
-use Rattle.address_rules.specs.declared.controls.Controls.{Controls}
+use Rattle.address_rules.specs.Nuls.{HaveNoNul}
 use Rattle.call_fs.specs.declared.calls.CallData.{CallData}
 use Rattle.call_fs.specs.declared.calls.CallData.TheVariants.{Open, ReadAt, WriteAt, Close, Unlink, Stat, NextName}
 use Rattle.call_fs.specs.declared.calls.Answer.{Answer}
 use Rattle.call_fs.specs.declared.calls.Answer.TheVariants as answer
 use Rattle.call_fs.specs.declared.calls.Fd.{Fd}
+use Rattle.call_fs.specs.declared.calls.How.TheVariants.{Write}
+use Rattle.call_fs.specs.declared.modes.Mode.{Mode}
 use Rattle.call_fs.specs.declared.calls.FsError.TheVariants.{Fault, Memory}
 use Rattle.call_fs.specs.Maps.{put}
 use Rattle.call_fs.specs.Disk.{File, Open as OpenFile, Among, IsSynced}
@@ -15,14 +17,16 @@ use Rattle.queue_inject.specs.Texts.{message_text}
 use Rattle.queue_paths.specs.Names.{Name, Part, path}
 use Rattle.queue_paths.specs.Names.Name.{Of}
 use Rattle.queue_paths.specs.Names.Part.{Mess, Intd, Todo, Info, Local, Remote, Bounce}
+use Rattle.queue_paths.specs.Parts.{in_todo}
 use Rattle.queue_paths.proofs.Parts.{intd_apart, todo_apart, intd_same, todo_same}
 use Rattle.queue_law.proofs.Waits.{intd_early, todo_early}
 use Rattle.send_known.specs.declared.channel.Channel.{Channel}
 use Rattle.send_known.specs.declared.channel.Channel.TheVariants as channel
-use Rattle.queue_law.specs.Ledgers.{Line}
+use Rattle.queue_law.specs.Ledgers.{Line, Named, line_in}
+use Rattle.queue_law.specs.Ledgers.Line.{Marks}
 use Rattle.queue_law.specs.Books.{Injection, IsInjected, IsLater, begun, with_line, entered_in}
 use Rattle.queue_law.specs.Routes.{Recipient, lane_part}
-use Rattle.queue_law.specs.Marks.{IsDone, AllMarked, IsLaneDone}
+use Rattle.queue_law.specs.Marks.{IsDone, AllMarked, IsLaneDone, HasItsSpots, MayBeMarked}
 use Rattle.queue_law.specs.Notes.{NotesDone, NotesState}
 use Rattle.queue_law.specs.Notes.NotesState.{Gone, There}
 use Rattle.queue_law.specs.Numbers.{Entry, Role, Queue, look, Suits, IsRecent, About, about, NamesSuit, file_in, is_later, IsUnsorted, IsTaken, LaneState, IsPreprocessed, Phase, Sound}
@@ -31,13 +35,13 @@ use Rattle.queue_law.specs.Numbers.Phase.{Free, Queued, Sorted, Finished}
 use Rattle.queue_law.specs.Numbers.LaneState.{LaneThere, LaneGone}
 use Rattle.queue_law.specs.Injectors.{IsHeld}
 use Rattle.queue_law.specs.Steps.{Concerns, Apart, Elsewhere, IsForeignRole, LeavesOld, Outside}
-use Rattle.queue_law.specs.Senders.{called_queue, LeadsOn, OnlyReads, HasLane, MayMark, MayDrop, MayEnd, MayEnter, MayReturn, LineFits, entered_queue}
+use Rattle.queue_law.specs.Senders.{called_queue, LeadsOn, OnlyReads, HasLane, MayMark, MayDrop, MayEnd, MayEnter, MayReturn, LineFits, entered_queue, MarksKeep, marked_queue}
 use Rattle.queue_law.proofs.Tests.{off, tells_number}
 use Rattle.queue_law.proofs.Looks.{find_far, find_near, find_gone, found}
 use Rattle.queue_law.proofs.Frame.{outside_same, still_there, about_same}
 use Rattle.queue_law.proofs.Deeds.{written, named, at_number, made_for, its_number, named_other, named_suits, written_suits, written_old}
-use Rattle.queue_law.proofs.Growth.{line_grows}
-use Rattle.queue_law.proofs.Lines.{done_on, noted_on, notes_on, spots_on, unreturned_on}
+use Rattle.queue_law.proofs.Growth.{line_grows, grown_on}
+use Rattle.queue_law.proofs.Lines.{done_on, notes_on, spots_on, unreturned_on, fresh_on, fresh_spots, routes_on}
 use Rattle.queue_law.proofs.Marks.{lane_grown, marked_over, marked_part, marked_grown}
 use Rattle.queue_law.proofs.Places.{reads_done}
 
@@ -57,8 +61,8 @@ accepted_apart now q a n i there lives accepted o args other soon x y h his touc
 is_there : {A : Type 0} (o : Option A) (x : A) → o ≡ Some x → o ≢ None
 is_there o x h none = let w = h in cc
 
-taken_apart : (controls : Controls) (now : ℕ) (q : Queue) (a : List ℕ) (n : ℕ) → IsTaken controls (about q n) → Apart now q a (Some n)
-taken_apart controls now q a n h = accepted_apart now q a n h.injection (is_there (look q (Of Mess n)) h.mess h.mess_there) h.lives h.accepted
+taken_apart : (now : ℕ) (q : Queue) (a : List ℕ) (n : ℕ) → IsTaken (about q n) → Apart now q a (Some n)
+taken_apart now q a n h = accepted_apart now q a n h.injection (is_there (look q (Of Mess n)) h.mess h.mess_there) h.lives h.accepted
 
 lane_later : (ch : Channel) → is_later (lane_part ch) ≡ true
 lane_later channel.Local = refl
@@ -80,24 +84,24 @@ lane_suits channel.Local n i role h = h
 lane_suits channel.Remote n i role h = h
 
 -- What isn't this channel's file is as it was
-module _ (controls : Controls) (ch : Channel) (w v : About) (same : (P : Part) → P ≢ lane_part ch → v.parts P ≡ w.parts P) where
-  lane_kept : (i : Injection) (c : Channel) → lane_part c ≢ lane_part ch → LaneState controls w i c → LaneState controls v i c
+module _ (ch : Channel) (w v : About) (same : (P : Part) → P ≢ lane_part ch → v.parts P ≡ w.parts P) where
+  lane_kept : (i : Injection) (c : Channel) → lane_part c ≢ lane_part ch → LaneState w i c → LaneState v i c
   lane_kept i c far (LaneThere y there marked) = LaneThere y (same (lane_part c) far ∙ there) marked
   lane_kept i c far (LaneGone none all) = LaneGone (same (lane_part c) far ∙ none) all
 
   early_far : (P : Part) → is_later P ≡ false → P ≢ lane_part ch
   early_far P early e = off (sym early ∙ ap is_later e ∙ lane_later ch)
 
-notes_kept : (controls : Controls) (w v : About) (i : Injection) → v.parts Bounce ≡ w.parts Bounce → NotesState controls i (file_in (w.parts Bounce))
-    → NotesState controls i (file_in (v.parts Bounce))
-notes_kept controls w v i same h = subst (λ (o : Option Entry). NotesState controls i (file_in o)) (sym same) h
+notes_kept : (w v : About) (i : Injection) → v.parts Bounce ≡ w.parts Bounce → NotesState i (file_in (w.parts Bounce))
+    → NotesState i (file_in (v.parts Bounce))
+notes_kept w v i same h = subst (λ (o : Option Entry). NotesState i (file_in o)) (sym same) h
 
-lanes_of : (controls : Controls) (ch : Channel) (w v : About) → ((P : Part) → P ≢ lane_part ch → v.parts P ≡ w.parts P) → (i : Injection)
-    → ((c : Channel) → LaneState controls w i c) → LaneState controls v i ch → (c : Channel) → LaneState controls v i c
-lanes_of controls channel.Local w v same i old new channel.Local = new
-lanes_of controls channel.Local w v same i old new channel.Remote = lane_kept controls channel.Local w v same i channel.Remote (λ s. cc) (old channel.Remote)
-lanes_of controls channel.Remote w v same i old new channel.Local = lane_kept controls channel.Remote w v same i channel.Local (λ s. cc) (old channel.Local)
-lanes_of controls channel.Remote w v same i old new channel.Remote = new
+lanes_of : (ch : Channel) (w v : About) → ((P : Part) → P ≢ lane_part ch → v.parts P ≡ w.parts P) → (i : Injection)
+    → ((c : Channel) → LaneState w i c) → LaneState v i ch → (c : Channel) → LaneState v i c
+lanes_of channel.Local w v same i old new channel.Local = new
+lanes_of channel.Local w v same i old new channel.Remote = lane_kept channel.Local w v same i channel.Remote (λ s. cc) (old channel.Remote)
+lanes_of channel.Remote w v same i old new channel.Local = lane_kept channel.Remote w v same i channel.Local (λ s. cc) (old channel.Local)
+lanes_of channel.Remote w v same i old new channel.Remote = new
 
 other_parts : (ch : Channel) → (Info ≢ lane_part ch) × (Bounce ≢ lane_part ch)
 other_parts channel.Local = ((λ s. cc), (λ s. cc))
@@ -112,11 +116,11 @@ still_lane channel.Remote w v same was channel.Local there = λ none. there (sam
 still_lane channel.Remote w v same was channel.Remote there = was there
 
 -- so a number stays preprocessed whose channel's file changed
-resorted : (controls : Controls) (ch : Channel) (w v : About) → ((P : Part) → P ≢ lane_part ch → v.parts P ≡ w.parts P) → v.living ≡ w.living
-    → (h : IsPreprocessed controls w) → LaneState controls v h.taken.injection ch → (v.parts (lane_part ch) ≢ None → w.parts (lane_part ch) ≢ None) → IsPreprocessed controls v
-resorted controls ch w v same living h new was =
+resorted : (ch : Channel) (w v : About) → ((P : Part) → P ≢ lane_part ch → v.parts P ≡ w.parts P) → v.living ≡ w.living
+    → (h : IsPreprocessed w) → LaneState v h.taken.injection ch → (v.parts (lane_part ch) ≢ None → w.parts (lane_part ch) ≢ None) → IsPreprocessed v
+resorted ch w v same living h new was =
     let far = other_parts ch in
-    let early = early_far controls ch w v same in
+    let early = early_far ch w v same in
     record {
       taken = record {
         injection = h.taken.injection;
@@ -130,32 +134,39 @@ resorted controls ch w v same living h new was =
       };
       no_todo = todo_same w.parts v.parts (λ part is. same part (early part (todo_early part is))) ∙ h.no_todo;
       no_intd = intd_same w.parts v.parts (λ part is. same part (early part (intd_early part is))) ∙ h.no_intd;
+      no_nul = h.no_nul;
       info = h.info;
       info_there = same Info far.0 ∙ h.info_there;
       text = h.text;
-      lanes = lanes_of controls ch w v same h.taken.injection h.lanes new;
-      notes = notes_kept controls w v h.taken.injection (same Bounce far.1) h.notes;
+      lanes = lanes_of ch w v same h.taken.injection h.lanes new;
+      notes = notes_kept w v h.taken.injection (same Bounce far.1) h.notes;
       unsettled = λ c there. h.unsettled c (still_lane ch w v same was c there);
     }
 
 -- a number that has a channel's file, and no todo, is preprocessed
-pub sorted_of_lane : (controls : Controls) (w : About) (ch : Channel) → Phase controls w → HasLane w ch → IsPreprocessed controls w
-sorted_of_lane controls w ch (Free h) l = let there = l.there in let none = h.unsorted (lane_part ch) (lane_later ch) in absurd (cc)
-sorted_of_lane controls w ch (Queued h) l = let none = l.no_todo in let there = h.todo_there in absurd (cc)
-sorted_of_lane controls w ch (Sorted h) l = h
-sorted_of_lane controls w ch (Finished h) l = let there = l.there in let none = h.unsorted (lane_part ch) (lane_later ch) in absurd (cc)
+pub sorted_of_lane : (w : About) (ch : Channel) → Phase w → HasLane w ch → IsPreprocessed w
+sorted_of_lane w ch (Free h) l = let there = l.there in let none = h.unsorted (lane_part ch) (lane_later ch) in absurd (cc)
+sorted_of_lane w ch (Queued h) l = let none = l.no_todo in let there = h.todo_there in absurd (cc)
+sorted_of_lane w ch (Sorted h) l = h
+sorted_of_lane w ch (Finished h) l = let there = l.there in let none = h.unsorted (lane_part ch) (lane_later ch) in absurd (cc)
 
 -- what is there of its file
-pub lane_there : (controls : Controls) (w : About) (i : Injection) (ch : Channel) (y : Entry) → w.parts (lane_part ch) ≡ Some y → LaneState controls w i ch
-    → AllMarked controls i ch y.file
-lane_there controls w i ch y there (LaneThere z is marked) = let same : z ≡ y = cc in subst (λ (v : Entry). AllMarked controls i ch v.file) same marked
-lane_there controls w i ch y there (LaneGone none all) = absurd (cc)
+pub lane_there : (w : About) (i : Injection) (ch : Channel) (y : Entry) → w.parts (lane_part ch) ≡ Some y → LaneState w i ch
+    → AllMarked i ch y.file
+lane_there w i ch y there (LaneThere z is marked) = let same : z ≡ y = cc in subst (λ (v : Entry). AllMarked i ch v.file) same marked
+lane_there w i ch y there (LaneGone none all) = absurd (cc)
 
-module _ (controls : Controls) (now : ℕ) (q : Queue) (a : List ℕ) (G : Sound controls q) where
+-- A mark may be written that the ledger has: the descriptor is the actor's own, opened for this on the channel file.
+pub record MayWrite (q : Queue) (a : List ℕ) (n : ℕ) (ch : Channel) (fd place : ℕ) : Type 0 where
+  pub lane : HasLane (about q n) ch
+  pub opened : IsHeld q.disk.opens q.holder a fd (record { number = lane.file.number; mode = Mode.Opened Write })
+  pub done : IsDone lane.injection.ledger ch place
+
+module _ (now : ℕ) (q : Queue) (a : List ℕ) (G : Sound q) where
   -- other descriptors are open, and all else is as it was
   pub opens_leads : (opens : ℕ → Option OpenFile) (holder : ℕ → Option (List ℕ))
       → ((o : List ℕ) (fd : ℕ) (how : OpenFile) → o ≢ a → IsHeld q.disk.opens q.holder o fd how → IsHeld opens holder o fd how)
-      → LeadsOn controls now a None q (record {
+      → LeadsOn now a None q (record {
         disk = record { dirs = q.disk.dirs; names = q.disk.names; files = q.disk.files; opens = opens };
         holder = holder;
         books = q.books;
@@ -176,7 +187,7 @@ module _ (controls : Controls) (now : ℕ) (q : Queue) (a : List ℕ) (G : Sound
   }
 
   abbrev Stays : Option ℕ → Type 0
-  Stays m = LeadsOn controls now a m q (record { disk = q.disk; holder = q.holder; books = q.books; role = q.role })
+  Stays m = LeadsOn now a m q (record { disk = q.disk; holder = q.holder; books = q.books; role = q.role })
 
   stays : Stays None
   stays = opens_leads q.disk.opens q.holder (λ _ _ _ _ h. h)
@@ -198,7 +209,7 @@ module _ (controls : Controls) (now : ℕ) (q : Queue) (a : List ℕ) (G : Sound
   }
 
   pub reads_keep : (read : ℕ) (call : CallData) (told : Answer) (wrote : ℕ) → OnlyReads q a call → Fits q.disk call told wrote
-      → LeadsOn controls now a None q (called_queue q a read call told wrote q.role)
+      → LeadsOn now a None q (called_queue q a read call told wrote q.role)
   reads_keep read (Open name how) (answer.Opened fd) wrote may fits = opens_leads _ _ (λ o k how other h.
       let w = fits.not_open in
       let far : k ≢ fd.0 = λ same. let v : q.disk.opens k ≡ q.disk.opens fd.0 = ap q.disk.opens same in let u = h.opened in absurd (cc) in
@@ -222,14 +233,14 @@ module _ (controls : Controls) (now : ℕ) (q : Queue) (a : List ℕ) (G : Sound
   reads_keep read call told wrote may fits = absurd may
 
   -- a file of this number changed, and it alone
-  phase_by : (m : ℕ) (r : Queue) → Elsewhere now a (Some m) q r → Phase controls (about r m) → (k : ℕ) → Phase controls (about r k)
+  phase_by : (m : ℕ) (r : Queue) → Elsewhere now a (Some m) q r → Phase (about r m) → (k : ℕ) → Phase (about r k)
   phase_by m r E fine k = ⊎_elim
-      (λ (here : ◌≡◌ {A = Option ℕ} (Some m) (Some k)). at_number r (Phase controls) m fine k here)
-      (λ far. subst (Phase controls) (sym (about_same now a (Some m) q r E k far)) (G.fine k))
+      (λ (here : ◌≡◌ {A = Option ℕ} (Some m) (Some k)). at_number r (Phase) m fine k here)
+      (λ far. subst Phase (sym (about_same now a (Some m) q r E k far)) (G.fine k))
       (tells_number (Some m) k)
 
   pub written_leads : (x : Name) (j : ℕ) (f : File) (n : ℕ) → q.disk.names (path x) ≡ Some j → made_for j (q.role j) ≡ n → (IsForeignRole (q.role j) → ⊥) → Apart now q a (Some n)
-      → IsRecent f (q.role j) → Phase controls (about (written q j f) n) → LeadsOn controls now a (Some n) q (written q j f)
+      → IsRecent f (q.role j) → Phase (about (written q j f) n) → LeadsOn now a (Some n) q (written q j f)
   written_leads x j f n there own new apart recent fine =
       let E : Elsewhere now a (Some n) q (written q j f) = record {
         looks = λ y far. find_far q.disk.names q.disk.files y j f (λ z h same.
@@ -252,8 +263,8 @@ module _ (controls : Controls) (now : ℕ) (q : Queue) (a : List ℕ) (G : Sound
       }
 
   -- a name of this number went
-  pub gone_leads : (x : Name) (n : ℕ) → Concerns q x (Some n) → Apart now q a (Some n) → Phase controls (about (named q x None q.books) n)
-      → LeadsOn controls now a (Some n) q (named q x None q.books)
+  pub gone_leads : (x : Name) (n : ℕ) → Concerns q x (Some n) → Apart now q a (Some n) → Phase (about (named q x None q.books) n)
+      → LeadsOn now a (Some n) q (named q x None q.books)
   gone_leads x n concerns apart fine =
       let E : Elsewhere now a (Some n) q (named q x None q.books) = record {
         looks = λ y far. named_other q x None q.books y (λ same. far (subst (λ z. Concerns q z (Some n)) (sym same) concerns));
@@ -281,13 +292,13 @@ module _ (controls : Controls) (now : ℕ) (q : Queue) (a : List ℕ) (G : Sound
         old = record { files = λ _ _ _ _. refl; roles = λ _ _ _. refl };
       }
 
-  -- A mark
-  module _ (n : ℕ) (ch : Channel) (fd place : ℕ) (may : MayMark q a n ch fd place) where
+  -- A mark that the ledger has already
+  module _ (n : ℕ) (ch : Channel) (fd place : ℕ) (may : MayWrite q a n ch fd place) where
     abbrev j : ℕ
     j = may.lane.file.number
 
-    pub marking : IsPreprocessed controls (about q n)
-    marking = sorted_of_lane controls (about q n) ch (G.fine n) may.lane
+    pub marking : IsPreprocessed (about q n)
+    marking = sorted_of_lane (about q n) ch (G.fine n) may.lane
 
     pub lane_name : q.disk.names (path (Of (lane_part ch) n)) ≡ Some j
     lane_name = (found q.disk.names q.disk.files (Of (lane_part ch) n) may.lane.file may.lane.there).0
@@ -302,81 +313,81 @@ module _ (controls : Controls) (now : ℕ) (q : Queue) (a : List ℕ) (G : Sound
     same_injection = let w = may.lane.lives in let v = marking.taken.lives in cc
 
     -- every version of the file keeps to the rule when this is written
-    mark_leads : (g : File → File) → ((f : File) → IsDone marking.taken.injection.ledger ch place → AllMarked controls marking.taken.injection ch f
-        → AllMarked controls marking.taken.injection ch (g f)) → LeadsOn controls now a (Some n) q (written q j (g (q.disk.files j)))
+    mark_leads : (g : File → File) → ((f : File) → IsDone marking.taken.injection.ledger ch place → AllMarked marking.taken.injection ch f
+        → AllMarked marking.taken.injection ch (g f)) → LeadsOn now a (Some n) q (written q j (g (q.disk.files j)))
     mark_leads g keeps =
         let f = g (q.disk.files j) in
         let done = subst (λ (i : Injection). IsDone i.ledger ch place) same_injection may.done in
-        let old = lane_there controls (about q n) marking.taken.injection ch may.lane.file may.lane.there (marking.lanes ch) in
-        let marked = keeps (q.disk.files j) done (subst (AllMarked controls marking.taken.injection ch) lane_file old) in
+        let old = lane_there (about q n) marking.taken.injection ch may.lane.file may.lane.there (marking.lanes ch) in
+        let marked = keeps (q.disk.files j) done (subst (AllMarked marking.taken.injection ch) lane_file old) in
         let others = λ (P : Part) (far : P ≢ lane_part ch). find_far q.disk.names q.disk.files (Of P n) j f (λ z h same.
         far (lane_role P n z.number (q.role z.number) ch (G.suits (Of P n) z h).0 (ap q.role same ∙ lane_made))) in
         let there = find_near q.disk.names q.disk.files (Of (lane_part ch) n) may.lane.file f may.lane.there in
-        written_leads (Of (lane_part ch) n) j f n lane_name (ap (made_for j) lane_made) (λ was. subst IsForeignRole lane_made was) (taken_apart controls now q a n marking.taken)
+        written_leads (Of (lane_part ch) n) j f n lane_name (ap (made_for j) lane_made) (λ was. subst IsForeignRole lane_made was) (taken_apart now q a n marking.taken)
         (subst (IsRecent f) (sym lane_made) tt)
-        (Sorted (resorted controls ch (about q n) (about (written q j f) n) others refl marking (LaneThere (record { number = j; file = f }) there marked)
+        (Sorted (resorted ch (about q n) (about (written q j f) n) others refl marking (LaneThere (record { number = j; file = f }) there marked)
         (λ _. is_there (look q (Of (lane_part ch) n)) may.lane.file may.lane.there)))
 
-    behind : (g : File → File) → LeadsOn controls now a (Some n) q (written q j (g (q.disk.files j)))
-        → LeadsOn controls now a (Some n) q (record { disk = changed q.disk (q.disk.opens fd) g; holder = q.holder; books = q.books; role = q.role })
+    behind : (g : File → File) → LeadsOn now a (Some n) q (written q j (g (q.disk.files j)))
+        → LeadsOn now a (Some n) q (record { disk = changed q.disk (q.disk.opens fd) g; holder = q.holder; books = q.books; role = q.role })
     behind g leads =
-        let by = λ (o : Option OpenFile). LeadsOn controls now a (Some n) q (record { disk = changed q.disk o g; holder = q.holder; books = q.books; role = q.role }) in
+        let by = λ (o : Option OpenFile). LeadsOn now a (Some n) q (record { disk = changed q.disk o g; holder = q.holder; books = q.books; role = q.role }) in
         subst by (sym may.opened.opened) leads
 
-  pub marks_keep : (read n : ℕ) (ch : Channel) (fd : Fd) (place : ℕ) (told : Answer) (wrote : ℕ) → MayMark q a n ch fd.0 place
-      → Fits q.disk (WriteAt fd place (68 ∷ [])) told wrote → LeadsOn controls now a (Some n) q (called_queue q a read (WriteAt fd place (68 ∷ [])) told wrote q.role)
-  marks_keep read n ch fd place answer.Done wrote may fits =
+  pub writes_keep : (read n : ℕ) (ch : Channel) (fd : Fd) (place : ℕ) (told : Answer) (wrote : ℕ) → MayWrite q a n ch fd.0 place
+      → Fits q.disk (WriteAt fd place (68 ∷ [])) told wrote → LeadsOn now a (Some n) q (called_queue q a read (WriteAt fd place (68 ∷ [])) told wrote q.role)
+  writes_keep read n ch fd place answer.Done wrote may fits =
       behind n ch fd.0 place may (overwritten read place (68 ∷ []))
       (mark_leads n ch fd.0 place may (overwritten read place (68 ∷ []))
-      (λ f d m. marked_over controls (marking n ch fd.0 place may).taken.injection ch f read place d m))
-  marks_keep read n ch fd place (answer.Refused Fault) wrote may fits =
+      (λ f d m. marked_over (marking n ch fd.0 place may).taken.injection ch f read place d m))
+  writes_keep read n ch fd place (answer.Refused Fault) wrote may fits =
       behind n ch fd.0 place may (overwritten_part read place (68 ∷ []) wrote)
       (mark_leads n ch fd.0 place may (overwritten_part read place (68 ∷ []) wrote)
-      (λ f d m. marked_part controls (marking n ch fd.0 place may).taken.injection ch f read place wrote d m))
-  marks_keep read n ch fd place (answer.Refused Memory) wrote may fits = stays_but n (taken_apart controls now q a n (marking n ch fd.0 place may).taken)
-  marks_keep read n ch fd place told wrote may fits = absurd fits
+      (λ f d m. marked_part (marking n ch fd.0 place may).taken.injection ch f read place wrote d m))
+  writes_keep read n ch fd place (answer.Refused Memory) wrote may fits = stays_but n (taken_apart now q a n (marking n ch fd.0 place may).taken)
+  writes_keep read n ch fd place told wrote may fits = absurd fits
 
   -- A channel file goes
-  drop_phase : (n : ℕ) (ch : Channel) (may : MayDrop controls (about q n) ch) (h : IsPreprocessed controls (about q n))
-      → Phase controls (about (named q (Of (lane_part ch) n) None q.books) n)
+  drop_phase : (n : ℕ) (ch : Channel) (may : MayDrop (about q n) ch) (h : IsPreprocessed (about q n))
+      → Phase (about (named q (Of (lane_part ch) n) None q.books) n)
   drop_phase n ch may h =
       let x = Of (lane_part ch) n in
       let same : may.lane.injection ≡ h.taken.injection = (let w = may.lane.lives in let v = h.taken.lives in cc) in
-      let marked = lane_there controls (about q n) h.taken.injection ch may.lane.file may.lane.there (h.lanes ch) in
-      let all = subst (λ (i : Injection). AllMarked controls i ch may.lane.file.file → IsLaneDone controls i ch) same
-      (λ (m : AllMarked controls may.lane.injection ch may.lane.file.file) (r : Recipient may.lane.injection.args) on.
-      ⊎_elim (λ reads. reads_done controls may.lane.injection ch may.lane.file.file.bytes m.present r on reads) (λ done. done) (may.each r on))
+      let marked = lane_there (about q n) h.taken.injection ch may.lane.file may.lane.there (h.lanes ch) in
+      let all = subst (λ (i : Injection). AllMarked i ch may.lane.file.file → IsLaneDone i ch) same
+      (λ (m : AllMarked may.lane.injection ch may.lane.file.file) (r : Recipient may.lane.injection.args) on.
+      ⊎_elim (λ reads. reads_done may.lane.injection ch may.lane.file.file.bytes m.present r on reads) (λ done. done) (may.each r on))
       marked in
-      Sorted (resorted controls ch (about q n) (about (named q x None q.books) n)
+      Sorted (resorted ch (about q n) (about (named q x None q.books) n)
       (λ P far. named_other q x None q.books (Of P n) (λ s. far (cc)))
       refl h (LaneGone (find_gone q.disk.names q.disk.files x) all)
       (λ there. absurd (there (find_gone q.disk.names q.disk.files x))))
 
-  pub drops_keep : (read n : ℕ) (ch : Channel) (told : Answer) (wrote : ℕ) → MayDrop controls (about q n) ch → Fits q.disk (Unlink (path (Of (lane_part ch) n))) told wrote
-      → LeadsOn controls now a (Some n) q (called_queue q a read (Unlink (path (Of (lane_part ch) n))) told wrote q.role)
+  pub drops_keep : (read n : ℕ) (ch : Channel) (told : Answer) (wrote : ℕ) → MayDrop (about q n) ch → Fits q.disk (Unlink (path (Of (lane_part ch) n))) told wrote
+      → LeadsOn now a (Some n) q (called_queue q a read (Unlink (path (Of (lane_part ch) n))) told wrote q.role)
   drops_keep read n ch answer.Done wrote may fits =
-      let h = sorted_of_lane controls (about q n) ch (G.fine n) may.lane in
-      gone_leads (Of (lane_part ch) n) n refl (taken_apart controls now q a n h.taken) (drop_phase n ch may h)
+      let h = sorted_of_lane (about q n) ch (G.fine n) may.lane in
+      gone_leads (Of (lane_part ch) n) n refl (taken_apart now q a n h.taken) (drop_phase n ch may h)
   drops_keep read n ch (answer.Refused why) wrote may fits =
-      stays_but n (taken_apart controls now q a n (sorted_of_lane controls (about q n) ch (G.fine n) may.lane).taken)
+      stays_but n (taken_apart now q a n (sorted_of_lane (about q n) ch (G.fine n) may.lane).taken)
   drops_keep read n ch told wrote may fits = absurd fits
 
   -- Info goes
-  sorted_of_info : (w : About) → Phase controls w → MayEnd w → IsPreprocessed controls w
+  sorted_of_info : (w : About) → Phase w → MayEnd w → IsPreprocessed w
   sorted_of_info w (Free h) may = let there = may.there in let none = h.unsorted Info refl in absurd (cc)
   sorted_of_info w (Queued h) may = let none = may.no_todo in let there = h.todo_there in absurd (cc)
   sorted_of_info w (Sorted h) may = h
   sorted_of_info w (Finished h) may = let there = may.there in let none = h.unsorted Info refl in absurd (cc)
 
-  lane_over : (w : About) (i : Injection) (ch : Channel) → w.parts (lane_part ch) ≡ None → LaneState controls w i ch → IsLaneDone controls i ch
+  lane_over : (w : About) (i : Injection) (ch : Channel) → w.parts (lane_part ch) ≡ None → LaneState w i ch → IsLaneDone i ch
   lane_over w i ch none (LaneThere y there marked) = absurd (cc)
   lane_over w i ch none (LaneGone gone all) = all
 
-  notes_over : (w : About) (i : Injection) → w.parts Bounce ≡ None → NotesState controls i (file_in (w.parts Bounce)) → NotesDone controls i
+  notes_over : (w : About) (i : Injection) → w.parts Bounce ≡ None → NotesState i (file_in (w.parts Bounce)) → NotesDone i
   notes_over w i none (There f is has) = let w : ◌≡◌ {A = Option File} None (Some f) = ap file_in (sym none) ∙ is in absurd (cc)
   notes_over w i none (Gone is settled) = settled
 
-  end_phase : (n : ℕ) → MayEnd (about q n) → (h : IsPreprocessed controls (about q n)) → Phase controls (about (named q (Of Info n) None q.books) n)
+  end_phase : (n : ℕ) → MayEnd (about q n) → (h : IsPreprocessed (about q n)) → Phase (about (named q (Of Info n) None q.books) n)
   end_phase n may h =
       let x = Of Info n in
       let other = named_other q x None q.books in
@@ -410,11 +421,11 @@ module _ (controls : Controls) (now : ℕ) (q : Queue) (a : List ℕ) (G : Sound
       later Bounce is = named_other q (Of Info n) None q.books (Of Bounce n) (λ s. cc) ∙ may.no_bounce
 
   pub ends_keep : (read n : ℕ) (told : Answer) (wrote : ℕ) → MayEnd (about q n) → Fits q.disk (Unlink (path (Of Info n))) told wrote
-      → LeadsOn controls now a (Some n) q (called_queue q a read (Unlink (path (Of Info n))) told wrote q.role)
+      → LeadsOn now a (Some n) q (called_queue q a read (Unlink (path (Of Info n))) told wrote q.role)
   ends_keep read n answer.Done wrote may fits =
       let h = sorted_of_info (about q n) (G.fine n) may in
-      gone_leads (Of Info n) n refl (taken_apart controls now q a n h.taken) (end_phase n may h)
-  ends_keep read n (answer.Refused why) wrote may fits = stays_but n (taken_apart controls now q a n (sorted_of_info (about q n) (G.fine n) may).taken)
+      gone_leads (Of Info n) n refl (taken_apart now q a n h.taken) (end_phase n may h)
+  ends_keep read n (answer.Refused why) wrote may fits = stays_but n (taken_apart now q a n (sorted_of_info (about q n) (G.fine n) may).taken)
   ends_keep read n told wrote may fits = absurd fits
 
   -- A line is entered
@@ -443,8 +454,8 @@ module _ (controls : Controls) (now : ℕ) (q : Queue) (a : List ℕ) (G : Sound
     lined r = record { disk = r.disk; holder = r.holder; books = entered_in q.books n line; role = r.role }
 
     -- a step that concerns this number alone, and enters the line
-    pub lined_leads : (r : Queue) → Elsewhere now a (Some n) q r → NamesSuit r → Phase controls (about (lined r) n) → Outside q.disk r.disk → LeavesOld q r
-        → LeadsOn controls now a (Some n) q (lined r)
+    pub lined_leads : (r : Queue) → Elsewhere now a (Some n) q r → NamesSuit r → Phase (about (lined r) n) → Outside q.disk r.disk → LeavesOld q r
+        → LeadsOn now a (Some n) q (lined r)
     lined_leads r E suits fine outside old =
         let L : Elsewhere now a (Some n) q (lined r) = record {
           looks = E.looks;
@@ -461,19 +472,24 @@ module _ (controls : Controls) (now : ℕ) (q : Queue) (a : List ℕ) (G : Sound
           old = record { files = old.files; roles = old.roles };
         }
 
-  module _ (n : ℕ) (line : Line) (may : MayEnter controls (about q n) line) where
-    entered_lane : (i : Injection) (ch : Channel) → LaneState controls (about q n) i ch → LaneState controls (about (entered_queue q n line) n) (with_line line i) ch
-    entered_lane i ch (LaneThere y there marked) = LaneThere y there (marked_grown controls i line ch y.file marked)
-    entered_lane i ch (LaneGone none all) = LaneGone none (lane_grown controls i line ch all)
-
-    entered_fits : (i : Injection) → q.books.living n ≡ Some i → LineFits controls (about q n) i line
+  module _ (n : ℕ) (line : Line) (may : MayEnter (about q n) line) where
+    entered_fits : (i : Injection) → q.books.living n ≡ Some i → LineFits (about q n) i line
     entered_fits i lives =
         let w = may.lives in
         let same : may.injection ≡ i = cc in
-        subst (λ (z : Injection). LineFits controls (about q n) z line) same may.fits
+        subst (λ (z : Injection). LineFits (about q n) z line) same may.fits
 
-    entered_taken : (h : IsTaken controls (about q n)) → IsTaken controls (about (entered_queue q n line) n)
-    entered_taken h = record {
+    -- once todo is gone it is routed as it was
+    routed_same : (i : Injection) → q.books.living n ≡ Some i → in_todo (about q n).parts ≡ None → (line_in line i.ledger).routes ≡ i.ledger.routes
+    routed_same i lives gone = routes_on (about q n) i line (entered_fits i lives) gone
+
+    entered_lane : (i : Injection) → (line_in line i.ledger).routes ≡ i.ledger.routes → (ch : Channel) → LaneState (about q n) i ch
+        → LaneState (about (entered_queue q n line) n) (with_line line i) ch
+    entered_lane i same ch (LaneThere y there marked) = LaneThere y there (marked_grown i line same ch y.file marked)
+    entered_lane i same ch (LaneGone none all) = LaneGone none (lane_grown i line same ch all)
+
+    entered_taken : (h : IsTaken (about q n)) → HasItsSpots (with_line line h.injection) → IsTaken (about (entered_queue q n line) n)
+    entered_taken h spots = record {
       injection = with_line line h.injection;
       lives = entered_living n line h.injection h.lives;
       accepted = h.accepted;
@@ -481,44 +497,48 @@ module _ (controls : Controls) (now : ℕ) (q : Queue) (a : List ℕ) (G : Sound
       mess_there = h.mess_there;
       message = h.message;
       valid = h.valid;
-      spots = spots_on controls (about q n) h.injection line (entered_fits h.injection h.lives) h.spots;
+      spots = spots;
     }
 
-    pub entered_phase : Phase controls (about q n) → Phase controls (about (entered_queue q n line) n)
+    pub entered_phase : Phase (about q n) → Phase (about (entered_queue q n line) n)
     unfolding entered_taken
     entered_phase (Free h) = absurd (h.not_accepted may.injection may.lives may.accepted)
     entered_phase (Queued h) =
-        let fits = entered_fits h.taken.injection h.taken.lives in
+        let i = h.taken.injection in
+        let there : in_todo (about q n).parts ≢ None = (λ none. let some = h.todo_there in absurd (cc)) in
+        let fresh = fresh_on (about q n) i line (entered_fits i h.taken.lives) there h.fresh in
         Queued (record {
-          taken = entered_taken h.taken;
+          taken = entered_taken h.taken (fresh_spots (with_line line i) fresh);
           todo = h.todo;
           todo_there = h.todo_there;
           text = h.text;
           no_bounce = h.no_bounce;
-          unnoted = noted_on controls (about q n) h.taken.injection line fits ∙ h.unnoted;
-          unreturned = unreturned_on controls (about q n) h.taken.injection line fits
-              (λ b (back : MayReturn (about q n) h.taken.injection.ledger b). let none = back.no_todo in let there = h.todo_there in absurd (cc)) h.unreturned;
+          fresh = fresh;
         })
     entered_phase (Sorted h) =
         let i = h.taken.injection in
         let fits = entered_fits i h.taken.lives in
+        let same = routed_same i h.taken.lives h.no_todo in
         Sorted (record {
-          taken = entered_taken h.taken;
+          taken = entered_taken h.taken (spots_on (about q n) i line fits h.no_todo h.taken.spots);
           no_todo = h.no_todo;
           no_intd = h.no_intd;
+          no_nul = subst HaveNoNul (sym same) h.no_nul;
           info = h.info;
           info_there = h.info_there;
           text = h.text;
-          lanes = λ ch. entered_lane i ch (h.lanes ch);
-          notes = notes_on controls (about q n) i line fits (file_in (look q (Of Bounce n))) h.notes;
-          unsettled = λ ch there. unreturned_on controls (about q n) i line fits
+          lanes = λ ch. entered_lane i same ch (h.lanes ch);
+          notes = notes_on (about q n) i line fits h.no_todo (file_in (look q (Of Bounce n))) h.notes;
+          unsettled = λ ch there. unreturned_on (about q n) i line fits
               (λ b (back : MayReturn (about q n) i.ledger b). absurd (there (back.gone ch))) (h.unsettled ch there);
         })
     entered_phase (Finished h) =
-        let fits = entered_fits h.injection h.lives in
+        let i = h.injection in
+        let fits = entered_fits i h.lives in
+        let same = routed_same i h.lives h.no_todo in
         Finished (record {
-          injection = with_line line h.injection;
-          lives = entered_living n line h.injection h.lives;
+          injection = with_line line i;
+          lives = entered_living n line i h.lives;
           accepted = h.accepted;
           message = h.message;
           no_todo = h.no_todo;
@@ -526,13 +546,13 @@ module _ (controls : Controls) (now : ℕ) (q : Queue) (a : List ℕ) (G : Sound
           unsorted = h.unsorted;
           settled = record {
             valid = h.settled.valid;
-            spots = spots_on controls (about q n) h.injection line fits h.settled.spots;
-            all = λ ch. lane_grown controls h.injection line ch (h.settled.all ch);
-            notes = done_on controls (about q n) h.injection line fits h.settled.notes;
+            spots = spots_on (about q n) i line fits h.no_todo h.settled.spots;
+            all = λ ch. lane_grown i line same ch (h.settled.all ch);
+            notes = done_on (about q n) i line fits h.no_todo h.settled.notes;
           };
         })
 
-    pub entries_keep : LeadsOn controls now a (Some n) q (entered_queue q n line)
+    pub entries_keep : LeadsOn now a (Some n) q (entered_queue q n line)
     entries_keep =
         let E : Elsewhere now a (Some n) q q = record {
           looks = λ _ _. refl;
@@ -543,3 +563,70 @@ module _ (controls : Controls) (now : ℕ) (q : Queue) (a : List ℕ) (G : Sound
           accepted = λ i h _. still_there q.books i h;
         } in
         lined_leads n line q E G.suits (entered_phase (G.fine n)) (outside_same q.disk q.disk.opens) (record { files = λ _ _ _ _. refl; roles = λ _ _ _. refl })
+
+-- a line that is entered before a step which concerns its number alone
+entered_first : (now : ℕ) (q r : Queue) (a : List ℕ) (n : ℕ) (line : Line) → LeadsOn now a (Some n) q (entered_queue q n line) → LeadsOn now a (Some n) (entered_queue q n line) r
+    → LeadsOn now a (Some n) q r
+entered_first now q r a n line first next = record {
+  sound = next.sound;
+  elsewhere = record {
+    looks = next.elsewhere.looks;
+    living = λ k far. next.elsewhere.living k far ∙ first.elsewhere.living k far;
+    opens = next.elsewhere.opens;
+    roles = next.elsewhere.roles;
+    apart = first.elsewhere.apart;
+    accepted = λ i h yes.
+        let j = first.elsewhere.accepted i h yes in
+        let k = next.elsewhere.accepted j.0 j.1 (j.2.accepted_is ∙ yes) in (
+          k.0,
+          k.1,
+          record {
+            number_is = k.2.number_is ∙ j.2.number_is;
+            actor_is = k.2.actor_is ∙ j.2.actor_is;
+            args_are = k.2.args_are ∙ j.2.args_are;
+            accepted_is = k.2.accepted_is ∙ j.2.accepted_is;
+            grown = grown_on i.ledger j.0.ledger k.0.ledger j.2.grown k.2.grown;
+          },
+        );
+  };
+  outside = next.outside;
+  old = record { files = next.old.files; roles = next.old.roles };
+}
+
+module _ (now : ℕ) (q : Queue) (a : List ℕ) (G : Sound q) (n : ℕ) (fd : Fd) (it : Named) (may : MayMark q a n fd.0 it) where
+  -- A mark is entered, and then written
+  mark_enters : MayEnter (about q n) (Marks it)
+  mark_enters =
+      let h = sorted_of_lane (about q n) it.spot.channel (G.fine n) may.lane in
+      let same : may.lane.injection ≡ h.taken.injection = (let w = may.lane.lives in let v = h.taken.lives in cc) in
+      record {
+        mess = h.taken.mess;
+        there = h.taken.mess_there;
+        injection = h.taken.injection;
+        lives = h.taken.lives;
+        accepted = h.taken.accepted;
+        fits = (may.lane.no_todo, subst (λ (z : Injection). MayBeMarked z.ledger it) same may.may);
+      }
+
+  pub mark_entered : LeadsOn now a (Some n) q (entered_queue q n (Marks it))
+  mark_entered = entries_keep now q a G n (Marks it) mark_enters
+
+  abbrev pub may_write : MayWrite (entered_queue q n (Marks it)) a n it.spot.channel fd.0 it.spot.place
+  may_write = record {
+    lane = record {
+      no_todo = may.lane.no_todo;
+      file = may.lane.file;
+      there = may.lane.there;
+      injection = with_line (Marks it) may.lane.injection;
+      lives = entered_living now q a G n (Marks it) may.lane.injection may.lane.lives;
+    };
+    opened = may.opened;
+    done = (it.by, inl refl);
+  }
+
+pub marks_keep : MarksKeep
+marks_keep now q a read n fd it told wrote G may fits =
+    let first = mark_entered now q a G n fd it may in
+    let r = entered_queue q n (Marks it) in
+    entered_first now q (marked_queue q a read n fd it told wrote) a n (Marks it) first
+    (writes_keep now r a first.sound read n it.spot.channel fd it.spot.place told wrote (may_write now q a G n fd it may) fits)

@@ -68,9 +68,6 @@ module _ (names : List ℕ → Option ℕ) (files : ℕ → File) (n : ℕ) wher
   pub intd_unnamed : in_intd entries ≡ None → in_intd (parts_of names n) ≡ None
   intd_unnamed = intd_out entries (parts_of names n) (λ part is none. not_found names files (Of part n) none)
 
-  pub intd_absent : in_intd (parts_of names n) ≡ None → in_intd entries ≡ None
-  intd_absent = intd_out (parts_of names n) entries (λ part is none. find_none names files (Of part n) none)
-
   -- a number that has no name
   pub intd_bare : ((part : Part) → names (path (Of part n)) ≡ None) → in_intd entries ≡ None
   intd_bare empty = intd_none entries (λ part is. find_none names files (Of part n) (empty part))

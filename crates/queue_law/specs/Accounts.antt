@@ -1,7 +1,6 @@
 -- How each recipient of an accepted message is accounted for.
 use Rattle.std.specs.Prelude.{◌≡◌, ℕ, ◌<◌, ◌≤◌, List, length, Bool, true, false, not, ◌&&◌, ◌==◌, Option, Some, None, codes, slice_get}
 use Rattle.std.specs.List.{list_any}
-use Rattle.address_rules.specs.declared.controls.Controls.{Controls}
 use Rattle.address_rules.specs.Nuls.{HaveNoNul}
 use Rattle.envelope_records.specs.declared.channel.Record.{Record}
 use Rattle.envelope_records.specs.Records.{AreRecords}
@@ -15,11 +14,11 @@ use Rattle.queue_paths.specs.Names.Name.{Of}
 use Rattle.queue_paths.specs.Names.Part.{Bounce}
 use Rattle.queue_paths.specs.Parts.{in_todo, parts_of}
 use Rattle.todo_pass.specs.Places.{HasRecord}
-use Rattle.queue_law.specs.Books.{Injection, Books, IsInjected, IsValid}
+use Rattle.queue_law.specs.Books.{Injection, Books, IsInjected, IsValid, lane_in, routed_in, spot_in}
 use Rattle.queue_law.specs.Ledgers.{Bounced, Ledger, Spot}
-use Rattle.queue_law.specs.Routes.{Recipient, sender_of, spot_of, routed, lane_part, lane_text}
+use Rattle.queue_law.specs.Routes.{Recipient, sender_of, lane_part}
 use Rattle.queue_law.specs.Marks.{IsDone, IsMarked, HasItsSpots}
-use Rattle.queue_law.specs.Notes.{counted_as, is_spot, told_name}
+use Rattle.queue_law.specs.Notes.{counted_as, is_spot, name_in}
 use Rattle.queue_law.specs.Numbers.{Queue, Sound}
 
 -- todo is there, with the injection's text, and all of it is on the disk
@@ -29,10 +28,10 @@ pub record IsInTodo (d : Disk) (i : Injection) : Type 0 where
   pub text : IsSynced (d.files file) (todo_of i.args)
 
 -- the file of its channel is there, and at its place it has `T`, its routed address and NUL
-pub record IsUnmarked (controls : Controls) (d : Disk) (i : Injection) (r : Recipient i.args) : Type 0 where
+pub record IsUnmarked (d : Disk) (n : ℕ) (s : Spot) (address : List ℕ) : Type 0 where
   pub file : ℕ
-  pub there : d.names (path (Of (lane_part (spot_of controls i.args r).channel) i.number)) ≡ Some file
-  pub reads : HasRecord (d.files file).bytes (spot_of controls i.args r).place (routed controls i.args r)
+  pub there : d.names (path (Of (lane_part s.channel) n)) ≡ Some file
+  pub reads : HasRecord (d.files file).bytes s.place address
 
 -- a report of it said that it was delivered to, or that it failed for good
 abbrev pub is_delivered : Ledger → Spot → Bool
@@ -62,29 +61,29 @@ abbrev pub is_to_tell : Disk → Injection → Spot → Bool
 is_to_tell d i s = is_lost i.ledger s && not (is_open d i.number s)
 
 -- The bounce file is there, and names as many of this name as there are to tell, as it is and as it was at its last sync.
-pub record IsHeldIn (controls : Controls) (d : Disk) (i : Injection) (name : List ℕ) : Type 0 where
+pub record IsHeldIn (d : Disk) (i : Injection) (name : List ℕ) : Type 0 where
   pub file : ℕ
   pub there : d.names (path (Of Bounce i.number)) ≡ Some file
-  pub present : counted_as controls (is_to_tell d i) i name ≤ count (d.files file).bytes name
-  pub synced : counted_as controls (is_to_tell d i) i name ≤ count (d.files file).kept name
+  pub present : counted_as (is_to_tell d i) i name ≤ count (d.files file).bytes name
+  pub synced : counted_as (is_to_tell d i) i name ≤ count (d.files file).kept name
 
 -- Of `mail a a@x b@y : hi` with `a@x` local, after `run a` both are Pending. After preprocessing both are Unmarked, by local/1 and
 -- remote/1. Once `a@x` was reported delivered it is Delivered, whatever its record reads then, and stays so when all files are gone. When
 -- `b@y` failed and its record reads `D`, it is Held by bounce/1, which names it once; and Returned when a bounce with those notes was
 -- accepted, also once bounce/1 is gone. If the message came from `#@[]` it is Dropped instead.
-pub data Accounted (controls : Controls) (d : Disk) (b : Books) (i : Injection) (r : Recipient i.args) : Type 0 where
-  Pending : b.living i.number ≡ Some i → IsInTodo d i → Accounted controls d b i r
-  Unmarked : b.living i.number ≡ Some i → IsUnmarked controls d i r → Accounted controls d b i r
-  Delivered : Among (spot_of controls i.args r) i.ledger.delivered → Accounted controls d b i r
-  Held : b.living i.number ≡ Some i → Among (spot_of controls i.args r) i.ledger.failed → IsHeldIn controls d i (told_name controls r.address) → Accounted controls d b i r
-  Returned : Among (spot_of controls i.args r) i.ledger.failed → (x : Bounced) → Among x i.ledger.bounced → Among x.notes i.ledger.reads
-      → counted_as controls (is_lost i.ledger) i (told_name controls r.address) ≤ count x.notes (told_name controls r.address) → Accounted controls d b i r
-  Dropped : Among (spot_of controls i.args r) i.ledger.failed → i.ledger.dropped ≡ true → sender_of i.args ≡ codes "#@[]" → Accounted controls d b i r
+pub data Accounted (d : Disk) (b : Books) (i : Injection) (r : Recipient i.args) : Type 0 where
+  Pending : b.living i.number ≡ Some i → IsInTodo d i → Accounted d b i r
+  Unmarked : b.living i.number ≡ Some i → IsUnmarked d i.number (spot_in i r) (routed_in i r) → Accounted d b i r
+  Delivered : Among (spot_in i r) i.ledger.delivered → Accounted d b i r
+  Held : b.living i.number ≡ Some i → Among (spot_in i r) i.ledger.failed → IsHeldIn d i (name_in i r) → Accounted d b i r
+  Returned : Among (spot_in i r) i.ledger.failed → (x : Bounced) → Among x i.ledger.bounced → Among x.read i.ledger.reads
+      → counted_as (is_lost i.ledger) i (name_in i r) ≤ count x.read.notes (name_in i r) → Accounted d b i r
+  Dropped : Among (spot_in i r) i.ledger.failed → i.ledger.dropped ≡ true → sender_of i.args ≡ codes "#@[]" → Accounted d b i r
 
 -- each recipient of each accepted injection is accounted for, whether its life lasts or is over
 abbrev pub AllAccounted : Type 0
-AllAccounted = (controls : Controls) (q : Queue) → Sound controls q → (i : Injection) → IsInjected q.books i → i.accepted ≡ true
-    → (r : Recipient i.args) → Accounted controls q.disk q.books i r
+AllAccounted = (q : Queue) → Sound q → (i : Injection) → IsInjected q.books i → i.accepted ≡ true
+    → (r : Recipient i.args) → Accounted q.disk q.books i r
 
 -- there is a recipient for each number of one
 abbrev pub RecipientsAreNumbered : Type 0
@@ -92,18 +91,18 @@ RecipientsAreNumbered = (args : Arguments) (k : ℕ) → k < length (recipients_
 
 -- A record of a channel file, as it is read, is that of this recipient. It reads `D` only if that one was reported delivered, or its note is
 -- synced.
-pub record IsRecordOf (controls : Controls) (i : Injection) (ch : Channel) (r : Recipient i.args) (it : Record) : Type 0 where
-  pub on : (spot_of controls i.args r).channel ≡ ch
-  pub place_is : it.place ≡ (spot_of controls i.args r).place
-  pub address_is : it.address ≡ routed controls i.args r
+pub record IsRecordOf (i : Injection) (ch : Channel) (r : Recipient i.args) (it : Record) : Type 0 where
+  pub on : (spot_in i r).channel ≡ ch
+  pub place_is : it.place ≡ (spot_in i r).place
+  pub address_is : it.address ≡ routed_in i r
   pub done : it.done ≡ true → IsDone i.ledger ch it.place
 
 -- Each record is that of a recipient, and each recipient of the channel has one.
-pub record AreOfRecipients (controls : Controls) (i : Injection) (ch : Channel) (records : List Record) : Type 0 where
-  pub each : (it : Record) → Among it records → (r : Recipient i.args) × IsRecordOf controls i ch r it
-  pub all : (r : Recipient i.args) → (spot_of controls i.args r).channel ≡ ch → (it : Record) × Among it records × IsRecordOf controls i ch r it
+pub record AreOfRecipients (i : Injection) (ch : Channel) (records : List Record) : Type 0 where
+  pub each : (it : Record) → Among it records → (r : Recipient i.args) × IsRecordOf i ch r it
+  pub all : (r : Recipient i.args) → (spot_in i r).channel ≡ ch → (it : Record) × Among it records × IsRecordOf i ch r it
 
--- So it is of whatever a channel file is read as, if the control files have no NUL, as all that are read.
+-- So it is of whatever a channel file is read as, if the controls that route the message have no NUL, as all that are read.
 abbrev pub RecordsAreOfRecipients : Type 0
-RecordsAreOfRecipients = (controls : Controls) (i : Injection) (ch : Channel) (bytes : List ℕ) (records : List Record) → HaveNoNul controls → IsValid i.args
-    → HasItsSpots controls i → IsMarked (lane_text controls i.args ch) i.ledger ch bytes → AreRecords bytes records → AreOfRecipients controls i ch records
+RecordsAreOfRecipients = (i : Injection) (ch : Channel) (bytes : List ℕ) (records : List Record) → HaveNoNul i.ledger.routes → IsValid i.args
+    → HasItsSpots i → IsMarked (lane_in i ch) i.ledger ch bytes → AreRecords bytes records → AreOfRecipients i ch records

@@ -1,6 +1,5 @@
 -- When a number rests: what a program finds that makes it so.
 use Rattle.std.specs.Prelude.{◌≡◌, ℕ, ◌+◌, ◌<◌, Some, None}
-use Rattle.address_rules.specs.declared.controls.Controls.{Controls}
 use Rattle.queue_paths.specs.Names.Name.{Of}
 use Rattle.queue_paths.specs.Names.Part.{Mess, Info}
 use Rattle.queue_paths.specs.Parts.{in_todo}
@@ -11,11 +10,11 @@ use Rattle.queue_limits.specs.declared.times.TheConstants.{PID_NAME_AGE}
 
 pub record RestsBegin : Type 0 where
   -- a number whose name is in todo is queued, and no injector touches it any more
-  pub queued : (controls : Controls) (now : ℕ) (q : Queue) (n : ℕ) (y : Entry) → Sound controls q → in_todo (about q n).parts ≡ Some y
-      → RestsAs now q n (IsQueued controls)
+  pub queued : (now : ℕ) (q : Queue) (n : ℕ) (y : Entry) → Sound q → in_todo (about q n).parts ≡ Some y
+      → RestsAs now q n IsQueued
   -- no injector touches a message any more that was last written over 36 hours ago
-  pub old : (controls : Controls) (now : ℕ) (q : Queue) (n : ℕ) (y : Entry) → Sound controls q → look q (Of Mess n) ≡ Some y
+  pub old : (now : ℕ) (q : Queue) (n : ℕ) (y : Entry) → Sound q → look q (Of Mess n) ≡ Some y
       → y.file.moment + PID_NAME_AGE < now → IsClosed now q n
   -- and nothing of it is wanted, if neither todo nor info is there
-  pub spent : (controls : Controls) (now : ℕ) (q : Queue) (n : ℕ) → Sound controls q → IsClosed now q n → in_todo (about q n).parts ≡ None → look q (Of Info n) ≡ None
+  pub spent : (now : ℕ) (q : Queue) (n : ℕ) → Sound q → IsClosed now q n → in_todo (about q n).parts ≡ None → look q (Of Info n) ≡ None
       → RestsAs now q n IsSpent

@@ -16,10 +16,9 @@ use Rattle.queue_paths.specs.Names.Name.{Of}
 use Rattle.queue_paths.specs.Names.Part.{Mess, Intd, Todo}
 use Rattle.queue_inject.specs.declared.injection.Arguments.{Arguments}
 use Rattle.queue_inject.specs.Texts.{message_text, intd_text}
-use Rattle.send_jobs.specs.Bookings.{Booking}
-use Rattle.send_jobs.specs.Bookings.Booking.{Dropped, Noted, ReadNotes, Reported, Returned}
+use Rattle.send_known.specs.declared.channel.Channel.{Channel}
 use Rattle.queue_law.specs.Ledgers.{Ledger, Line, Spot, HasGrown, line_in, no_ledger}
-use Rattle.queue_law.specs.Ledgers.Line.{Delivers, Drops, Fails, Notes, Reads, Returns}
+use Rattle.queue_law.specs.Routes.{Recipient, lane_text, routed, spot_of}
 
 -- a file call and what was told, as an event of a program's own past
 abbrev pub own_call : ℕ → Ready → CallData → Told → Own
@@ -31,7 +30,7 @@ last_read start [] = start
 last_read start (event ∷ before) = event.read
 
 -- An injection: an Ok link by an injector to the name of a message. It is accepted if that injector's link of intd
--- to todo answered Ok. Its ledger says what senders did with it.
+-- to todo answered Ok. Its ledger says what senders did with it, and by which controls its recipients are routed.
 pub record Injection : Type 0 where
   pub number : ℕ
   pub actor : List ℕ
@@ -82,42 +81,15 @@ with_line line i = record i { ledger = line_in line i.ledger }
 abbrev pub entered_in : Books → ℕ → Line → Books
 entered_in b n line = record { living = put b.living n (option_map (with_line line) (b.living n)); over = b.over }
 
--- the injector that a sender has started: its name and its arguments
-pub record Child : Type 0 where
-  pub actor : List ℕ
-  pub args : Arguments
+-- By the controls that route its recipients: where the record of one stands, which address it has, and what preprocessing makes of a channel's file.
+abbrev pub spot_in : (i : Injection) → Recipient i.args → Spot
+spot_in i r = spot_of i.ledger.routes i.args r
 
--- what was read last of the bounce file
-abbrev pub first_of : List (List ℕ) → List ℕ
-first_of [] = []
-first_of (notes ∷ earlier) = notes
+abbrev pub routed_in : (i : Injection) → Recipient i.args → List ℕ
+routed_in i r = routed i.ledger.routes i.args r
 
-abbrev pub notes_read : Option Injection → List ℕ
-notes_read None = []
-notes_read (Some i) = first_of i.ledger.reads
-
--- the line of a recipient of which a final report was taken
-abbrev pub line_said : Bool → Spot → Line
-line_said true s = Delivers s
-line_said false s = Fails s
-
--- a bounce is that of the child, with the notes that were read last
-abbrev pub returned_in : Option Child → Books → ℕ → Books
-returned_in None b n = b
-returned_in (Some child) b n = entered_in b n (Returns (record { actor = child.actor; args = child.args; notes = notes_read (b.living n) }))
-
--- the books after something that a sender did which has this child
-abbrev pub booked_on : Option Child → Booking → Books → Books
-booked_on child (Reported delivered c n place) b = entered_in b n (line_said delivered (record { channel = c; place = place }))
-booked_on child (Noted c n place) b = entered_in b n (Notes (record { channel = c; place = place }))
-booked_on child (ReadNotes n notes) b = entered_in b n (Reads notes)
-booked_on child (Returned n) b = returned_in child b n
-booked_on child (Dropped n) b = entered_in b n Drops
-
--- and after these, one after the other
-abbrev pub booked_all : Option Child → List Booking → Books → Books
-booked_all child [] b = b
-booked_all child (e ∷ es) b = booked_all child es (booked_on child e b)
+abbrev pub lane_in : Injection → Channel → List ℕ
+lane_in i ch = lane_text i.ledger.routes i.args ch
 
 -- the same injection later on: its ledger may have grown, and all else is as it was
 pub record IsLater (i j : Injection) : Type 0 where

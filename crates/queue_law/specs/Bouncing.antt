@@ -19,9 +19,9 @@ use Rattle.queue_paths.specs.Parts.{in_todo}
 use Rattle.send_known.specs.declared.channel.Channel.{Channel}
 use Rattle.queue_law.specs.Ledgers.{Bounced, Line}
 use Rattle.queue_law.specs.Ledgers.Line.{Drops, Notes}
-use Rattle.queue_law.specs.Books.{Books, Injection, entered_in, held_by}
+use Rattle.queue_law.specs.Books.{Books, Injection, entered_in, held_by, routed_in, spot_in}
 use Rattle.queue_law.specs.Notes.{Covers}
-use Rattle.queue_law.specs.Routes.{Recipient, lane_part, routed, sender_of, spot_of}
+use Rattle.queue_law.specs.Routes.{Recipient, lane_part, sender_of}
 use Rattle.queue_law.specs.Numbers.{Role, Queue, Entry, look, About, about, Sound}
 use Rattle.queue_law.specs.Injectors.{IsHeld, created}
 use Rattle.queue_law.specs.Senders.{HasLane, LeadsOn, MayEnter, called_queue}
@@ -63,22 +63,22 @@ pub record IsBegunAs (r : Queue) (a : List ℕ) (n read fd i : ℕ) : Type 0 whe
   pub opened : IsHeld r.disk.opens r.holder a fd (created i)
 
 -- what a create leads to
-pub record BounceBegins (controls : Controls) (now : ℕ) (q : Queue) (a : List ℕ) (read n : ℕ) (answer : Answer) (wrote : ℕ) : Type 0 where
+pub record BounceBegins (now : ℕ) (q : Queue) (a : List ℕ) (read n : ℕ) (answer : Answer) (wrote : ℕ) : Type 0 where
   pub role : ℕ → Role
-  pub leads : LeadsOn controls now a (Some n) q (called_queue q a read (CreateExcl (path (Of Bounce n))) answer wrote role)
+  pub leads : LeadsOn now a (Some n) q (called_queue q a read (CreateExcl (path (Of Bounce n))) answer wrote role)
   pub others : OthersStay q (called_queue q a read (CreateExcl (path (Of Bounce n))) answer wrote role) n
   pub begins : (fd : Fd) (i : ℕ) → answer ≡ Created fd i → IsBegunAs (called_queue q a read (CreateExcl (path (Of Bounce n))) answer wrote role) a n read fd.0 i
 
 -- The bounce file may be created while a channel file is there: so nothing of the message was returned.
 abbrev pub BouncesBegin : Type 0
-BouncesBegin = (controls : Controls) (now : ℕ) (q : Queue) (a : List ℕ) (read n : ℕ) (ch : Channel) (answer : Answer) (wrote : ℕ)
-    → Sound controls q → HasLane (about q n) ch → Fits q.disk (CreateExcl (path (Of Bounce n))) answer wrote → BounceBegins controls now q a read n answer wrote
+BouncesBegin = (now : ℕ) (q : Queue) (a : List ℕ) (read n : ℕ) (ch : Channel) (answer : Answer) (wrote : ℕ)
+    → Sound q → HasLane (about q n) ch → Fits q.disk (CreateExcl (path (Of Bounce n))) answer wrote → BounceBegins now q a read n answer wrote
 
 -- An append
 
 -- what an append leads to
-pub record BounceGrows (controls : Controls) (now : ℕ) (q r : Queue) (a : List ℕ) (n fd : ℕ) (held : HoldsBounce q a n fd) (more : List ℕ) (answer : Answer) : Type 0 where
-  pub leads : LeadsOn controls now a (Some n) q r
+pub record BounceGrows (now : ℕ) (q r : Queue) (a : List ℕ) (n fd : ℕ) (held : HoldsBounce q a n fd) (more : List ℕ) (answer : Answer) : Type 0 where
+  pub leads : LeadsOn now a (Some n) q r
   pub others : OthersStay q r n
   pub opens : KeepsOpen q r a
   pub file : File
@@ -87,35 +87,35 @@ pub record BounceGrows (controls : Controls) (now : ℕ) (q r : Queue) (a : List
 
 -- whatever is put at its end, and however much of it was
 abbrev pub BouncesGrow : Type 0
-BouncesGrow = (controls : Controls) (now : ℕ) (q : Queue) (a : List ℕ) (read n : ℕ) (fd : Fd) (more : List ℕ) (answer : Answer) (wrote : ℕ)
-    → Sound controls q → (held : HoldsBounce q a n fd.0) → Fits q.disk (Append fd more) answer wrote
-    → BounceGrows controls now q (called_queue q a read (Append fd more) answer wrote q.role) a n fd.0 held more answer
+BouncesGrow = (now : ℕ) (q : Queue) (a : List ℕ) (read n : ℕ) (fd : Fd) (more : List ℕ) (answer : Answer) (wrote : ℕ)
+    → Sound q → (held : HoldsBounce q a n fd.0) → Fits q.disk (Append fd more) answer wrote
+    → BounceGrows now q (called_queue q a read (Append fd more) answer wrote q.role) a n fd.0 held more answer
 
 -- A sync
 
--- The bounce file may be synced with the note of this recipient, which failed for good: that stands at its end, and what was there before
--- names each recipient that is noted.
-pub record MayNote (controls : Controls) (q : Queue) (a : List ℕ) (n fd : ℕ) : Type 0 where
+-- The bounce file may be synced with the note of this recipient, which failed for good: that stands at its end, under the name that these controls
+-- give it, and what was there before names each recipient that is noted.
+pub record MayNote (by : Controls) (q : Queue) (a : List ℕ) (n fd : ℕ) : Type 0 where
   pub held : HoldsBounce q a n fd
   pub injection : Injection
   pub lives : q.books.living n ≡ Some injection
   pub recipient : Recipient injection.args
-  pub failed : Among (spot_of controls injection.args recipient) injection.ledger.failed
+  pub failed : Among (spot_in injection recipient) injection.ledger.failed
   pub base : List ℕ
   pub report : List ℕ
-  pub covers : Covers controls injection base
-  pub reads : held.file.file.bytes ≡ with_note base (stripped controls.virtual_domains (routed controls injection.args recipient)) report
+  pub covers : Covers injection base
+  pub reads : held.file.file.bytes ≡ with_note base (stripped by.virtual_domains (routed_in injection recipient)) report
 
--- what it leads to: if the answer is Ok, it is noted
-pub record NoteLeads (controls : Controls) (now : ℕ) (q r : Queue) (a : List ℕ) (n : ℕ) : Type 0 where
-  pub leads : LeadsOn controls now a (Some n) q r
+-- what it leads to: if the answer is Ok, it is noted under that name
+pub record NoteLeads (now : ℕ) (q r : Queue) (a : List ℕ) (n : ℕ) : Type 0 where
+  pub leads : LeadsOn now a (Some n) q r
   pub others : OthersStay q r n
   pub opens : KeepsOpen q r a
 
 abbrev pub NotesSync : Type 0
-NotesSync = (controls : Controls) (now : ℕ) (q : Queue) (a : List ℕ) (read n : ℕ) (fd : Fd) (answer : Answer) (wrote : ℕ)
-    → Sound controls q → (may : MayNote controls q a n fd.0) → Fits q.disk (Sync fd) answer wrote
-    → NoteLeads controls now q (entering_queue q a read (Sync fd) answer wrote n (Notes (spot_of controls may.injection.args may.recipient))) a n
+NotesSync = (by : Controls) (now : ℕ) (q : Queue) (a : List ℕ) (read n : ℕ) (fd : Fd) (answer : Answer) (wrote : ℕ)
+    → Sound q → (may : MayNote by q a n fd.0) → Fits q.disk (Sync fd) answer wrote
+    → NoteLeads now q (entering_queue q a read (Sync fd) answer wrote n (Notes (record { spot = spot_in may.injection may.recipient; by = by }))) a n
 
 -- An unlink
 
@@ -127,12 +127,12 @@ pub record MayUnlink (w : About) : Type 0 where
   pub lives : w.living ≡ Some injection
   pub bounce : Bounced
   pub accepted : Among bounce injection.ledger.bounced
-  pub notes : bounce.notes ≡ file.file.bytes
+  pub notes : bounce.read.notes ≡ file.file.bytes
 
 abbrev pub BouncesGo : Type 0
-BouncesGo = (controls : Controls) (now : ℕ) (q : Queue) (a : List ℕ) (read n : ℕ) (answer : Answer) (wrote : ℕ)
-    → Sound controls q → MayUnlink (about q n) → Fits q.disk (Unlink (path (Of Bounce n))) answer wrote
-    → LeadsOn controls now a (Some n) q (called_queue q a read (Unlink (path (Of Bounce n))) answer wrote q.role)
+BouncesGo = (now : ℕ) (q : Queue) (a : List ℕ) (read n : ℕ) (answer : Answer) (wrote : ℕ)
+    → Sound q → MayUnlink (about q n) → Fits q.disk (Unlink (path (Of Bounce n))) answer wrote
+    → LeadsOn now a (Some n) q (called_queue q a read (Unlink (path (Of Bounce n))) answer wrote q.role)
 
 -- It may be dropped: the message is a bounce of a bounce, and its channel files are gone.
 pub record MayDiscard (w : About) : Type 0 where
@@ -145,24 +145,24 @@ pub record MayDiscard (w : About) : Type 0 where
 
 -- if the answer is Ok, the ledger tells so
 abbrev pub BouncesDrop : Type 0
-BouncesDrop = (controls : Controls) (now : ℕ) (q : Queue) (a : List ℕ) (read n : ℕ) (answer : Answer) (wrote : ℕ)
-    → Sound controls q → MayDiscard (about q n) → Fits q.disk (Unlink (path (Of Bounce n))) answer wrote
-    → LeadsOn controls now a (Some n) q (entering_queue q a read (Unlink (path (Of Bounce n))) answer wrote n Drops)
+BouncesDrop = (now : ℕ) (q : Queue) (a : List ℕ) (read n : ℕ) (answer : Answer) (wrote : ℕ)
+    → Sound q → MayDiscard (about q n) → Fits q.disk (Unlink (path (Of Bounce n))) answer wrote
+    → LeadsOn now a (Some n) q (entering_queue q a read (Unlink (path (Of Bounce n))) answer wrote n Drops)
 
 -- Of the number of a bounce file this holds: it is preprocessed, and the file names each recipient that is noted.
-pub record IsBouncing (controls : Controls) (w : About) : Type 0 where
+pub record IsBouncing (w : About) : Type 0 where
   pub no_todo : in_todo w.parts ≡ None
   pub info : Entry
   pub info_there : w.parts Info ≡ Some info
   pub injection : Injection
   pub lives : w.living ≡ Some injection
-  pub covers : (y : Entry) → w.parts Bounce ≡ Some y → Covers controls injection y.file.bytes
+  pub covers : (y : Entry) → w.parts Bounce ≡ Some y → Covers injection y.file.bytes
 
 abbrev pub BouncesCover : Type 0
-BouncesCover = (controls : Controls) (q : Queue) (n : ℕ) (y : Entry) → Sound controls q → look q (Of Bounce n) ≡ Some y → IsBouncing controls (about q n)
+BouncesCover = (q : Queue) (n : ℕ) (y : Entry) → Sound q → look q (Of Bounce n) ≡ Some y → IsBouncing (about q n)
 
 -- A close of what the actor holds may enter a line, as what was read of the bounce file.
 abbrev pub ClosesEnter : Type 0
-ClosesEnter = (controls : Controls) (now : ℕ) (q : Queue) (a : List ℕ) (read n : ℕ) (fd : Fd) (line : Line) (answer : Answer) (wrote : ℕ)
-    → Sound controls q → MayEnter controls (about q n) line → q.holder fd.0 ≡ Some a → Fits q.disk (Close fd) answer wrote
-    → LeadsOn controls now a (Some n) q (entering_queue q a read (Close fd) answer wrote n line)
+ClosesEnter = (now : ℕ) (q : Queue) (a : List ℕ) (read n : ℕ) (fd : Fd) (line : Line) (answer : Answer) (wrote : ℕ)
+    → Sound q → MayEnter (about q n) line → q.holder fd.0 ≡ Some a → Fits q.disk (Close fd) answer wrote
+    → LeadsOn now a (Some n) q (entering_queue q a read (Close fd) answer wrote n line)

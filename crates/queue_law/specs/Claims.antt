@@ -1,6 +1,5 @@
 -- What a sound queue is safe by: the states of its numbers, and its messages. That each recipient is accounted for stands in Accounts.antt.
 use Rattle.std.specs.Prelude.{◌≡◌, ℕ, true, Some, None}
-use Rattle.address_rules.specs.declared.controls.Controls.{Controls}
 use Rattle.call_fs.specs.Disk.{IsSynced}
 use Rattle.queue_inject.specs.Texts.{entered}
 use Rattle.queue_paths.specs.Names.Name.{Of}
@@ -30,4 +29,4 @@ pub record IsSafe (q : Queue) : Type 0 where
   pub valid : (i : Injection) → IsInjected q.books i → i.accepted ≡ true → IsValid i.args
 
 abbrev pub SoundIsSafe : Type 0
-SoundIsSafe = (controls : Controls) (q : Queue) → Sound controls q → IsSafe q
+SoundIsSafe = (q : Queue) → Sound q → IsSafe q

@@ -1,6 +1,5 @@
 -- What a cleaner relies on at each row of its table, and what a call of it leaves.
 use Rattle.std.specs.Prelude.{◌≡◌, ◌≢◌, ◌⊎◌, ℕ, ◌≤◌, List, ◌∷◌, Contains, Option, Some, None, slice_get}
-use Rattle.address_rules.specs.declared.controls.Controls.{Controls}
 use Rattle.call_fs.specs.declared.calls.CallData.{CallData}
 use Rattle.call_fs.specs.declared.calls.Told.{Told}
 use Rattle.call_fs.specs.declared.program.Ready.{Ready as Found}
@@ -36,16 +35,16 @@ number_at (at.UnlinkSecond command) = Some (message_of command)
 number_at row = None
 
 -- what a command needs of its number: `foop` that nothing of it is wanted, `todo` that it is preprocessed except for todo
-abbrev pub Needs : Controls → Command → About → Type 0
-Needs controls (Foop n) w = IsSpent w
-Needs controls (Todo n) w = IsReady controls w
+abbrev pub Needs : Command → About → Type 0
+Needs (Foop n) w = IsSpent w
+Needs (Todo n) w = IsReady w
 
 -- the number of a row's command rests as the row needs
-abbrev pub Rests : Controls → ℕ → Queue → Row → Type 0
-Rests controls now q (at.UnlinkIntd command) = RestsAs now q (message_of command) (Needs controls command)
-Rests controls now q (at.UnlinkSecond command) =
-    RestsAs now q (message_of command) (λ w. Needs controls command w × (in_intd w.parts ≡ None))
-Rests controls now q row = Unit {0}
+abbrev pub Rests : ℕ → Queue → Row → Type 0
+Rests now q (at.UnlinkIntd command) = RestsAs now q (message_of command) (Needs command)
+Rests now q (at.UnlinkSecond command) =
+    RestsAs now q (message_of command) (λ w. Needs command w × (in_intd w.parts ≡ None))
+Rests now q row = Unit {0}
 
 -- the first row of a command that was taken, if one was
 abbrev pub row_of : Option (List ℕ) → Row
@@ -62,14 +61,14 @@ IsOnePart part = ¬ (Contains part 47)
 
 -- What a cleaner relies on at a row: that the number at work rests. During a scan of `pid` it is that of the command which it
 -- takes up next, if it took one; and the name that was found is one part.
-abbrev pub StandsAt : Controls → ℕ → Queue → Row → Place → Type 0
-StandsAt controls now q at.FindPid p = Rests controls now q (waiting p)
-StandsAt controls now q at.StatPid p = Rests controls now q (waiting p) × IsOnePart p.name
-StandsAt controls now q (at.JudgePid moment) p = Rests controls now q (waiting p) × IsJudged q (parse (pid_path p.name)) moment × IsOnePart p.name
-StandsAt controls now q row p = Rests controls now q row
+abbrev pub StandsAt : ℕ → Queue → Row → Place → Type 0
+StandsAt now q at.FindPid p = Rests now q (waiting p)
+StandsAt now q at.StatPid p = Rests now q (waiting p) × IsOnePart p.name
+StandsAt now q (at.JudgePid moment) p = Rests now q (waiting p) × IsJudged q (parse (pid_path p.name)) moment × IsOnePart p.name
+StandsAt now q row p = Rests now q row
 
-abbrev pub CleanerStands : Controls → ℕ → Queue → Place → Type 0
-CleanerStands controls now q p = StandsAt controls now q p.row p
+abbrev pub CleanerStands : ℕ → Queue → Place → Type 0
+CleanerStands now q p = StandsAt now q p.row p
 
 -- What a call of a cleaner leaves of all that isn't the queue's: all, except that a name in `pid` may go, but none in a directory in it.
 pub record LeavesButPid (d e : Disk) : Type 0 where
@@ -80,9 +79,9 @@ pub record LeavesButPid (d e : Disk) : Type 0 where
 -- What a call of a cleaner leads to, at a row of its table: what holds of the queue holds then too; the number at work at the
 -- next place rests; and except for one number, of which at most a name in `pid` and the names of the row's command went, nothing
 -- changed.
-pub record CleanerLeads (controls : Controls) (now : ℕ) (a : List ℕ) (q r : Queue) (row : Row) (next : Place) : Type 0 where
-  pub sound : Sound controls r
-  pub stands : CleanerStands controls now r next
+pub record CleanerLeads (now : ℕ) (a : List ℕ) (q r : Queue) (row : Row) (next : Place) : Type 0 where
+  pub sound : Sound r
+  pub stands : CleanerStands now r next
   pub number : Option ℕ
   pub elsewhere : Elsewhere now a number q r
   pub outside : LeavesButPid q.disk r.disk
@@ -93,16 +92,16 @@ pub record CleanerLeads (controls : Controls) (now : ℕ) (a : List ℕ) (q r : 
   pub pids : (pid start seq : ℕ) (y : Entry) → look q (Pid pid start seq) ≡ Some y → look r (Pid pid start seq) ≡ None
       → (o : List ℕ) (args : Arguments) → InTime now args → q.role y.number ≢ AsMessage o args
   -- once `+` is due to `todo/N`, the number is preprocessed
-  pub done : (n : ℕ) → row ≡ at.UnlinkSecond (Todo n) → next.row ≡ at.Answer Removed → RestsAs now r n (IsPreprocessed controls)
+  pub done : (n : ℕ) → row ≡ at.UnlinkSecond (Todo n) → next.row ≡ at.Answer Removed → RestsAs now r n IsPreprocessed
 
 -- The laws
 
 -- a file call of a cleaner that is due keeps what holds of the queue, if the number at work rests
 abbrev pub CleanersKeep : Type 0
-CleanersKeep = (controls : Controls) (now : ℕ) (q : Queue) (a : List ℕ) (past : List Own) (read : ℕ) (ready : Found) (call : CallData) (told : Told) (wrote : ℕ)
-    → Sound controls q → CleanerStands controls now q (place_after past) → read ≤ now
+CleanersKeep = (now : ℕ) (q : Queue) (a : List ℕ) (past : List Own) (read : ℕ) (ready : Found) (call : CallData) (told : Told) (wrote : ℕ)
+    → Sound q → CleanerStands now q (place_after past) → read ≤ now
     → CleansNext tt past read ready ≡ needs.File call → Fits q.disk call told.answer wrote
-    → CleanerLeads controls now a q (called_queue q a read call told.answer wrote q.role) (place_after past).row (place_after (own_call read ready call told ∷ past))
+    → CleanerLeads now a q (called_queue q a read call told.answer wrote q.role) (place_after past).row (place_after (own_call read ready call told ∷ past))
 
 -- a row and the next command of a place are about other numbers than the one in m
 abbrev pub IsBeside : Option ℕ → Place → Type 0
@@ -111,11 +110,11 @@ IsBeside m p = (n : ℕ) → m ≡ Some n → (number_at p.row ≢ Some n) × (n
 -- The number at work rests on as time goes on, and by what other programs do: an injector's call spares every closed number; so does
 -- a program that is none of the queue's; and one that works at closed numbers spares all but its own.
 pub record RestIsKept : Type 0 where
-  pub later : (controls : Controls) (now m : ℕ) → now ≤ m → (q : Queue) (p : Place) → CleanerStands controls now q p → CleanerStands controls m q p
-  pub spared : (controls : Controls) (now : ℕ) (m : Option ℕ) (q r : Queue) → Spares now m q r → SparesNames q r → (p : Place) → IsBeside m p
-      → CleanerStands controls now q p → CleanerStands controls now r p
+  pub later : (now m : ℕ) → now ≤ m → (q : Queue) (p : Place) → CleanerStands now q p → CleanerStands m q p
+  pub spared : (now : ℕ) (m : Option ℕ) (q r : Queue) → Spares now m q r → SparesNames q r → (p : Place) → IsBeside m p
+      → CleanerStands now q p → CleanerStands now r p
   pub closed : (now : ℕ) (a : List ℕ) (m : Option ℕ) (q r : Queue) → Elsewhere now a m q r → NamesSuit q
       → ((n : ℕ) → m ≡ Some n → IsClosed now q n) → Spares now m q r × SparesNames q r
   pub foreign : (now : ℕ) (a : List ℕ) (q r : Queue) → Foreign a q r → NamesSuit q → Spares now None q r × SparesNames q r
-  pub halts : (controls : Controls) (now : ℕ) (q : Queue) (contents : ℕ → List ℕ) → AllSurvive q.disk contents → (p : Place)
-      → CleanerStands controls now q p → CleanerStands controls now (after_halt contents q) p
+  pub halts : (now : ℕ) (q : Queue) (contents : ℕ → List ℕ) → AllSurvive q.disk contents → (p : Place)
+      → CleanerStands now q p → CleanerStands now (after_halt contents q) p

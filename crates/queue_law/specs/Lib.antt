@@ -2,6 +2,8 @@
 pub mod Ledgers
 -- the books: injections
 pub mod Books
+-- what senders enter in ledgers
+pub mod Entered
 -- what preprocessing makes of a message
 pub mod Routes
 -- what a channel file may hold

@@ -1,6 +1,6 @@
 -- What holds of each name and of each message number of the queue.
-use Rattle.std.specs.Prelude.{◌≡◌, ◌≢◌, ℕ, ◌≤◌, List, [], Bool, true, false, Option, Some, None, option_map}
-use Rattle.address_rules.specs.declared.controls.Controls.{Controls}
+use Rattle.std.specs.Prelude.{◌≡◌, ◌≢◌, ℕ, ◌≤◌, List, Bool, true, false, Option, Some, None, option_map}
+use Rattle.address_rules.specs.Nuls.{HaveNoNul}
 use Rattle.call_fs.specs.Disk.{Disk, File, Among, IsSynced}
 use Rattle.queue_inject.specs.declared.injection.Arguments.{Arguments}
 use Rattle.queue_inject.specs.Texts.{message_text, intd_text}
@@ -11,7 +11,7 @@ use Rattle.queue_paths.specs.Parts.{in_intd, in_todo}
 use Rattle.send_known.specs.declared.channel.Channel.{Channel}
 use Rattle.queue_law.specs.Books.{Injection, Books, IsValid}
 use Rattle.queue_law.specs.Routes.{info_of, lane_part}
-use Rattle.queue_law.specs.Ledgers.{IsUnreturned}
+use Rattle.queue_law.specs.Ledgers.{IsUnreturned, IsFresh}
 use Rattle.queue_law.specs.Marks.{AllMarked, HasItsSpots, IsLaneDone, IsSettled}
 use Rattle.queue_law.specs.Notes.{NotesState}
 
@@ -116,7 +116,7 @@ pub record IsFree (w : About) : Type 0 where
   pub intd_below : w.parts Mess ≡ None → in_intd w.parts ≡ None
 
 -- its message is accepted, whole, and on the disk
-pub record IsTaken (controls : Controls) (w : About) : Type 0 where
+pub record IsTaken (w : About) : Type 0 where
   pub injection : Injection
   pub lives : w.living ≡ Some injection
   pub accepted : injection.accepted ≡ true
@@ -124,45 +124,45 @@ pub record IsTaken (controls : Controls) (w : About) : Type 0 where
   pub mess_there : w.parts Mess ≡ Some mess
   pub message : IsSynced mess.file (message_text injection.args).bytes
   pub valid : IsValid injection.args
-  pub spots : HasItsSpots controls injection
+  pub spots : HasItsSpots injection
 
 -- So it is, and its todo file, which is whole and on the disk, waits to be preprocessed. What preprocessing began may be there:
--- info, and the files of the channels, whatever they hold.
-pub record IsQueued (controls : Controls) (w : About) : Type 0 where
-  pub taken : IsTaken controls w
+-- info, and the files of the channels, whatever they hold. Nothing was reported of it: so it may be routed anew, however often that is asked.
+pub record IsQueued (w : About) : Type 0 where
+  pub taken : IsTaken w
   pub todo : Entry
   pub todo_there : in_todo w.parts ≡ Some todo
   pub text : IsSynced todo.file (intd_text taken.injection.args).bytes
   pub no_bounce : w.parts Bounce ≡ None
-  pub unnoted : taken.injection.ledger.noted ≡ []
-  pub unreturned : IsUnreturned taken.injection.ledger
+  pub fresh : IsFresh taken.injection.ledger
 
--- The file of a channel after preprocessing: it is there, and each record of it reads `T`, or `D` once its recipient was reported
--- delivered or its note was synced; or it isn't, and each recipient of the channel was. A channel without recipients has none.
-pub data LaneState (controls : Controls) (w : About) (i : Injection) (ch : Channel) : Type 0 where
-  LaneThere : (y : Entry) → w.parts (lane_part ch) ≡ Some y → AllMarked controls i ch y.file → LaneState controls w i ch
-  LaneGone : w.parts (lane_part ch) ≡ None → IsLaneDone controls i ch → LaneState controls w i ch
+-- The file of a channel after preprocessing: it is there, and each record of it reads `T`, or `D` if its recipient is done; or it isn't, and each
+-- recipient of the channel is. A channel without recipients has none.
+pub data LaneState (w : About) (i : Injection) (ch : Channel) : Type 0 where
+  LaneThere : (y : Entry) → w.parts (lane_part ch) ≡ Some y → AllMarked i ch y.file → LaneState w i ch
+  LaneGone : w.parts (lane_part ch) ≡ None → IsLaneDone i ch → LaneState w i ch
 
 -- the file of an entry
 abbrev pub file_in : Option Entry → Option File
 file_in None = None
 file_in (Some y) = Some y.file
 
--- It is preprocessed: todo is gone, and info and the channel files are those of its message; and its bounce file has the notes of it. While a
+-- It is preprocessed: todo is gone, and info and the channel files are those of its message, as it is routed; and its bounce file has the notes of it. While a
 -- channel file is there nothing is returned.
-pub record IsPreprocessed (controls : Controls) (w : About) : Type 0 where
-  pub taken : IsTaken controls w
+pub record IsPreprocessed (w : About) : Type 0 where
+  pub taken : IsTaken w
   pub no_todo : in_todo w.parts ≡ None
   pub no_intd : in_intd w.parts ≡ None
+  pub no_nul : HaveNoNul taken.injection.ledger.routes
   pub info : Entry
   pub info_there : w.parts Info ≡ Some info
   pub text : IsSynced info.file (info_of taken.injection.args)
-  pub lanes : (ch : Channel) → LaneState controls w taken.injection ch
-  pub notes : NotesState controls taken.injection (file_in (w.parts Bounce))
+  pub lanes : (ch : Channel) → LaneState w taken.injection ch
+  pub notes : NotesState taken.injection (file_in (w.parts Bounce))
   pub unsettled : (ch : Channel) → w.parts (lane_part ch) ≢ None → IsUnreturned taken.injection.ledger
 
 -- It is finished: nothing is owed of its message, whose file may still be there, and no other is.
-pub record IsFinished (controls : Controls) (w : About) : Type 0 where
+pub record IsFinished (w : About) : Type 0 where
   pub injection : Injection
   pub lives : w.living ≡ Some injection
   pub accepted : injection.accepted ≡ true
@@ -170,29 +170,29 @@ pub record IsFinished (controls : Controls) (w : About) : Type 0 where
   pub no_todo : in_todo w.parts ≡ None
   pub no_intd : in_intd w.parts ≡ None
   pub unsorted : IsUnsorted w
-  pub settled : IsSettled controls injection
+  pub settled : IsSettled injection
 
--- The phases of a number, under these control files. `mail a a@x b@y : hi`, `run a` of number 1 leads from Free to Queued: mess/1 and
+-- The phases of a number. `mail a a@x b@y : hi`, `run a` of number 1 leads from Free to Queued: mess/1 and
 -- todo/1 are there, and intd/1. A preprocessing that makes info/1, local/1 and remote/1, and then takes intd/1 and todo/1 away, leads to
--- Sorted. There each final report goes into the ledger, and of one that failed a note into bounce/1; when that is synced the ledger has it
--- too, and then comes the mark of its record. When the ledger has both recipients as delivered or noted, the channel files go; then a bounce
+-- Sorted; the ledger has by which controls. There each final report goes into the ledger, and of one that failed a note into bounce/1; when that is synced the ledger has it
+-- too, and then comes the mark of its record, which it has before. When the ledger has both recipients as marked, the channel files go; then a bounce
 -- is injected, which the ledger tells, and bounce/1 goes; then info/1, which leads to Finished, then mess/1. A new injection of number 1 leads
 -- to Free.
-pub data Phase (controls : Controls) (w : About) : Type 0 where
-  Free : IsFree w → Phase controls w
-  Queued : IsQueued controls w → Phase controls w
-  Sorted : IsPreprocessed controls w → Phase controls w
-  Finished : IsFinished controls w → Phase controls w
+pub data Phase (w : About) : Type 0 where
+  Free : IsFree w → Phase w
+  Queued : IsQueued w → Phase w
+  Sorted : IsPreprocessed w → Phase w
+  Finished : IsFinished w → Phase w
 
 -- of an accepted injection whose life is over nothing is owed
-abbrev pub NoneLost : Controls → Books → Type 0
-NoneLost controls b = (i : Injection) → Among i b.over → i.accepted ≡ true → IsSettled controls i
+abbrev pub NoneLost : Books → Type 0
+NoneLost b = (i : Injection) → Among i b.over → i.accepted ≡ true → IsSettled i
 
 -- what holds of the names, of the numbers and of the books
-pub record Sound (controls : Controls) (q : Queue) : Type 0 where
+pub record Sound (q : Queue) : Type 0 where
   pub suits : NamesSuit q
-  pub fine : (n : ℕ) → Phase controls (about q n)
-  pub over : NoneLost controls q.books
+  pub fine : (n : ℕ) → Phase (about q n)
+  pub over : NoneLost q.books
 
 -- No number was preprocessed yet: no file that comes with it is there, each message that is accepted stands in todo, and no accepted
 -- injection's life is over.

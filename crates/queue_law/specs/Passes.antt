@@ -1,6 +1,7 @@
 -- What a todo pass rests on at each row of its table, what a call of it leaves, and what it has made when it gives its command.
 use Rattle.std.specs.Prelude.{◌≡◌, ◌≢◌, ℕ, ◌≤◌, List, ◌∷◌, Option, Some}
 use Rattle.address_rules.specs.declared.controls.Controls.{Controls}
+use Rattle.address_rules.specs.Nuls.{HaveNoNul}
 use Rattle.call_fs.specs.declared.calls.CallData.{CallData}
 use Rattle.call_fs.specs.declared.calls.Told.{Told}
 use Rattle.call_fs.specs.declared.program.Ready.{Ready as Found}
@@ -21,10 +22,11 @@ use Rattle.todo_pass.specs.Table.{place_after as pass_after, Next as PassesNext}
 use Rattle.queue_law.specs.Books.{own_call}
 use Rattle.queue_law.specs.Numbers.{Role, Queue, Entry, look, about, IsQueued, Sound}
 use Rattle.queue_law.specs.Injectors.{IsHeld, IsOpen}
-use Rattle.queue_law.specs.Ready.{IsReady}
+use Rattle.queue_law.specs.Ledgers.Line.{Routes}
+use Rattle.queue_law.specs.Ready.{AreMade, IsReady}
 use Rattle.queue_law.specs.Rests.{RestsAs, Spares}
 use Rattle.queue_law.specs.Steps.{Elsewhere}
-use Rattle.queue_law.specs.Senders.{LeadsOn, called_queue}
+use Rattle.queue_law.specs.Senders.{LeadsOn, called_queue, entered_queue}
 
 -- the part of the message that a file is
 abbrev pub file_part : Target → Part
@@ -54,36 +56,45 @@ HoldsAt q a n row = Unit {0}
 
 -- What a pass of number n relies on at a row: until the cleaner has its command, that the number rests and is queued; and what it holds
 -- open.
-pub record PassStands (controls : Controls) (now : ℕ) (q : Queue) (a : List ℕ) (n : ℕ) (row : Row) : Type 0 where
-  pub rests : HoldsTodo row → RestsAs now q n (IsQueued controls)
+pub record PassStands (now : ℕ) (q : Queue) (a : List ℕ) (n : ℕ) (row : Row) : Type 0 where
+  pub rests : HoldsTodo row → RestsAs now q n IsQueued
   pub holds : HoldsAt q a n row
 
 -- What a call of a pass leads to: what holds of the queue holds then too; of all but its number nothing changed; and the next row has what
 -- it relies on.
-pub record PassLeads (controls : Controls) (now : ℕ) (a : List ℕ) (q r : Queue) (n : ℕ) (next : Row) : Type 0 where
-  pub leads : LeadsOn controls now a (Some n) q r
-  pub stands : PassStands controls now r a n next
+pub record PassLeads (now : ℕ) (a : List ℕ) (q r : Queue) (n : ℕ) (next : Row) : Type 0 where
+  pub leads : LeadsOn now a (Some n) q r
+  pub stands : PassStands now r a n next
 
 -- The laws
 
 -- a file call of a pass that is due keeps what holds of the queue, if its number rests
 abbrev pub PassesKeep : Type 0
 PassesKeep = (controls : Controls) (now : ℕ) (q : Queue) (a : List ℕ) (n : ℕ) (past : List Own) (read : ℕ) (ready : Found) (call : CallData) (told : Told) (wrote : ℕ)
-    → Sound controls q → PassStands controls now q a n (pass_after controls n past).row
+    → Sound q → PassStands now q a n (pass_after controls n past).row
     → PassesNext (record { n = n; controls = controls }) past read ready ≡ needs.File call → Fits q.disk call told.answer wrote
-    → (role : ℕ → Role) × PassLeads controls now a q (called_queue q a read call told.answer wrote role) n (pass_after controls n (own_call read ready call told ∷ past)).row
+    → (role : ℕ → Role) × PassLeads now a q (called_queue q a read call told.answer wrote role) n (pass_after controls n (own_call read ready call told ∷ past)).row
 
--- When a pass gives its command, all is made: info and the channel files are whole, on the disk, and those of the message.
+-- When a pass gives its command, all is made: info and the channel files are whole, on the disk, and those of the message, as its controls route it.
 abbrev pub PassesMake : Type 0
 PassesMake = (controls : Controls) (n : ℕ) (past : List Own) (first : Disk) (q : Queue) → IsRun controls n past → LeadsTo controls n first past q.disk
-    → (pass_after controls n past).row ≡ at.Give → IsQueued controls (about q n) → IsReady controls (about q n)
+    → (pass_after controls n past).row ≡ at.Give → (h : IsQueued (about q n)) → AreMade controls h.taken.injection.args (about q n)
+
+-- Whatever comes of the giving, the ledger has those controls from then on, and so the number rests as the command needs.
+pub record GivesCommand (routes : Controls) (now : ℕ) (q : Queue) (a : List ℕ) (n : ℕ) : Type 0 where
+  pub leads : LeadsOn now a (Some n) q (entered_queue q n (Routes routes))
+  pub ready : RestsAs now (entered_queue q n (Routes routes)) n IsReady
+
+abbrev pub PassesGive : Type 0
+PassesGive = (routes : Controls) (now : ℕ) (q : Queue) (a : List ℕ) (n : ℕ) → HaveNoNul routes → Sound q → (rests : RestsAs now q n IsQueued)
+    → AreMade routes rests.rest.taken.injection.args (about q n) → GivesCommand routes now q a n
 
 -- A step of another actor that leaves all that concerns the number as it was leaves alone what a pass holds. A step that spares the number
 -- leaves what the pass relies on, and so does time.
 pub record PassIsLeftAlone : Type 0 where
   pub alone : (now : ℕ) (a o : List ℕ) (m : Option ℕ) (q r : Queue) → Elsewhere now o m q r → a ≢ o → (n : ℕ) (row : Row) → HoldsAt q a n row
       → about r n ≡ about q n → LeaveAlone n row q.disk r.disk
-  pub stands : (controls : Controls) (now : ℕ) (a o : List ℕ) (m k : Option ℕ) (q r : Queue) → Elsewhere now o m q r → a ≢ o → Spares now k q r
-      → (n : ℕ) → k ≢ Some n → (row : Row) → PassStands controls now q a n row → PassStands controls now r a n row
-  pub later : (controls : Controls) (now m : ℕ) → now ≤ m → (q : Queue) (a : List ℕ) (n : ℕ) (row : Row)
-      → PassStands controls now q a n row → PassStands controls m q a n row
+  pub stands : (now : ℕ) (a o : List ℕ) (m k : Option ℕ) (q r : Queue) → Elsewhere now o m q r → a ≢ o → Spares now k q r
+      → (n : ℕ) → k ≢ Some n → (row : Row) → PassStands now q a n row → PassStands now r a n row
+  pub later : (now m : ℕ) → now ≤ m → (q : Queue) (a : List ℕ) (n : ℕ) (row : Row)
+      → PassStands now q a n row → PassStands m q a n row

@@ -1,7 +1,6 @@
 -- What a sender does to the queue: it reads, marks records, takes channel files and info away, and enters what was reported and returned.
 -- What it does to bounce files stands in Bouncing.antt.
 use Rattle.std.specs.Prelude.{◌≡◌, ◌≢◌, ◌⊎◌, ℕ, List, [], ◌∷◌, length, true, Option, Some, None, slice_get}
-use Rattle.address_rules.specs.declared.controls.Controls.{Controls}
 use Rattle.call_fs.specs.declared.calls.CallData.{CallData}
 use Rattle.call_fs.specs.declared.calls.CallData.TheVariants.{Open, ReadAt, WriteAt, Close, Unlink, Stat, NextName}
 use Rattle.call_fs.specs.declared.calls.Answer.{Answer}
@@ -17,11 +16,11 @@ use Rattle.queue_paths.specs.Names.Name.{Of}
 use Rattle.queue_paths.specs.Names.Part.{Mess, Info, Bounce}
 use Rattle.queue_paths.specs.Parts.{in_todo}
 use Rattle.send_known.specs.declared.channel.Channel.{Channel}
-use Rattle.queue_law.specs.Ledgers.{Bounced, Ledger, Line}
-use Rattle.queue_law.specs.Ledgers.Line.{Delivers, Drops, Fails, Notes, Reads, Returns}
-use Rattle.queue_law.specs.Books.{Injection, entered_in, held_by}
-use Rattle.queue_law.specs.Routes.{Recipient, spot_of, IsSpot, lane_part}
-use Rattle.queue_law.specs.Marks.{IsDone}
+use Rattle.queue_law.specs.Ledgers.{Bounced, Ledger, Line, Named}
+use Rattle.queue_law.specs.Ledgers.Line.{Delivers, Drops, Fails, Marks, Notes, Reads, Returns, Routes}
+use Rattle.queue_law.specs.Books.{Injection, entered_in, held_by, spot_in}
+use Rattle.queue_law.specs.Routes.{Recipient, IsSpot, lane_part}
+use Rattle.queue_law.specs.Marks.{IsDone, MayBeMarked}
 use Rattle.queue_law.specs.Numbers.{Role, Queue, Entry, look, About, about, Sound}
 use Rattle.queue_law.specs.Injectors.{IsHeld}
 use Rattle.queue_law.specs.Steps.{Elsewhere, LeavesOld, Outside}
@@ -36,8 +35,8 @@ called_queue q a read call answer wrote role = record {
 }
 
 -- What a step of a, from q to r, leads to: what holds of the queue holds then too, and of all but the number in m nothing changed.
-pub record LeadsOn (controls : Controls) (now : ℕ) (a : List ℕ) (m : Option ℕ) (q r : Queue) : Type 0 where
-  pub sound : Sound controls r
+pub record LeadsOn (now : ℕ) (a : List ℕ) (m : Option ℕ) (q r : Queue) : Type 0 where
+  pub sound : Sound r
   pub elsewhere : Elsewhere now a m q r
   pub outside : Outside q.disk r.disk
   pub old : LeavesOld q r
@@ -59,19 +58,19 @@ pub record HasLane (w : About) (ch : Channel) : Type 0 where
   pub injection : Injection
   pub lives : w.living ≡ Some injection
 
--- The record at this place may be marked: its recipient was reported delivered, or its note is synced. The descriptor is the actor's own,
--- opened for this on the channel file.
-pub record MayMark (q : Queue) (a : List ℕ) (n : ℕ) (ch : Channel) (fd place : ℕ) : Type 0 where
-  pub lane : HasLane (about q n) ch
+-- The record of a recipient may be marked: it was reported delivered, or its note is synced under the name that it has by these controls. The
+-- descriptor is the actor's own, opened for this on the channel file.
+pub record MayMark (q : Queue) (a : List ℕ) (n fd : ℕ) (it : Named) : Type 0 where
+  pub lane : HasLane (about q n) it.spot.channel
   pub opened : IsHeld q.disk.opens q.holder a fd (record { number = lane.file.number; mode = Mode.Opened Write })
-  pub done : IsDone lane.injection.ledger ch place
+  pub may : MayBeMarked lane.injection.ledger it
 
--- The channel file may go: each of its records reads `D`, or its recipient was reported delivered or is noted.
-pub record MayDrop (controls : Controls) (w : About) (ch : Channel) : Type 0 where
+-- The channel file may go: each of its records reads `D`, or its recipient is done.
+pub record MayDrop (w : About) (ch : Channel) : Type 0 where
   pub lane : HasLane w ch
-  pub each : (r : Recipient lane.injection.args) → (spot_of controls lane.injection.args r).channel ≡ ch
-      → (slice_get lane.file.file.bytes (spot_of controls lane.injection.args r).place ≡ Some 68)
-      ⊎ IsDone lane.injection.ledger ch (spot_of controls lane.injection.args r).place
+  pub each : (r : Recipient lane.injection.args) → (spot_in lane.injection r).channel ≡ ch
+      → (slice_get lane.file.file.bytes (spot_in lane.injection r).place ≡ Some 68)
+      ⊎ IsDone lane.injection.ledger ch (spot_in lane.injection r).place
 
 -- The info file may go: the number is preprocessed, and its channel files are gone, and so is its bounce file.
 pub record MayEnd (w : About) : Type 0 where
@@ -85,59 +84,65 @@ pub record MayEnd (w : About) : Type 0 where
 pub record MayReturn (w : About) (l : Ledger) (b : Bounced) : Type 0 where
   pub no_todo : in_todo w.parts ≡ None
   pub gone : (ch : Channel) → w.parts (lane_part ch) ≡ None
-  pub read : Among b.notes l.reads
+  pub read : Among b.read l.reads
 
--- what a line needs that comes without a change of a file
-abbrev pub LineFits : Controls → About → Injection → Line → Type 0
-LineFits controls w i (Delivers s) = IsSpot controls i.args s
-LineFits controls w i (Fails s) = IsSpot controls i.args s
-LineFits controls w i (Notes s) = ⊥
-LineFits controls w i (Reads bytes) = Unit {0}
-LineFits controls w i (Returns b) = MayReturn w i.ledger b
-LineFits controls w i Drops = ⊥
+-- What a line needs that comes without a change of a file. A message is routed while it is queued, and nothing else is entered of it then.
+abbrev pub LineFits : About → Injection → Line → Type 0
+LineFits w i (Routes by) = in_todo w.parts ≢ None
+LineFits w i (Delivers s) = (in_todo w.parts ≡ None) × IsSpot i.ledger.routes i.args s
+LineFits w i (Fails s) = (in_todo w.parts ≡ None) × IsSpot i.ledger.routes i.args s
+LineFits w i (Notes it) = ⊥
+LineFits w i (Marks it) = (in_todo w.parts ≡ None) × MayBeMarked i.ledger it
+LineFits w i (Reads it) = in_todo w.parts ≡ None
+LineFits w i (Returns b) = MayReturn w i.ledger b
+LineFits w i Drops = ⊥
 
 -- this line may be entered: the message is accepted, and its file is there
-pub record MayEnter (controls : Controls) (w : About) (line : Line) : Type 0 where
+pub record MayEnter (w : About) (line : Line) : Type 0 where
   pub mess : Entry
   pub there : w.parts Mess ≡ Some mess
   pub injection : Injection
   pub lives : w.living ≡ Some injection
   pub accepted : injection.accepted ≡ true
-  pub fits : LineFits controls w injection line
+  pub fits : LineFits w injection line
 
 -- the queue when a line is entered for a number's message
 abbrev pub entered_queue : Queue → ℕ → Line → Queue
 entered_queue q n line = record { disk = q.disk; holder = q.holder; books = entered_in q.books n line; role = q.role }
 
+-- the queue when a mark is written over a record: the ledger has it whatever the answer, since a write that failed may have written its byte
+abbrev pub marked_queue : Queue → List ℕ → (read n : ℕ) → Fd → Named → Answer → (wrote : ℕ) → Queue
+marked_queue q a read n fd it answer wrote = entered_queue (called_queue q a read (WriteAt fd it.spot.place (68 ∷ [])) answer wrote q.role) n (Marks it)
+
 -- The laws. Each is of any answer that may come: of a fault too, and of a write that was cut off.
 
 -- reading what is there changes nothing that concerns a number
 abbrev pub ReadsKeep : Type 0
-ReadsKeep = (controls : Controls) (now : ℕ) (q : Queue) (a : List ℕ) (read : ℕ) (call : CallData) (answer : Answer) (wrote : ℕ)
-    → Sound controls q → OnlyReads q a call → Fits q.disk call answer wrote
-    → LeadsOn controls now a None q (called_queue q a read call answer wrote q.role)
+ReadsKeep = (now : ℕ) (q : Queue) (a : List ℕ) (read : ℕ) (call : CallData) (answer : Answer) (wrote : ℕ)
+    → Sound q → OnlyReads q a call → Fits q.disk call answer wrote
+    → LeadsOn now a None q (called_queue q a read call answer wrote q.role)
 
 -- so does a mark, of all but its number
 abbrev pub MarksKeep : Type 0
-MarksKeep = (controls : Controls) (now : ℕ) (q : Queue) (a : List ℕ) (read n : ℕ) (ch : Channel) (fd : Fd) (place : ℕ) (answer : Answer) (wrote : ℕ)
-    → Sound controls q → MayMark q a n ch fd.0 place → Fits q.disk (WriteAt fd place (68 ∷ [])) answer wrote
-    → LeadsOn controls now a (Some n) q (called_queue q a read (WriteAt fd place (68 ∷ [])) answer wrote q.role)
+MarksKeep = (now : ℕ) (q : Queue) (a : List ℕ) (read n : ℕ) (fd : Fd) (it : Named) (answer : Answer) (wrote : ℕ)
+    → Sound q → MayMark q a n fd.0 it → Fits q.disk (WriteAt fd it.spot.place (68 ∷ [])) answer wrote
+    → LeadsOn now a (Some n) q (marked_queue q a read n fd it answer wrote)
 
 -- and the unlink of a channel file of which all is done, and of the info file after both and the bounce file
 abbrev pub DropsKeep : Type 0
-DropsKeep = (controls : Controls) (now : ℕ) (q : Queue) (a : List ℕ) (read n : ℕ) (ch : Channel) (answer : Answer) (wrote : ℕ)
-    → Sound controls q → MayDrop controls (about q n) ch → Fits q.disk (Unlink (path (Of (lane_part ch) n))) answer wrote
-    → LeadsOn controls now a (Some n) q (called_queue q a read (Unlink (path (Of (lane_part ch) n))) answer wrote q.role)
+DropsKeep = (now : ℕ) (q : Queue) (a : List ℕ) (read n : ℕ) (ch : Channel) (answer : Answer) (wrote : ℕ)
+    → Sound q → MayDrop (about q n) ch → Fits q.disk (Unlink (path (Of (lane_part ch) n))) answer wrote
+    → LeadsOn now a (Some n) q (called_queue q a read (Unlink (path (Of (lane_part ch) n))) answer wrote q.role)
 
 abbrev pub EndsKeep : Type 0
-EndsKeep = (controls : Controls) (now : ℕ) (q : Queue) (a : List ℕ) (read n : ℕ) (answer : Answer) (wrote : ℕ)
-    → Sound controls q → MayEnd (about q n) → Fits q.disk (Unlink (path (Of Info n))) answer wrote
-    → LeadsOn controls now a (Some n) q (called_queue q a read (Unlink (path (Of Info n))) answer wrote q.role)
+EndsKeep = (now : ℕ) (q : Queue) (a : List ℕ) (read n : ℕ) (answer : Answer) (wrote : ℕ)
+    → Sound q → MayEnd (about q n) → Fits q.disk (Unlink (path (Of Info n))) answer wrote
+    → LeadsOn now a (Some n) q (called_queue q a read (Unlink (path (Of Info n))) answer wrote q.role)
 
 -- and what is entered when a report is taken that is final, when the bounce file was read, and when a bounce was accepted
 abbrev pub EntriesKeep : Type 0
-EntriesKeep = (controls : Controls) (now : ℕ) (q : Queue) (a : List ℕ) (n : ℕ) (line : Line) → Sound controls q → MayEnter controls (about q n) line
-    → LeadsOn controls now a (Some n) q (entered_queue q n line)
+EntriesKeep = (now : ℕ) (q : Queue) (a : List ℕ) (n : ℕ) (line : Line) → Sound q → MayEnter (about q n) line
+    → LeadsOn now a (Some n) q (entered_queue q n line)
 
 -- What an actor holds open after a call that only reads: what it opened, and what it held and didn't close.
 pub record OpensKeep : Type 0 where
@@ -159,9 +164,9 @@ pub record MarksOne (q r : Queue) (n : ℕ) (ch : Channel) (file : Entry) (place
   pub reads : answer ≡ Done → slice_get marked.bytes place ≡ Some 68
 
 abbrev pub MarksChangeOne : Type 0
-MarksChangeOne = (controls : Controls) (q : Queue) (a : List ℕ) (read n : ℕ) (ch : Channel) (fd : Fd) (place : ℕ) (answer : Answer) (wrote : ℕ)
-    → Sound controls q → (may : MayMark q a n ch fd.0 place) → Fits q.disk (WriteAt fd place (68 ∷ [])) answer wrote
-    → MarksOne q (called_queue q a read (WriteAt fd place (68 ∷ [])) answer wrote q.role) n ch may.lane.file place answer
+MarksChangeOne = (q : Queue) (a : List ℕ) (read n : ℕ) (fd : Fd) (it : Named) (answer : Answer) (wrote : ℕ)
+    → Sound q → (may : MayMark q a n fd.0 it) → Fits q.disk (WriteAt fd it.spot.place (68 ∷ [])) answer wrote
+    → MarksOne q (marked_queue q a read n fd it answer wrote) n it.spot.channel may.lane.file it.spot.place answer
 
 -- An unlink takes one name away, if its answer is Ok, and changes no other.
 pub record UnlinksOne (q r : Queue) (x : Name) (answer : Answer) : Type 0 where

@@ -1,6 +1,5 @@
 -- What a step leaves: of the queue, of all that isn't the queue's, and of other injectors.
 use Rattle.std.specs.Prelude.{◌≡◌, ◌≢◌, ◌⊎◌, ℕ, ◌+◌, ◌≤◌, List, ◌∷◌, Bool, true, false, Option, Some, None}
-use Rattle.address_rules.specs.declared.controls.Controls.{Controls}
 use Rattle.call_fs.specs.declared.calls.CallData.{CallData}
 use Rattle.call_fs.specs.declared.calls.Answer.{Answer}
 use Rattle.call_fs.specs.declared.calls.Told.{Told}
@@ -97,11 +96,11 @@ queue_after q a args read call answer wrote role = record {
 }
 
 -- what its call leads to
-pub record InjectorCalls (controls : Controls) (now : ℕ) (q : Queue) (a : List ℕ) (args : Arguments) (past : List Own) (read : ℕ) (ready : Found) (call : CallData) (told : Told) (wrote : ℕ) : Type 0 where
+pub record InjectorCalls (now : ℕ) (q : Queue) (a : List ℕ) (args : Arguments) (past : List Own) (read : ℕ) (ready : Found) (call : CallData) (told : Told) (wrote : ℕ) : Type 0 where
   pub role : ℕ → Role
   pub number : Option ℕ
   pub elsewhere : Elsewhere now a number q (queue_after q a args read call told.answer wrote role)
-  pub sound : Sound controls (queue_after q a args read call told.answer wrote role)
+  pub sound : Sound (queue_after q a args read call told.answer wrote role)
   pub fares : InjectorFares now (queue_after q a args read call told.answer wrote role) a args (own_call read ready call told ∷ past) true false
   pub outside : Outside q.disk (queue_after q a args read call told.answer wrote role).disk
   pub old : LeavesOld q (queue_after q a args read call told.answer wrote role)
@@ -123,14 +122,14 @@ after_halt contents q = record { disk = halted contents q.disk; holder = λ _. N
 
 -- a call of an injector that is due keeps what holds of the queue and of it, and leaves all else
 abbrev pub CallsKeep : Type 0
-CallsKeep = (controls : Controls) (now : ℕ) (q : Queue) (a : List ℕ) (args : Arguments) (past : List Own) (read : ℕ) (ready : Found) (call : CallData) (told : Told) (wrote : ℕ)
-    → Sound controls q → InjectorFares now q a args past true false → last_read args.start past ≤ read → now ≤ read + LONGEST_STALL
+CallsKeep = (now : ℕ) (q : Queue) (a : List ℕ) (args : Arguments) (past : List Own) (read : ℕ) (ready : Found) (call : CallData) (told : Told) (wrote : ℕ)
+    → Sound q → InjectorFares now q a args past true false → last_read args.start past ≤ read → now ≤ read + LONGEST_STALL
     → Next args past read ready ≡ needs.File call → Fits q.disk call told.answer wrote
-    → InjectorCalls controls now q a args past read ready call told wrote
+    → InjectorCalls now q a args past read ready call told wrote
 
 -- a step of a program that is none of the queue's keeps what holds of the queue, and leaves all that concerns each number
 pub record ForeignersKeep : Type 0 where
-  pub sound : (controls : Controls) (a : List ℕ) (q r : Queue) → Foreign a q r → Sound controls q → Sound controls r
+  pub sound : (a : List ℕ) (q r : Queue) → Foreign a q r → Sound q → Sound r
   pub elsewhere : (now : ℕ) (a : List ℕ) (q r : Queue) → Foreign a q r → Elsewhere now a None q r
   pub abouts : (a : List ℕ) (q r : Queue) → Foreign a q r → (n : ℕ) → about r n ≡ about q n
   pub early : (a : List ℕ) (q r : Queue) → Foreign a q r → IsEarly q → IsEarly r
@@ -143,7 +142,7 @@ OthersKeep = (now : ℕ) (a : List ℕ) (m : Option ℕ) (q r : Queue) → Elsew
 -- A machine stop keeps what holds of the queue, and stops each injector that lives. A record that was marked since the last sync of
 -- its file may read `T` again; what is gone stays gone, and ledgers stay.
 pub record HaltsKeep : Type 0 where
-  pub sound : (controls : Controls) (q : Queue) (contents : ℕ → List ℕ) → AllSurvive q.disk contents → Sound controls q → Sound controls (after_halt contents q)
+  pub sound : (q : Queue) (contents : ℕ → List ℕ) → AllSurvive q.disk contents → Sound q → Sound (after_halt contents q)
   pub early : (q : Queue) (contents : ℕ → List ℕ) → IsEarly q → IsEarly (after_halt contents q)
   pub fares : (now : ℕ) (q : Queue) (contents : ℕ → List ℕ) (a : List ℕ) (args : Arguments) (past : List Own) (lives ended : Bool)
       → InjectorFares now q a args past lives ended → InjectorFares now (after_halt contents q) a args past false ended

@@ -3,7 +3,7 @@ ghost use Rattle.queue_law.specs.Steps.{CallsKeep, OthersKeep, ForeignersKeep, H
 ghost use Rattle.queue_law.specs.Begins.{RestsBegin};
 ghost use Rattle.queue_law.specs.Bouncing.{BouncesBegin, BouncesCover, BouncesDrop, BouncesGo, BouncesGrow, ClosesEnter, NotesSync};
 ghost use Rattle.queue_law.specs.Cleaners.{CleanersKeep, RestIsKept};
-ghost use Rattle.queue_law.specs.Passes.{PassesKeep, PassesMake, PassIsLeftAlone};
+ghost use Rattle.queue_law.specs.Passes.{PassesGive, PassesKeep, PassesMake, PassIsLeftAlone};
 ghost use Rattle.queue_law.specs.Accounts.{AllAccounted, RecipientsAreNumbered, RecordsAreOfRecipients};
 ghost use Rattle.queue_law.specs.Claims.{SoundIsSafe};
 ghost use Rattle.queue_law.specs.Notes.{NotesAccount, NotesStay};
@@ -50,13 +50,13 @@ pub fn reads_keep()
     ensures { ReadsKeep }
 {}
 
-/// A mark of a record whose recipient was reported delivered, or whose note is synced, keeps what holds of the queue, and changes its own
-/// number alone. So does one that fails, however much of it was written.
+/// A mark of a record whose recipient was reported delivered, or whose note is synced under the name that it has by the sender's controls, keeps
+/// what holds of the queue, and changes its own number alone. So does one that fails, however much of it was written. The ledger has it either way.
 pub fn marks_keep()
     ensures { MarksKeep }
 {}
 
-/// So does the unlink of a channel file all of whose recipients were reported delivered, are noted, or read `D`.
+/// So does the unlink of a channel file all of whose recipients are done, or read `D`.
 pub fn drops_keep()
     ensures { DropsKeep }
 {}
@@ -99,9 +99,14 @@ pub fn passes_keep()
     ensures { PassesKeep }
 {}
 
-/// When a todo pass gives its command, info and the channel files are whole, on the disk, and those of the message.
+/// When a todo pass gives its command, info and the channel files are whole, on the disk, and those of the message, as its controls route it.
 pub fn passes_make()
     ensures { PassesMake }
+{}
+
+/// Whatever comes of the giving, the message is routed by those controls from then on, and its number rests as the command needs.
+pub fn passes_give()
+    ensures { PassesGive }
 {}
 
 /// What a todo pass relies on stays as time goes on, and by what other programs do.

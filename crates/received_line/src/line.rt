@@ -12,7 +12,7 @@ use mail_bytes::Memory;
 use std::alloc::Global;
 
 /// By whom an injector was invoked, or for what.
-#[derive(Clone, Copy, Debug, PartialEq, Eq)]
+#[derive(Clone, Copy, PartialEq, Eq)]
 pub enum Invoked {
     /// By this user.
     Uid(u32),

@@ -14,7 +14,7 @@ use Rattle.script_traces.specs.declared.fates.RecipientFate.TheVariants.{Pending
 use Rattle.world_events.specs.declared.books.Entry.{Entry}
 use Rattle.mail_world.specs.Books.{books_in, entry_in, mails_of}
 use Rattle.mail_world.specs.History.{Event, after}
-use Rattle.scenario.specs.Shown.{View, accepted_fates, failed_fate, fate_of, fates_of, is_queued, lasting, sorted_fates, view_of}
+use Rattle.scenario.specs.Shown.{View, accepted_fates, failed_fate, fate_of, fates_of, is_queued, lasting, routes_by, sorted_fates, view_of}
 use Rattle.scenario.specs.Summed.{all_fates, counted_recipients, mail_fates}
 
 -- each address has one route
@@ -41,8 +41,8 @@ module _ (v : View) (e : Entry) (envelope : List ℕ) (own : e.recipients ≡ le
       ∙ sym own
 
   accepted_length : length (accepted_fates v e envelope) ≡ e.recipients
-  accepted_length = as_long (is_queued v.disk (lasting v.books e.actor e.number)) (replicate e.recipients Pending) (sorted_fates v e v.controls envelope) e.recipients
-      (length-replicate e.recipients Pending) (sorted_length v.controls)
+  accepted_length = as_long (is_queued v.disk (lasting v.books e.actor e.number)) (replicate e.recipients Pending) (sorted_fates v e (routes_by v.books e.actor e.number) envelope) e.recipients
+      (length-replicate e.recipients Pending) (sorted_length (routes_by v.books e.actor e.number))
 
   fates_length : length (fates_of v e envelope) ≡ counted_recipients e
   fates_length = if_accepted e.accepted (accepted_fates v e envelope) e.recipients accepted_length

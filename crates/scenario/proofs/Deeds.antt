@@ -18,12 +18,13 @@ use Rattle.world_events.specs.declared.event.Program.{Program}
 use Rattle.world_events.specs.declared.event.Program.TheVariants.{Injector, Delivery}
 use Rattle.mail_world.specs.ByKind.{IsMail}
 use Rattle.mail_world.specs.Generations.{started_in as kept_started, starts_of as kept_starts}
-use Rattle.mail_world.specs.History.{Event, started_by}
+use Rattle.mail_world.specs.History.{Event}
 use Rattle.mail_world.specs.History.Event.{Start, Act, Child, Generation, Report, End, Stop, Moment, Halt}
 use Rattle.mail_world.specs.Wired.{AreWholeGivings, IsWholeGiving}
 use Rattle.mail_world.specs.World.{Seen, Tells, GoesOn, IsBefore, IsHistory, begun_with, next_pid as kept_pid, pid_after}
 use Rattle.mail_world.proofs.Histories.{began_told}
 use Rattle.mail_world.proofs.Known.{IsPlain, inputs_push, inputs_fed}
+use Rattle.mail_world.proofs.Lives.{starts_alike}
 use Rattle.mail_world.proofs.Piped.{whole_push}
 use Rattle.scenario.specs.Deeds.{Deed, TellsDeed, event_in, history_of, started, next_pid, bears_such, is_bounce_birth, is_delivery_birth, counts_in}
 use Rattle.scenario.specs.Deeds.Deed.{Came, Fed}
@@ -265,19 +266,8 @@ module _ (f : Kept → ℕ) (g : Deed → ℕ) (each : (k : Kept) (x : Deed) →
   pub sums_told : (events : List Kept) (h : List Deed) → AllZip TellsDeed (reverse events) h → sum_by f events ≡ sum_by g h
   sums_told events h told = sym (sum_turned f events) ∙ sums (reverse events) h told
 
-event_starts : (k : Kept) (e : Event) → Tells k e → starts_in k ≡ started_by e
-event_starts k (Start a program) told = ap starts_in told
-event_starts k (Act a own w) told = ap starts_in told
-event_starts k (Child parent own a program) told = ap starts_in told
-event_starts k (Generation crew) told = ap starts_in told.1
-event_starts k (Report slot output) told = ap starts_in told.2
-event_starts k (End a read ready status) told = ap starts_in told
-event_starts k (Stop a) told = ap starts_in told
-event_starts k (Moment m) told = ap starts_in told
-event_starts k (Halt how contents) told = ap starts_in told
-
 same_count : (k : Kept) (x : Deed) → TellsDeed k x → starts_in k ≡ started x
-same_count k (Came e) told = event_starts k e told
+same_count k (Came e) told = starts_alike k e told
 same_count k (Fed a own c message envelope) told = ap starts_in told
 
 pub starts_told : (events : List Kept) (h : List Deed) → AllZip TellsDeed (reverse events) h → sum_by starts_in events ≡ sum_by started h

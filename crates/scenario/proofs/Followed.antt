@@ -17,7 +17,8 @@ use Rattle.call_fs.specs.Past.{IsRunBy}
 use Rattle.call_fs.specs.Program.{MayCome}
 use Rattle.mail_bytes.specs.Moments.{IsMoment}
 use Rattle.queue_inject.specs.declared.injection.Arguments.{Arguments}
-use Rattle.queue_law.specs.Books.{Books, Child as Bouncer}
+use Rattle.queue_law.specs.Books.{Books}
+use Rattle.queue_law.specs.Entered.{Child as Bouncer}
 use Rattle.actor_names.specs.MailNames.{members}
 use Rattle.send_core.specs.Stands.{Machine, Stands}
 use Rattle.send_core.specs.Table.{Next}
@@ -335,6 +336,7 @@ heard_is : (child : Option Bouncer) (b : Books) (a : List ℕ) (start : ℕ) (pa
     → heard_after child b past read ready due came ≡ books_after child b a (Sender start) past read ready due came
 heard_is child b a start past read ready (needs.File c) (got.Answered told) = refl
 heard_is child b a start past read ready (needs.Take p) came = refl
+heard_is child b a start past read ready (needs.Give p bytes) came = refl
 heard_is child b a start past read ready due came = refl
 
 sender_at : (o : Option Actor) (m : Machine) → IsHeard (Some m) o → (x : Actor) × (o ≡ Some x) × (start : ℕ) × (x.program ≡ Sender start) × Stands m None x.past × IsRunBy (Next None) x.past
@@ -407,6 +409,8 @@ quiet_books : (child : Option Bouncer) (b : Books) (a : List ℕ) (program : Pro
 quiet_books child b a (Injector args) past read ready due came runs sends = absurd (runs tt)
 quiet_books child b a (Sender start) past read ready due came runs sends = absurd (sends tt)
 quiet_books child b a other past read ready (needs.File c) (got.Answered told) runs sends = refl
+quiet_books child b a other past read ready (needs.Take p) came runs sends = refl
+quiet_books child b a other past read ready (needs.Give p bytes) came runs sends = refl
 quiet_books child b a other past read ready due came runs sends = refl
 
 follows_quiet : (f : Following) (s : State) (a : List ℕ) (own : Own) (wrote : ℕ) → a ≢ codes "sender" → ((x : Actor) → s.actors a ≡ Some x → IsMail x.program → ⊥)

@@ -3,7 +3,6 @@ use Rattle.std.proofs.Common.{◌≡◌, ℕ, List, [], ◌∷◌, ◌++◌, All
 use Rattle.std.proofs.lemmas.List.Elements.{All-append, All-cons, All-map, All-nil, All-weaker}
 use Rattle.std.specs.Prelude.{flat_map, codes, if◌then◌else◌}
 use Rattle.std.specs.List.{AllByRecursion, zip}
-use Rattle.address_rules.specs.declared.controls.Controls.{Controls}
 use Rattle.call_fs.specs.declared.calls.Answer.{Answer}
 use Rattle.call_fs.specs.declared.calls.Answer.TheVariants.{Done}
 use Rattle.call_fs.specs.declared.calls.CallData.{CallData}
@@ -15,7 +14,6 @@ use Rattle.call_fs.specs.declared.past.NeedData.TheVariants.{File}
 use Rattle.call_fs.specs.declared.past.Own.{Own}
 use Rattle.call_fs.specs.Disk.{Disk}
 use Rattle.mem_fs.specs.MemDisk.{disk_of}
-use Rattle.script_disks.specs.Controls.{controls_on}
 use Rattle.queue_inject.specs.declared.injection.Arguments.{Arguments}
 use Rattle.queue_paths.specs.Names.{Name, is_number, is_used, parse, used}
 use Rattle.queue_paths.specs.Names.Name.{Of, Pid}
@@ -66,14 +64,13 @@ is_shown d h now present events pids numbers own history are_pids are_numbers ma
 
 -- what is told of each mail
 mails_told : {W : Type 0} (tells : View → Entry → List ℕ → List W) (d : Disk) (h : List Event) (now : Disk) (present : ℕ) (events : List Kept) (o : Overview) (entries : List Entry) (given : List Given)
-    → IsHistory d now events present h → AreNamedStarts h → AllByRecursion IsFedSo (reverse events) → disk_of o.disk.now.held ≡ now → o.controls.now ≡ controls_on now → entries ≡ books_in d h
+    → IsHistory d now events present h → AreNamedStarts h → AllByRecursion IsFedSo (reverse events) → disk_of o.disk.now.held ≡ now → entries ≡ books_in d h
     → reverse (map receiver given) ≡ receivers_in (reverse events)
     → flat_map (λ (mail : Entry × Given). tells (view_at o (after d h).books) mail.0 mail.1.envelope.now) (zip entries given)
     ≡ flat_map (λ (mail : List ℕ × Arguments). tells (view_of d h) (entry_in (after d h) h mail) mail.1.envelope) (mails_of h)
-mails_told tells d h now present events o entries given history mails fed disk controls are received =
+mails_told tells d h now present events o entries given history mails fed disk are received =
     let view : ◌≡◌ {A = View} (view_at o (after d h).books) (view_of d h) =
-    ap (λ (m : Disk). record { disk = m; controls = o.controls.now; books = (after d h).books }) (disk ∙ sym history.disk)
-    ∙ ap (λ (c : Option Controls). record { disk = (after d h).disk; controls = c; books = (after d h).books }) (controls ∙ ap controls_on (sym history.disk)) in
+    ap (λ (m : Disk). record { disk = m; books = (after d h).books }) (disk ∙ sym history.disk) in
     let told = λ (mail : Entry × List ℕ). tells (view_of d h) mail.0 mail.1 in
     ap (λ (v : View). flat_map (λ (mail : Entry × Given). tells v mail.0 mail.1.envelope.now) (zip entries given)) view
     ∙ by_envelope (tells (view_of d h)) entries given
@@ -83,13 +80,13 @@ mails_told tells d h now present events o entries given history mails fed disk c
 
 -- the lines of each mail
 pub mails_shown : (d : Disk) (h : List Event) (now : Disk) (present : ℕ) (events : List Kept) (o : Overview) (entries : List Entry) (given : List Given) → IsHistory d now events present h → AreNamedStarts h
-    → AllByRecursion IsFedSo (reverse events) → disk_of o.disk.now.held ≡ now → o.controls.now ≡ controls_on now → entries ≡ books_in d h → reverse (map receiver given) ≡ receivers_in (reverse events)
+    → AllByRecursion IsFedSo (reverse events) → disk_of o.disk.now.held ≡ now → entries ≡ books_in d h → reverse (map receiver given) ≡ receivers_in (reverse events)
     → flat_map (given_lines (view_at o (after d h).books)) (zip entries given) ≡ all_mail_lines d h
 mails_shown = mails_told entry_lines
 
 -- what became of the recipients of each mail
 pub mails_summed : (d : Disk) (h : List Event) (now : Disk) (present : ℕ) (events : List Kept) (o : Overview) (entries : List Entry) (given : List Given) → IsHistory d now events present h → AreNamedStarts h
-    → AllByRecursion IsFedSo (reverse events) → disk_of o.disk.now.held ≡ now → o.controls.now ≡ controls_on now → entries ≡ books_in d h → reverse (map receiver given) ≡ receivers_in (reverse events)
+    → AllByRecursion IsFedSo (reverse events) → disk_of o.disk.now.held ≡ now → entries ≡ books_in d h → reverse (map receiver given) ≡ receivers_in (reverse events)
     → flat_map (given_fates (view_at o (after d h).books)) (zip entries given) ≡ all_fates d h
 mails_summed = mails_told fates_of
 

@@ -1,5 +1,5 @@
--- What `show` prints: how many names `pid/` has, the state of each number that isn't in S1, and how each mail fares, by the disk, the
--- control files and the books, in which the takings of senders enter who was delivered to.
+-- What `show` prints: how many names `pid/` has, the state of each number that isn't in S1, and how each mail fares, by the disk and the
+-- books. In these senders enter by which controls a message is routed, and who was delivered to.
 use Rattle.std.specs.Prelude.{◌≡◌, ℕ, List, [], ◌∷◌, ◌++◌, length, map, replicate, Bool, false, Option, Some, None, codes, flat_map, if◌then◌else◌, nat_eq}
 use Rattle.std.specs.List.{starts_with}
 use Rattle.address_rules.specs.declared.controls.Controls.{Controls}
@@ -7,15 +7,13 @@ use Rattle.call_fs.specs.Disk.{Disk}
 use Rattle.queue_inject.specs.declared.injection.Arguments.{Arguments}
 use Rattle.queue_law.specs.Books.{Books}
 use Rattle.queue_law.specs.Ledgers.{Spot}
-use Rattle.queue_paths.specs.Names.Part.{Todo}
-use Rattle.queue_states.specs.States.{state_of, is_there}
+use Rattle.queue_states.specs.States.{is_in_todo, state_of}
 pub use Rattle.queue_states.specs.Listing.{AreNamesIn}
 use Rattle.script_disks.specs.declared.routes.Routed.{Routed}
-use Rattle.script_disks.specs.Controls.{controls_on}
 use Rattle.script_disks.specs.Routes.{recipients_in, routes_in}
 pub use Rattle.script_disks.specs.Numbers.{AreNumbersIn}
 pub use Rattle.script_disks.specs.Records.{is_noted, is_unmarked}
-pub use Rattle.script_fates.specs.Lasting.{is_delivered, lasting}
+pub use Rattle.script_fates.specs.Lasting.{is_delivered, lasting, routes_by}
 pub use Rattle.queue_states.specs.Lines.{line_of, count_line, state_line}
 use Rattle.mail_world.specs.History.{Event, after}
 use Rattle.mail_world.specs.Books.{entry_in, mails_of}
@@ -33,16 +31,15 @@ pid_line names = count_line (length names)
 abbrev pub number_line : Disk → ℕ → List ℕ
 number_line d n = state_line n (state_of d n)
 
--- what a recipient's line goes by: the disk; what the control files say, unless one is bad; and the books
+-- what a recipient's line goes by: the disk and the books
 pub record View : Type 0 where
   pub disk : Disk
-  pub controls : Option Controls
   pub books : Books
 
 -- todo holds the mail
 abbrev pub is_queued : Disk → Option ℕ → Bool
 is_queued d None = false
-is_queued d (Some n) = is_there d Todo n
+is_queued d (Some n) = is_in_todo d n
 
 abbrev pub spot_at : Routed → Spot
 spot_at r = record { channel = r.channel; place = r.place }
@@ -63,14 +60,14 @@ ending_of v mail number failed r =
 abbrev pub fate_of : View → List ℕ → Option ℕ → RecipientFate → Routed → RecipientFate
 fate_of v mail number failed r = if is_unmarked v.disk (lasting v.books mail number) r then Pending else ending_of v mail number failed r
 
--- what became of each recipient of a mail that isn't in todo; with a bad control file nothing was ever preprocessed
+-- what became of each recipient of a mail that isn't in todo; without an injection in the books there are no routes
 abbrev pub sorted_fates : View → Entry → Option Controls → List ℕ → List RecipientFate
 sorted_fates v e None envelope = replicate e.recipients Dropped
 sorted_fates v e (Some controls) envelope = map (fate_of v e.actor e.number (failed_fate envelope)) (routes_in controls (recipients_in envelope))
 
 -- what became of each recipient of an accepted mail
 abbrev pub accepted_fates : View → Entry → List ℕ → List RecipientFate
-accepted_fates v e envelope = if is_queued v.disk (lasting v.books e.actor e.number) then replicate e.recipients Pending else sorted_fates v e v.controls envelope
+accepted_fates v e envelope = if is_queued v.disk (lasting v.books e.actor e.number) then replicate e.recipients Pending else sorted_fates v e (routes_by v.books e.actor e.number) envelope
 
 -- What became of each recipient of the mail with this entry in the books, and this envelope, in the order of that; one that wasn't accepted has
 -- none. Both `show` and `sum` go by this.
@@ -85,7 +82,7 @@ entry_lines v e envelope = line_of e.actor (life_word e.life) ++ fate_lines e.ac
 
 -- what `show` sees after it
 abbrev pub view_of : Disk → List Event → View
-view_of d h = record { disk = (after d h).disk; controls = controls_on (after d h).disk; books = (after d h).books }
+view_of d h = record { disk = (after d h).disk; books = (after d h).books }
 
 -- the lines of a mail
 abbrev pub mail_lines : Disk → List Event → List ℕ × Arguments → List ℕ

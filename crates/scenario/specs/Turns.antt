@@ -28,7 +28,7 @@ abbrev pub first_alive : State → List (List ℕ) → Option (List ℕ)
 first_alive s [] = None
 first_alive s (a ∷ later) = if lives_in (s.actors a) then Some a else first_alive s later
 
--- the four programs of a generation that starts at this moment
+-- a generation that starts at this moment
 abbrev pub generation_at : ℕ → Event
 generation_at now = Generation (crew_at now)
 
@@ -51,7 +51,7 @@ report_comes s slot letter text = if awaits_report s slot then Happens (Came (Re
 
 -- Turns
 
--- the actors that an event starts, in order
+-- the actors that an event starts, in order: a generation each member, since it has a program for each
 abbrev pub started_in : Event → List (List ℕ)
 started_in (Start a program) = a ∷ []
 started_in (Act a own wrote) = []

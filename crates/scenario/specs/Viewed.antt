@@ -4,6 +4,6 @@ use Rattle.queue_law.specs.Books.{Books}
 use Rattle.scenario.specs.declared.overview.Overview.{Overview}
 use Rattle.scenario.specs.Shown.{View}
 
--- what the disk and the control files say, with these books
+-- what the disk says, with these books
 abbrev pub view_at : Overview → Books → View
-view_at o books = record { disk = disk_of o.disk.now.held; controls = o.controls.now; books = books }
+view_at o books = record { disk = disk_of o.disk.now.held; books = books }

@@ -18,7 +18,7 @@
 //!   `one_text`.
 //! - What `show` prints: the names in `pid/`, the numbers that aren't in S1 with their states, and the life of each
 //!   mail in the books. Of each recipient of an accepted one it prints whether it is pending, was reported
-//!   delivered or is named by the bounce file, by the disk, the control files and the deliveries in the books. If
+//!   delivered or is named by the bounce file, by the disk, and by the routes and deliveries in the books. If
 //!   it is none of these, it is bounced, or dropped if the mail is a double bounce. What `sum` prints: how many mails
 //!   were accepted, and of how many of their recipients `show` tells each of these. What `cat` prints; the lines of all
 //!   events from one on: `show` (by `IsShown`), `sum` (by `sum_text`; the law `all_are_summed`, and `each_is_counted` of

@@ -1,10 +1,11 @@
 // What became of each mail and of its recipients.
 ghost use Rattle.std.specs.Prelude.{◌≡◌, ◌++◌, IfOk, OnOk, map};
+ghost use Rattle.std.specs.Option.{option_copied};
 ghost use Rattle.mem_fs.specs.MemDisk.{disk_of};
 ghost use Rattle.queue_law.specs.Books.{Books};
 ghost use Rattle.script_disks.specs.Records.{AreNoted};
 ghost use Rattle.script_fates.specs.Fates.{AreFates, IsUsed, spot_of};
-ghost use Rattle.scenario.specs.Shown.{ending_of, entry_lines, failed_fate, fate_of, fates_of, is_delivered, is_queued, lasting, sorted_fates};
+ghost use Rattle.scenario.specs.Shown.{ending_of, entry_lines, failed_fate, fate_of, fates_of, is_delivered, is_queued, lasting, routes_by, sorted_fates};
 ghost use Rattle.scenario.specs.Viewed.{view_at};
 
 use address_rules::Controls;
@@ -22,8 +23,6 @@ use std::alloc::Global;
 pub struct Overview<'a> {
     /// Its disk.
     pub disk: &'a MemFs,
-    /// What the control files say; `None` if one is bad.
-    pub controls: &'a Option<Controls>,
     /// What its events say.
     pub fates: &'a Fates,
 }
@@ -72,9 +71,9 @@ impl Overview<'_> {
         envelope: &[u8],
     ) -> Result<Vec<RecipientFate>, Memory>
         ensures { (books : Books) → AreFates self.now.fates.now books → IsUsed entry.now.number
-            → IfOk result (λ fates. fates.items ≡ sorted_fates (view_at self.now books) entry.now self.now.controls.now envelope.now) }
+            → IfOk result (λ fates. fates.items ≡ sorted_fates (view_at self.now books) entry.now (routes_by books entry.now.actor entry.now.number) envelope.now) }
     {
-        match self.controls {
+        match self.routes(entry.actor.as_slice(), entry.number) {
             None => alike(alloc, RecipientFate::Dropped, entry.recipients),
             Some(controls) => {
                 let mail = entry.actor.as_slice();
@@ -170,6 +169,16 @@ impl Overview<'_> {
         match number {
             Some(n) => self.fates.is_delivered(n, mail, spot),
             None => false,
+        }
+    }
+
+    /// By which control files the recipients of a mail are routed, by its number.
+    fn routes(&self, mail: &[u8], number: Option<u64>) -> Option<&Controls>
+        ensures { (books : Books) → AreFates self.now.fates.now books → IsUsed number → option_copied result ≡ routes_by books mail.now number }
+    {
+        match number {
+            Some(n) => self.fates.routes(n, mail),
+            None => None,
         }
     }
 

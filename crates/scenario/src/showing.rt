@@ -22,7 +22,7 @@ use crash_fs::CrashDisk;
 use mail_bytes::Memory;
 use mail_world::{ActorName, Entry, Event, Program, World};
 use queue_states::{put_count_line, put_state_line};
-use script_disks::{controls_on, names_of, numbers_of, state_on};
+use script_disks::{names_of, numbers_of, state_on};
 use script_fates::Fates;
 use script_traces::put_escaped;
 use std::alloc::Global;
@@ -30,7 +30,8 @@ use std::alloc::Global;
 /// Puts at the end of a text how many names `pid/` has, the state of each number that isn't in S1, and how each mail
 /// fares. A recipient of an accepted mail is pending while todo holds the mail or its own record reads `T`, in the life of that mail;
 /// else it was delivered, if a report said so; or it is noted, if the bounce file names it, in the life of that mail; or it was
-/// bounced, or dropped if the mail is a double bounce.
+/// bounced, or dropped if the mail is a double bounce. Where its record is, and its name in a note, go by the control files that the
+/// sender had read which last gave the todo command in that life.
 pub fn show(alloc: Global, world: &World<CrashDisk>, text: &mut Vec<u8>) -> Result<(), Memory>
     ensures { OnOk result ((own : List ℕ) × (text.new.items ≡ text.old.items ++ own)
         × ((d : Disk) (plan : Plan) (h : List Deed) → IsPlaying d world.now plan h → IsShown d (history_of h) own)) }
@@ -61,10 +62,8 @@ fn put_fated(
     ensures { OnOk result ((own : List ℕ) × (text.new.items ≡ text.old.items ++ own) × ((d : Disk) (plan : Plan) (h : List Deed)
         → IsPlaying d world.now plan h → AreFates fates.now (after d h).books → own ≡ all_mail_lines d (history_of h))) }
 {
-    let controls = controls_on(alloc, world.disk().below())?;
     let overview = Overview {
         disk: world.disk().below(),
-        controls: &controls,
         fates,
     };
     put_all(alloc, overview, world, text)

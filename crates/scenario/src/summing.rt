@@ -17,7 +17,6 @@ use crate::showing::{Given, given_by};
 use crash_fs::CrashDisk;
 use mail_bytes::Memory;
 use mail_world::{Entry, World};
-use script_disks::controls_on;
 use script_fates::Fates;
 use script_traces::{RecipientFate, put_sum};
 use std::alloc::Global;
@@ -50,10 +49,8 @@ fn fates_heard(
     ensures { IfOk result (λ fates. (d : Disk) (plan : Plan) (h : List Deed) → IsPlaying d world.now plan h
         → AreFates heard.now (after d h).books → fates.items ≡ all_fates d (history_of h)) }
 {
-    let controls = controls_on(alloc, world.disk().below())?;
     let overview = Overview {
         disk: world.disk().below(),
-        controls: &controls,
         fates: heard,
     };
     fates_told(alloc, overview, world)

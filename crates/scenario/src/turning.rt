@@ -13,6 +13,7 @@ ghost use Rattle.scenario.specs.Turns.{counted, NoneBetween};
 
 use crate::refusing::put_refusal;
 use crate::stepping::run;
+use actor_names::Member;
 use crash_fs::CrashDisk;
 use mail_bytes::Memory;
 use mail_world::{ActorName, Entry, Event, World};
@@ -24,9 +25,6 @@ use world_events::{is_first, is_search};
 const FIRST_ROUNDS: u64 = 100;
 
 const MORE_ROUNDS: u64 = 40;
-
-/// How many actors a generation starts, one after the other.
-const CREW: u64 = 4;
 
 /// Plays a turn: each living actor runs once, in order of start.
 pub fn play_turn(
@@ -88,7 +86,7 @@ fn past(world: &World<CrashDisk>, first: u64, later: &mut u64, next: u64) -> u64
         → NonePassed d h first later.new × NoneBetween d h next result }
     ensures rises { next ≤ result }
 {
-    if next.saturating_sub(first) != CREW {
+    if next.saturating_sub(first) != Member::COUNT as u64 {
         return next;
     }
     *later = first_place(world, next.max(*later));

@@ -2,8 +2,6 @@
 pub mod FirstDisk
 -- the numbers that have a file
 pub mod Numbers
--- what the control files say
-pub mod Controls
 -- where the record of each recipient stands
 pub mod Routes
 -- what the files of a message tell of a recipient

@@ -12,7 +12,7 @@ use send_jobs::Channel;
 use std::alloc::Global;
 
 /// Where the record of a recipient stands once its mail is preprocessed.
-#[derive(Debug, Drop)]
+#[derive(Drop)]
 pub struct Routed {
     /// Its channel.
     pub channel: Channel,
@@ -20,7 +20,8 @@ pub struct Routed {
     pub place: u64,
     /// The record as preprocessing writes it: `T`, the routed address, NUL.
     pub text: ByteText,
-    /// The name by which a note tells the recipient: the routed address without the prefix of its virtual domain.
+    /// The name by which a note tells the recipient: the routed address without the prefix of its virtual domain, by the control files
+    /// that route its mail. The sender that writes its mark has read the same: no event of a script changes a control file.
     pub name: ByteText,
 }
 

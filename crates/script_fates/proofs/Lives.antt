@@ -9,6 +9,7 @@ use Rattle.std.specs.Map.{lookup}
 use Rattle.std.proofs.lemmas.Bool.{eqb-true}
 use Rattle.std.proofs.lemmas.Bool.Decides.{nat_tests}
 use Rattle.std.proofs.lemmas.List.{reverse-append}
+use Rattle.address_rules.specs.declared.controls.Controls.{Controls}
 use Rattle.call_fs.specs.declared.calls.Answer.{Answer}
 use Rattle.call_fs.specs.declared.calls.Answer.TheVariants as answer
 use Rattle.call_fs.specs.declared.calls.CallData.{CallData}
@@ -22,8 +23,8 @@ use Rattle.call_fs.specs.Maps.{put}
 use Rattle.call_fs.proofs.Maps.{put_cases}
 use Rattle.queue_inject.specs.declared.injection.Arguments.{Arguments}
 use Rattle.queue_law.specs.Books.{Books, Injection, accept, begun, booked, entered_in, linked, with_line}
-use Rattle.queue_law.specs.Ledgers.{Ledger, Line, Spot, line_in}
-use Rattle.queue_law.specs.Ledgers.Line.{Delivers}
+use Rattle.queue_law.specs.Ledgers.{Ledger, Line, Spot, line_in, unrouted}
+use Rattle.queue_law.specs.Ledgers.Line.{Delivers, Routes}
 use Rattle.queue_paths.specs.Names.{Name, is_number, parse, path, used, used_name}
 use Rattle.queue_paths.specs.Names.Name.{Of, Pid}
 use Rattle.queue_paths.specs.Names.Part.{Mess, Intd, Todo, Info, Local, Remote, Bounce}
@@ -84,7 +85,7 @@ no_lives f none over = record {
 accepted_if : (t : Option Tenure) (b : Bool) (q : Injection) → IsTenureIf t (Some q) → IsTenureIf t (if b then Some (record q { accepted = true }) else Some q)
 accepted_if None true q h = h
 accepted_if None false q h = h
-accepted_if (Some t) true q h = record { number = h.number; mail = h.mail; delivered = h.delivered }
+accepted_if (Some t) true q h = record { number = h.number; mail = h.mail; delivered = h.delivered; routes = h.routes }
 accepted_if (Some t) false q h = h
 
 accepted_lives : (a : List ℕ) (t : Option Tenure) (o : Option Injection) → IsTenureIf t o → IsTenureIf t (accept a o)
@@ -143,6 +144,7 @@ pub record Begins (old new : Fates) (a : List ℕ) (n : ℕ) : Type 0 where
   pub number : tenure.number ≡ n
   pub mail : tenure.mail ≡ a
   pub none : tenure.delivered.items ≡ []
+  pub routes : tenure.routes ≡ unrouted
   pub others : (k : ℕ) → k ≢ n → get nat_cmp new.living k ≡ get nat_cmp old.living k
   pub over : new.over.items ≡ old.over.items ++ option_to_list (get nat_cmp old.living n)
 
@@ -161,7 +163,7 @@ new_life : (old new : Fates) (b : Books) (a : List ℕ) (args : Arguments) (n : 
 new_life old new b a args n is begins h = record {
   living = λ k k_is. ⊎_elim
       (λ e.
-      let here : IsTenureIf (Some begins.tenure) (Some (begun a args n)) = record { number = begins.number; mail = begins.mail; delivered = ap (λ (l : List KeptSpot). map spot_of (reverse l)) begins.none } in
+      let here : IsTenureIf (Some begins.tenure) (Some (begun a args n)) = record { number = begins.number; mail = begins.mail; delivered = ap (λ (l : List KeptSpot). map spot_of (reverse l)) begins.none; routes = begins.routes } in
       let kept : get nat_cmp new.living k ≡ Some begins.tenure = ap (get nat_cmp new.living) e.0 ∙ begins.is in
       subst (IsTenureIf (get nat_cmp new.living k)) (sym e.1) (subst (λ (t : Option Tenure). IsTenureIf t (Some (begun a args n))) (sym kept) here))
       (λ e. subst (IsTenureIf (get nat_cmp new.living k)) (sym e.1) (subst (λ (t : Option Tenure). IsTenureIf t (b.living k)) (sym (begins.others k e.0)) (h.living k k_is)))
@@ -230,55 +232,85 @@ linked_one old new b a args own n some begins h =
 
 -- A recipient is reported delivered
 
--- this one is entered in the life of this number, if there is one
-abbrev pub AddsSpot : Tenure → KeptSpot → Tenure → Type 0
-AddsSpot old s new = (new.number ≡ old.number) × (new.mail ≡ old.mail) × (new.delivered.items ≡ old.delivered.items ++ s ∷ [])
+-- the life of this number changes so, if there is one
+abbrev pub ChangesIf : (Tenure → Tenure → Type 0) → Option Tenure → Option Tenure → Type 0
+ChangesIf So None new = new ≡ None
+ChangesIf So (Some old) None = ⊥
+ChangesIf So (Some old) (Some new) = So old new
 
-abbrev pub EntersIf : Option Tenure → KeptSpot → Option Tenure → Type 0
-EntersIf None s new = new ≡ None
-EntersIf (Some old) s None = ⊥
-EntersIf (Some old) s (Some new) = AddsSpot old s new
-
-pub record Enters (old new : Fates) (n : ℕ) (s : KeptSpot) : Type 0 where
-  pub here : EntersIf (get nat_cmp old.living n) s (get nat_cmp new.living n)
+pub record Changes (So : Tenure → Tenure → Type 0) (old new : Fates) (n : ℕ) : Type 0 where
+  pub here : ChangesIf So (get nat_cmp old.living n) (get nat_cmp new.living n)
   pub others : (k : ℕ) → k ≢ n → get nat_cmp new.living k ≡ get nat_cmp old.living k
   pub over : new.over.items ≡ old.over.items
 
-entered_lives : (s : KeptSpot) (t u : Option Tenure) (o : Option Injection) → EntersIf t s u → IsTenureIf t o → IsTenureIf u (option_map (with_line (Delivers (spot_of s))) o)
-entered_lives s None u None e h = subst (λ (u : Option Tenure). IsTenureIf u None) (sym e) h
-entered_lives s None u (Some q) e h = absurd h
-entered_lives s (Some t) None o e h = absurd e
-entered_lives s (Some t) (Some u) None e h = absurd h
-entered_lives s (Some t) (Some u) (Some q) e h = record {
-  number = e.0 ∙ h.number;
-  mail = e.1 ∙ h.mail;
-  delivered = ap (λ (l : List KeptSpot). map spot_of (reverse l)) e.2 ∙ ap (map spot_of) (reverse-append t.delivered.items (s ∷ [])) ∙ ap (λ (l : List Spot). spot_of s ∷ l) h.delivered;
-}
+-- so it does as this line is entered
+abbrev pub IsEnteredSo : (Tenure → Tenure → Type 0) → Line → Type 0
+IsEnteredSo So line = (t u : Tenure) (q : Injection) → So t u → IsTenure t q → IsTenure u (with_line line q)
+
+changed_lives : (So : Tenure → Tenure → Type 0) (line : Line) → IsEnteredSo So line → (t u : Option Tenure) (o : Option Injection) → ChangesIf So t u → IsTenureIf t o → IsTenureIf u (option_map (with_line line) o)
+changed_lives So line one None u None e h = subst (λ (u : Option Tenure). IsTenureIf u None) (sym e) h
+changed_lives So line one None u (Some q) e h = absurd h
+changed_lives So line one (Some t) None o e h = absurd e
+changed_lives So line one (Some t) (Some u) None e h = absurd h
+changed_lives So line one (Some t) (Some u) (Some q) e h = one t u q e h
 
 lined_number : (line : Line) (n : ℕ) (o : Option Injection) → ((q : Injection) → o ≡ Some q → q.number ≡ n) → (q : Injection) → option_map (with_line line) o ≡ Some q → q.number ≡ n
 lined_number line n None here q is = absurd (cc)
 lined_number line n (Some p) here q is = ap (λ (q : Injection). q.number) (sym (some_is (with_line line p) q is)) ∙ here p refl
 
-pub enters_one : (old new : Fates) (b : Books) (n : ℕ) (s : KeptSpot) → Enters old new n s → AreFates old b → AreFates new (entered_in b n (Delivers (spot_of s)))
-enters_one old new b n s enters h = record {
+changes_one : (So : Tenure → Tenure → Type 0) (line : Line) → IsEnteredSo So line → (old new : Fates) (b : Books) (n : ℕ) → Changes So old new n → AreFates old b → AreFates new (entered_in b n line)
+changes_one So line one old new b n changes h = record {
   living = λ k is. ⊎_elim
       (λ e. subst (IsTenureIf (get nat_cmp new.living k)) (sym e.1)
-      (subst (λ (k : ℕ). IsTenureIf (get nat_cmp new.living k) (option_map (with_line (Delivers (spot_of s))) (b.living n))) (sym e.0)
-      (entered_lives s (get nat_cmp old.living n) (get nat_cmp new.living n) (b.living n) enters.here (h.living n (ap is_number (sym e.0) ∙ is)))))
-      (λ e. subst (IsTenureIf (get nat_cmp new.living k)) (sym e.1) (subst (λ (t : Option Tenure). IsTenureIf t (b.living k)) (sym (enters.others k e.0)) (h.living k is)))
-      (put_cases b.living n (option_map (with_line (Delivers (spot_of s))) (b.living n)) k);
-  over = subst (λ (l : List Tenure). AllZip IsTenure (reverse l) (numbered b.over)) (sym enters.over) h.over;
-  placed = placed_put b.living n (option_map (with_line (Delivers (spot_of s))) (b.living n)) (lined_number (Delivers (spot_of s)) n (b.living n) (h.placed n)) h.placed;
+      (subst (λ (k : ℕ). IsTenureIf (get nat_cmp new.living k) (option_map (with_line line) (b.living n))) (sym e.0)
+      (changed_lives So line one (get nat_cmp old.living n) (get nat_cmp new.living n) (b.living n) changes.here (h.living n (ap is_number (sym e.0) ∙ is)))))
+      (λ e. subst (IsTenureIf (get nat_cmp new.living k)) (sym e.1) (subst (λ (t : Option Tenure). IsTenureIf t (b.living k)) (sym (changes.others k e.0)) (h.living k is)))
+      (put_cases b.living n (option_map (with_line line) (b.living n)) k);
+  over = subst (λ (l : List Tenure). AllZip IsTenure (reverse l) (numbered b.over)) (sym changes.over) h.over;
+  placed = placed_put b.living n (option_map (with_line line) (b.living n)) (lined_number line n (b.living n) (h.placed n)) h.placed;
 }
 
--- a line that tells of no delivery
-lined : (line : Line) → ((l : Ledger) → (line_in line l).delivered ≡ l.delivered) → (t : Option Tenure) (o : Option Injection) → IsTenureIf t o → IsTenureIf t (option_map (with_line line) o)
+-- this one is entered
+abbrev pub AddsSpot : KeptSpot → Tenure → Tenure → Type 0
+AddsSpot s old new = (new.number ≡ old.number) × (new.mail ≡ old.mail) × (new.delivered.items ≡ old.delivered.items ++ s ∷ []) × (new.routes ≡ old.routes)
+
+spot_added : (s : KeptSpot) → IsEnteredSo (AddsSpot s) (Delivers (spot_of s))
+spot_added s t u q e h = record {
+  number = e.0 ∙ h.number;
+  mail = e.1 ∙ h.mail;
+  delivered = ap (λ (l : List KeptSpot). map spot_of (reverse l)) e.2 ∙ ap (map spot_of) (reverse-append t.delivered.items (s ∷ [])) ∙ ap (λ (l : List Spot). spot_of s ∷ l) h.delivered;
+  routes = e.3 ∙ h.routes;
+}
+
+pub enters_one : (old new : Fates) (b : Books) (n : ℕ) (s : KeptSpot) → Changes (AddsSpot s) old new n → AreFates old b → AreFates new (entered_in b n (Delivers (spot_of s)))
+enters_one old new b n s enters h = changes_one (AddsSpot s) (Delivers (spot_of s)) (spot_added s) old new b n enters h
+
+-- it is routed by these
+abbrev pub TakesRoutes : Controls → Tenure → Tenure → Type 0
+TakesRoutes by old new = (new.number ≡ old.number) × (new.mail ≡ old.mail) × (new.delivered.items ≡ old.delivered.items) × (new.routes ≡ by)
+
+routes_taken : (by : Controls) → IsEnteredSo (TakesRoutes by) (Routes by)
+routes_taken by t u q e h = record {
+  number = e.0 ∙ h.number;
+  mail = e.1 ∙ h.mail;
+  delivered = ap (λ (l : List KeptSpot). map spot_of (reverse l)) e.2 ∙ h.delivered;
+  routes = e.3;
+}
+
+pub routes_one : (old new : Fates) (b : Books) (n : ℕ) (by : Controls) → Changes (TakesRoutes by) old new n → AreFates old b → AreFates new (entered_in b n (Routes by))
+routes_one old new b n by changes h = changes_one (TakesRoutes by) (Routes by) (routes_taken by) old new b n changes h
+
+-- a line that tells of no delivery and of no routes
+abbrev pub IsApart : Line → Type 0
+IsApart line = (l : Ledger) → ((line_in line l).delivered ≡ l.delivered) × ((line_in line l).routes ≡ l.routes)
+
+lined : (line : Line) → IsApart line → (t : Option Tenure) (o : Option Injection) → IsTenureIf t o → IsTenureIf t (option_map (with_line line) o)
 lined line same None None h = h
 lined line same None (Some q) h = absurd h
 lined line same (Some t) None h = absurd h
-lined line same (Some t) (Some q) h = record { number = h.number; mail = h.mail; delivered = h.delivered ∙ sym (same q.ledger) }
+lined line same (Some t) (Some q) h = record { number = h.number; mail = h.mail; delivered = h.delivered ∙ sym (same q.ledger).0; routes = h.routes ∙ sym (same q.ledger).1 }
 
-pub line_apart : (f : Fates) (b : Books) (n : ℕ) (line : Line) → ((l : Ledger) → (line_in line l).delivered ≡ l.delivered) → AreFates f b → AreFates f (entered_in b n line)
+pub line_apart : (f : Fates) (b : Books) (n : ℕ) (line : Line) → IsApart line → AreFates f b → AreFates f (entered_in b n line)
 line_apart f b n line same h = record {
   living = lives_put (get nat_cmp f.living) b.living n (option_map (with_line line) (b.living n)) (λ is. lined line same (get nat_cmp f.living n) (b.living n) (h.living n is)) h.living;
   over = h.over;
@@ -290,20 +322,23 @@ line_apart f b n line same h = record {
 apart_at : (n k : ℕ) → k ≢ n → is_at (nat_cmp n) k ≡ false
 apart_at n k ne = grind (arith, nat_tests)
 
-pub enters_at : (old new : Fates) (n : ℕ) (s : KeptSpot) (t u : Tenure) → get nat_cmp old.living n ≡ Some t → UpdatesBy nat_cmp (nat_cmp n) old.living new.living (Some u) → AddsSpot t s u → new.over.items ≡ old.over.items → Enters old new n s
-enters_at old new n s t u was now entered over = record { here = rw (was, now.1) entered; others = λ k ne. now.2 k (apart_at n k ne); over = over }
+pub changes_at : (So : Tenure → Tenure → Type 0) (old new : Fates) (n : ℕ) (t u : Tenure) → get nat_cmp old.living n ≡ Some t → UpdatesBy nat_cmp (nat_cmp n) old.living new.living (Some u) → So t u
+    → new.over.items ≡ old.over.items → Changes So old new n
+changes_at So old new n t u was now entered over = record { here = rw (was, now.1) entered; others = λ k ne. now.2 k (apart_at n k ne); over = over }
 
-pub enters_nowhere : (old new : Fates) (n : ℕ) (s : KeptSpot) → get nat_cmp old.living n ≡ None → ((k : ℕ) → get nat_cmp new.living k ≡ get nat_cmp old.living k) → new.over.items ≡ old.over.items → Enters old new n s
-enters_nowhere old new n s was same over = record { here = rw was (same n ∙ was); others = λ k ne. same k; over = over }
+pub changes_nowhere : (So : Tenure → Tenure → Type 0) (old new : Fates) (n : ℕ) → get nat_cmp old.living n ≡ None → ((k : ℕ) → get nat_cmp new.living k ≡ get nat_cmp old.living k) → new.over.items ≡ old.over.items
+    → Changes So old new n
+changes_nowhere So old new n was same over = record { here = rw was (same n ∙ was); others = λ k ne. same k; over = over }
 
-pub begins_at : (old new : Fates) (a : List ℕ) (n : ℕ) (t : Tenure) → t.number ≡ n → t.mail ≡ a → t.delivered.items ≡ [] → UpdatesBy nat_cmp (nat_cmp n) old.living new.living (Some t)
+pub begins_at : (old new : Fates) (a : List ℕ) (n : ℕ) (t : Tenure) → t.number ≡ n → t.mail ≡ a → t.delivered.items ≡ [] → t.routes ≡ unrouted → UpdatesBy nat_cmp (nat_cmp n) old.living new.living (Some t)
     → new.over.items ≡ old.over.items ++ option_to_list (get nat_cmp old.living n) → Begins old new a n
-begins_at old new a n t number mail none now over = record {
+begins_at old new a n t number mail none routes now over = record {
   tenure = t;
   is = now.1;
   number = number;
   mail = mail;
   none = none;
+  routes = routes;
   others = λ k ne. now.2 k (apart_at n k ne);
   over = over;
 }

@@ -1,5 +1,6 @@
 -- What a taking of a sender adds to its marks: of each attempt of which a report is final, one.
-use Rattle.std.proofs.Common.{◌≡◌, ◌≢◌, ⊎_elim, ℕ, ◌+◌, ◌<◌, ◌≤◌, List, [], ◌∷◌, ◌++◌, length, get_or, set, drop, take, cond, Bool, true, false, Option, Some, None, refl, sym, ap, ◌∙◌, subst, arith, append_assoc, length-append, length-set, count_by}
+use Rattle.address_rules.specs.declared.controls.Controls.{Controls}
+use Rattle.std.proofs.Common.{◌≡◌, ⊎_elim, ℕ, ◌+◌, ◌<◌, ◌≤◌, List, [], ◌∷◌, ◌++◌, length, get_or, set, drop, take, cond, Bool, true, false, Option, Some, None, refl, sym, ap, ◌∙◌, subst, arith, append_assoc, length-append, length-set, count_by}
 use Rattle.std.specs.Prelude.{◌&&◌, ◌==◌, if◌then◌else◌, is_none, is_some, map, not, nat_lt, slice_get}
 use Rattle.std.proofs.lemmas.Bool.{lt-ltb}
 use Rattle.std.proofs.lemmas.List.{append-nil, drop-append-le, drop_all, length-map, length-take-le, take_more}
@@ -11,20 +12,17 @@ use Rattle.bounce_record.specs.declared.return_row.ReturnRow.{ReturnRow}
 use Rattle.bounce_record.specs.declared.return_row.ReturnRow.TheVariants as back
 use Rattle.bounce_record.specs.Returning.{Returning, due_at as return_due_at}
 use Rattle.bounce_record.specs.Writing.{Writing, due_at as note_due_at}
-use Rattle.call_fs.specs.declared.calls.Answer.{Answer}
-use Rattle.call_fs.specs.declared.calls.Answer.TheVariants as answer
-use Rattle.call_fs.specs.declared.calls.CallData.{CallData}
 use Rattle.call_fs.specs.declared.calls.How.TheVariants as how
 use Rattle.call_fs.specs.declared.past.GotData.{GotData}
-use Rattle.call_fs.specs.declared.past.GotData.TheVariants as got
 use Rattle.call_fs.specs.declared.past.NeedData.{NeedData}
 use Rattle.call_fs.specs.declared.past.NeedData.TheVariants as needs
 use Rattle.call_fs.specs.declared.past.Own.{Own}
 use Rattle.call_fs.specs.declared.program.Port.TheVariants as port
 use Rattle.call_fs.specs.declared.program.Ready.{Ready}
 use Rattle.call_fs.specs.Past.{IsRunBy}
-use Rattle.queue_law.specs.Books.{Books, Child as Bouncer, booked_all, booked_on, entered_in, line_said, notes_read}
-use Rattle.queue_law.specs.Ledgers.Line.{Drops, Fails, Notes, Reads, Returns}
+use Rattle.queue_law.specs.Books.{Books, entered_in}
+use Rattle.queue_law.specs.Entered.{Child as Bouncer, booked_all, line_said}
+use Rattle.queue_law.specs.Ledgers.Line.{Fails}
 use Rattle.send_jobs.specs.declared.attempts.Attempt.{Attempt}
 use Rattle.send_jobs.specs.declared.attempts.Failure.{Failure}
 use Rattle.send_jobs.specs.declared.attempts.Mark.{Mark}
@@ -33,7 +31,7 @@ use Rattle.send_known.specs.declared.channel.Channel.TheVariants.{Local, Remote}
 use Rattle.send_jobs.specs.declared.jobs.Job.{Job}
 use Rattle.send_jobs.specs.declared.lane.Lane.{Lane}
 use Rattle.send_jobs.specs.Bookings.{Booking}
-use Rattle.send_jobs.specs.Bookings.Booking.{Dropped, Noted, ReadNotes, Reported, Returned}
+use Rattle.send_jobs.specs.Bookings.Booking.{Reported}
 use Rattle.send_jobs.specs.Failures.{failure_in, is_final}
 use Rattle.send_jobs.specs.Lanes.{job_over, left_unmarked, reported}
 use Rattle.send_jobs.specs.Sending.{at_lane, lane, none_out}
@@ -69,7 +67,7 @@ use Rattle.send_parts.specs.declared.row.Marked.{Marked}
 use Rattle.send_parts.specs.declared.row.Row.{Row}
 use Rattle.send_parts.specs.declared.row.Row.TheVariants as at
 use Rattle.send_core.specs.Agrees.{owed_at}
-use Rattle.send_core.specs.Booked.{booked_at, finished_at, if_done, if_ok, if_zero, marked_at, noted_at, reported_all, reported_by, reported_if, reported_in, reported_when, returned_at}
+use Rattle.send_core.specs.Booked.{booked_at, reported_all, reported_by, reported_if, reported_in, reported_when}
 use Rattle.send_core.specs.Desk.{deferred, heard, link, retried_if, settle, told, told_all, told_by, waits, with_reader}
 use Rattle.send_core.specs.Past.{Account, Owed, account, work}
 use Rattle.send_core.specs.Stands.{Machine, Stands}
@@ -84,7 +82,7 @@ use Rattle.send_core.proofs.Standing.{FitAt, arrives}
 use Rattle.script_fates.specs.declared.fates.Fates.{Fates}
 use Rattle.script_fates.specs.Fates.{AreFates}
 use Rattle.script_fates.specs.Entering.{HasDue, entered_by, entered_of, heard_after, heard_by}
-use Rattle.script_fates.proofs.Lives.{Enters, enters_one, line_apart}
+use Rattle.script_fates.proofs.Lives.{AddsSpot, Changes, enters_one, line_apart}
 
 -- there is room for the marks of all that is in flight
 pub record HasRoom (l : Lane) : Type 0 where
@@ -441,9 +439,9 @@ run_room past now ready c run is =
 
 -- What an event of a sender enters in the books
 
-entered_is : (child : Option Bouncer) (c : Channel) (marks : List Mark) (b : Books) → entered_of c marks b ≡ booked_all child (map (told_of c) marks) b
-entered_is child c [] b = refl
-entered_is child c (m ∷ marks) b = entered_is child c marks (entered_by c m b)
+entered_is : (child : Option Bouncer) (by : Controls) (c : Channel) (marks : List Mark) (b : Books) → entered_of c marks b ≡ booked_all child by (map (told_of c) marks) b
+entered_is child by c [] b = refl
+entered_is child by c (m ∷ marks) b = entered_is child by c marks (entered_by c m b)
 
 pub taking_enters : (child : Option Bouncer) (past : List Own) (own : Own) (c : Channel) (b : Books) → HasDue past own → own.due ≡ needs.Take (port_of c)
     → let d = sender_after None past in entered_of c (drop (length (lane c d.slots).marks) (lane c (sender_after None (own ∷ past)).slots).marks) b ≡ heard_by child past own b
@@ -453,96 +451,9 @@ taking_enters child past own c b due takes =
     let new : List Mark = drop (length (lane c d.slots).marks) (lane c (sender_after None (own ∷ past)).slots).marks in
     let adds : AddsAt c (booked_at row own.came d) (lane c d.slots).marks (lane c (moved_by row own.read own.came d).slots).marks =
     row_adds row own.read own.came d c (due.due ∙ takes) (run_room past own.read own.ready c due.run) in
-    entered_is child c new b
-    ∙ ap (λ (es : List Booking). booked_all child es b) adds
+    entered_is child d.book.controls c new b
+    ∙ ap (λ (es : List Booking). booked_all child d.book.controls es b) adds
     ∙ ap (λ (due : NeedData). heard_after child b past own.read own.ready due own.came) (sym takes)
-
--- No other event of a sender tells of a report.
-
-abbrev pub IsQuiet : Booking → Type 0
-IsQuiet (Reported delivered c n place) = ⊥
-IsQuiet other = Unit {0}
-
-abbrev pub AreQuiet : List Booking → Type 0
-AreQuiet [] = Unit {0}
-AreQuiet (e ∷ es) = IsQuiet e × AreQuiet es
-
-quiet_ok : (told : Answer) (e : Booking) → IsQuiet e → AreQuiet (if_ok told e)
-quiet_ok answer.Done e h = (h, tt)
-quiet_ok told e h = tt
-
-quiet_done : (came : GotData) (e : Booking) → IsQuiet e → AreQuiet (if_done came e)
-quiet_done (got.Answered told) e h = quiet_ok told.answer e h
-quiet_done came e h = tt
-
-quiet_if : (b : Bool) (e : Booking) → IsQuiet e → AreQuiet (if b then e ∷ [] else [])
-quiet_if true e h = (h, tt)
-quiet_if false e h = tt
-
-quiet_zero : (came : GotData) (e : Booking) → IsQuiet e → AreQuiet (if_zero came e)
-quiet_zero (got.Ended status) e h = quiet_if (status == 0) e h
-quiet_zero came e h = tt
-
-quiet_note : (row : NoteRow) (m : Marked) (came : GotData) → AreQuiet (noted_at row m came)
-quiet_note (written.Sync fd) m came = quiet_done came (Noted m.channel m.n m.place) tt
-quiet_note row m came = tt
-
-quiet_mark : (row : MarkRow) (m : Marked) (w : NoteRow) (came : GotData) → AreQuiet (marked_at row m w came)
-quiet_mark mark.Noting m w came = quiet_note w m came
-quiet_mark row m w came = tt
-
-quiet_return : (row : ReturnRow) (n : ℕ) (notes : List ℕ) (came : GotData) → AreQuiet (returned_at row n notes came)
-quiet_return (back.CloseNotes fd) n notes came = (tt, tt)
-quiet_return (back.Await pid) n notes came = quiet_zero came (Returned n) tt
-quiet_return back.Discard n notes came = quiet_done came (Dropped n) tt
-quiet_return row n notes came = tt
-
-quiet_finish : (row : FinishRow) (n : ℕ) (r : ReturnRow) (notes : List ℕ) (came : GotData) → AreQuiet (finished_at row n r notes came)
-quiet_finish finish.Return n r notes came = quiet_return r n notes came
-quiet_finish row n r notes came = tt
-
-not_link : (c : Channel) (due : NeedData) → ◌≡◌ {A = NeedData} (needs.Take (port_of c)) due → due ≢ needs.Take port.Lspawn → due ≢ needs.Take port.Rspawn → ⊥
-not_link Local due is local remote = local (sym is)
-not_link Remote due is local remote = remote (sym is)
-
-quiet_row : (row : Row) (came : GotData) (d : Desk) (due : NeedData) → due_at row d ≡ due → due ≢ needs.Take port.Lspawn → due ≢ needs.Take port.Rspawn → AreQuiet (booked_at row came d)
-quiet_row (at.TakeLink c) came d due is local remote = absurd (not_link c due is local remote)
-quiet_row (at.Mark row m) came d due is local remote = quiet_mark row m d.note.row came
-quiet_row (at.Finish row n) came d due is local remote = quiet_finish row n d.bounce.row d.bounce.notes came
-quiet_row row came d due is local remote = tt
-
-quiet_on : (f : Fates) (child : Option Bouncer) (e : Booking) (b : Books) → IsQuiet e → AreFates f b → AreFates f (booked_on child e b)
-quiet_on f child (Reported delivered c n place) b quiet h = absurd quiet
-quiet_on f child (Noted c n place) b quiet h = line_apart f b n (Notes (record { channel = c; place = place })) (λ l. refl) h
-quiet_on f child (ReadNotes n notes) b quiet h = line_apart f b n (Reads notes) (λ l. refl) h
-quiet_on f None (Returned n) b quiet h = h
-quiet_on f (Some child) (Returned n) b quiet h = line_apart f b n (Returns (record { actor = child.actor; args = child.args; notes = notes_read (b.living n) })) (λ l. refl) h
-quiet_on f child (Dropped n) b quiet h = line_apart f b n Drops (λ l. refl) h
-
-quiet_all : (f : Fates) (child : Option Bouncer) (es : List Booking) (b : Books) → AreQuiet es → AreFates f b → AreFates f (booked_all child es b)
-quiet_all f child [] b quiet h = h
-quiet_all f child (e ∷ es) b quiet h = quiet_all f child es (booked_on child e b) quiet.1 (quiet_on f child e b quiet.0 h)
-
-by_call : (f : Fates) (child : Option Bouncer) (past : List Own) (own : Own) (b : Books) (call : CallData) (came : GotData)
-    → (let d = sender_after None past in AreQuiet (booked_at (row_now d own.read own.ready) came d)) → AreFates f b
-    → AreFates f (heard_after child b past own.read own.ready (needs.File call) came)
-by_call f child past own b call (got.Answered told) quiet h =
-    let d : Desk = sender_after None past in quiet_all f child (booked_at (row_now d own.read own.ready) (got.Answered told) d) b quiet h
-by_call f child past own b call came quiet h = h
-
-by_due : (f : Fates) (child : Option Bouncer) (past : List Own) (own : Own) (b : Books) (due : NeedData)
-    → (let d = sender_after None past in AreQuiet (booked_at (row_now d own.read own.ready) own.came d)) → AreFates f b
-    → AreFates f (heard_after child b past own.read own.ready due own.came)
-by_due f child past own b (needs.File call) quiet h = by_call f child past own b call own.came quiet h
-by_due f child past own b (needs.Take p) quiet h =
-    let d : Desk = sender_after None past in quiet_all f child (booked_at (row_now d own.read own.ready) own.came d) b quiet h
-by_due f child past own b due quiet h = h
-
-pub other_enters : (f : Fates) (child : Option Bouncer) (past : List Own) (own : Own) (b : Books) → HasDue past own → own.due ≢ needs.Take port.Lspawn → own.due ≢ needs.Take port.Rspawn → AreFates f b
-    → AreFates f (heard_by child past own b)
-other_enters f child past own b has local remote h =
-    let d : Desk = sender_after None past in
-    by_due f child past own b own.due (quiet_row (row_now d own.read own.ready) own.came d own.due has.due local remote) h
 
 -- so, with the marks that a sender had and has
 pub taking_is : (child : Option Bouncer) (past : List Own) (own : Own) (c : Channel) (b : Books) (old new : Machine) (before : ℕ) (marks : List Mark) → HasDue past own → own.due ≡ needs.Take (port_of c)
@@ -582,9 +493,9 @@ pub note_enters : (f : Fates) (b : Books) (c : Channel) (m : Mark) → is_some m
 note_enters f b c m some h = by m.note some where
   by : (o : Option Failure) → is_some o ≡ true → AreFates f (entered_in b m.attempt.n (line_said (is_none o) (record { channel = c; place = m.attempt.place })))
   by None some = absurd (cc)
-  by (Some failure) some = line_apart f b m.attempt.n (Fails (record { channel = c; place = m.attempt.place })) (λ l. refl) h
+  by (Some failure) some = line_apart f b m.attempt.n (Fails (record { channel = c; place = m.attempt.place })) (λ l. (refl, refl)) h
 
-pub delivery_enters : (old new : Fates) (b : Books) (c : Channel) (m : Mark) → is_some m.note ≡ false → Enters old new m.attempt.n (record { channel = c; place = m.attempt.place }) → AreFates old b → AreFates new (entered_by c m b)
+pub delivery_enters : (old new : Fates) (b : Books) (c : Channel) (m : Mark) → is_some m.note ≡ false → Changes (AddsSpot (record { channel = c; place = m.attempt.place })) old new m.attempt.n → AreFates old b → AreFates new (entered_by c m b)
 delivery_enters old new b c m none enters h = by m.note none where
   by : (o : Option Failure) → is_some o ≡ false → AreFates new (entered_in b m.attempt.n (line_said (is_none o) (record { channel = c; place = m.attempt.place })))
   by (Some failure) none = absurd (cc)

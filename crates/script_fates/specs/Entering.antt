@@ -9,7 +9,8 @@ use Rattle.call_fs.specs.declared.program.Ready.{Ready}
 use Rattle.call_fs.specs.Past.{IsRunBy}
 use Rattle.mail_bytes.specs.Moments.{IsMoment}
 use Rattle.queue_inject.specs.declared.injection.Arguments.{Arguments}
-use Rattle.queue_law.specs.Books.{Books, Child as Bouncer, booked, booked_all, entered_in, line_said}
+use Rattle.queue_law.specs.Books.{Books, booked, entered_in}
+use Rattle.queue_law.specs.Entered.{Child as Bouncer, booked_all, line_said}
 use Rattle.send_core.specs.Booked.{booked_at}
 use Rattle.send_core.specs.Table.{Next, place_after as sender_after, row_now}
 use Rattle.send_jobs.specs.declared.attempts.Mark.{Mark}
@@ -26,15 +27,16 @@ pub record HasDue (past : List Own) (own : Own) : Type 0 where
   pub moment : IsMoment own.read
   pub due : Next None past own.read own.ready ≡ own.due
 
--- what a sender with this child enters of what came
+-- what a sender with this child enters of what came, with the controls that it has read
 abbrev pub said_after : Option Bouncer → Books → List Own → ℕ → Ready → GotData → Books
 said_after child b past read ready came =
-    let d = sender_after None past in booked_all child (booked_at (row_now d read ready) came d) b
+    let d = sender_after None past in booked_all child d.book.controls (booked_at (row_now d read ready) came d) b
 
--- the books after an event of it: a file call and a taking enter that, any other event nothing
+-- the books after an event of it: a file call, a taking and a giving enter that, any other event nothing
 abbrev pub heard_after : Option Bouncer → Books → List Own → ℕ → Ready → NeedData → GotData → Books
 heard_after child b past read ready (needs.File call) (Answered told) = said_after child b past read ready (Answered told)
 heard_after child b past read ready (needs.Take port) came = said_after child b past read ready came
+heard_after child b past read ready (needs.Give port bytes) came = said_after child b past read ready came
 heard_after child b past read ready due came = b
 
 abbrev pub heard_by : Option Bouncer → List Own → Own → Books → Books

@@ -18,6 +18,7 @@ pub record IsTenure (t : Tenure) (q : Injection) : Type 0 where
   pub number : t.number ≡ q.number
   pub mail : t.mail ≡ q.actor
   pub delivered : map spot_of (reverse t.delivered.items) ≡ q.ledger.delivered
+  pub routes : t.routes ≡ q.ledger.routes
 
 abbrev pub IsTenureIf : Option Tenure → Option Injection → Type 0
 IsTenureIf None None = Unit {0}

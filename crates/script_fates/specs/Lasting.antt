@@ -1,6 +1,7 @@
--- Whose message a number is, and which of its recipients senders took reports of that they were delivered to, by the books.
-use Rattle.std.specs.Prelude.{ℕ, List, Bool, true, false, ◌&&◌, ◌==◌, bytes_eq, Option, Some, None, if◌then◌else◌}
-use Rattle.std.specs.List.{list_any}
+-- Whose message a number is, by which controls its recipients are routed, and which of its recipients senders took reports of that they were delivered to, by the books.
+use Rattle.std.specs.Prelude.{ℕ, List, Bool, true, false, ◌&&◌, ◌==◌, bytes_eq, Option, Some, None, option_map, if◌then◌else◌}
+use Rattle.std.specs.List.{find, list_any}
+use Rattle.address_rules.specs.declared.controls.Controls.{Controls}
 use Rattle.queue_law.specs.Books.{Books, Injection}
 use Rattle.queue_law.specs.Ledgers.{Spot}
 use Rattle.send_known.specs.declared.channel.Channel.{Channel}
@@ -41,3 +42,19 @@ is_delivered_by s mail n (Some q) over = if bytes_eq q.actor mail then is_entere
 abbrev pub is_delivered : Books → List ℕ → Option ℕ → Spot → Bool
 is_delivered b mail None s = false
 is_delivered b mail (Some n) s = is_delivered_by s mail n (b.living n) b.over
+
+-- By which controls the recipients of a mail are routed that has or had the number: in its injection whose life lasts, else in the newest
+-- whose life is over.
+abbrev pub is_so : List ℕ → ℕ → Injection → Bool
+is_so mail n q = (q.number == n) && bytes_eq q.actor mail
+
+abbrev pub routes_over : List ℕ → ℕ → List Injection → Option Controls
+routes_over mail n over = option_map (λ q. q.ledger.routes) (find (is_so mail n) over)
+
+abbrev pub routes_when : List ℕ → ℕ → Option Injection → List Injection → Option Controls
+routes_when mail n None over = routes_over mail n over
+routes_when mail n (Some q) over = if bytes_eq q.actor mail then Some q.ledger.routes else routes_over mail n over
+
+abbrev pub routes_by : Books → List ℕ → Option ℕ → Option Controls
+routes_by b mail None = None
+routes_by b mail (Some n) = routes_when mail n (b.living n) b.over

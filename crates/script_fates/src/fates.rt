@@ -1,18 +1,24 @@
 // What the events of injectors and senders say of the recipients of mails.
-ghost use Rattle.std.specs.Prelude.{◌≡◌, ◌∷◌, [], List, OnOk, Option, Some, None, true, bytes_eq, drop, map};
+ghost use Rattle.std.specs.Prelude.{◌≡◌, ◌∷◌, [], ℕ, List, OnOk, Option, Some, None, true, bytes_eq, drop, map};
+ghost use Rattle.std.specs.Option.{option_copied};
 ghost use Rattle.std.specs.List.{list_any};
-ghost use Rattle.call_fs.specs.declared.past.NeedData.TheVariants.{Take};
+ghost use Rattle.call_fs.specs.declared.past.NeedData.TheVariants.{Give, Take};
 ghost use Rattle.call_fs.specs.declared.past.Own.{Own};
 ghost use Rattle.send_core.specs.Stands.{Stands};
 ghost use Rattle.send_core.specs.Table.{port_of};
-ghost use Rattle.queue_law.specs.Books.{Books, Child as Bouncer};
+ghost use Rattle.call_fs.specs.declared.program.Port.{Port};
+ghost use Rattle.queue_law.specs.Books.{Books, entered_in};
+ghost use Rattle.queue_law.specs.Ledgers.Line.{Routes};
+ghost use Rattle.queue_law.specs.Entered.{Child as Bouncer};
 ghost use Rattle.queue_paths.specs.Names.{is_number};
 ghost use Rattle.queue_inject.specs.declared.injection.Arguments.{Arguments};
 ghost use Rattle.script_fates.specs.Entering.{HasDue, booked_after, entered_of, heard_by};
 ghost use Rattle.script_fates.specs.Fates.{AreFates, no_books, spot_of};
-ghost use Rattle.script_fates.specs.Lasting.{lasts, is_channel, is_delivered, is_entered_so, is_spot};
+ghost use Rattle.script_fates.specs.Lasting.{lasts, is_channel, is_delivered, is_entered_so, is_spot, routes_by, routes_over};
 
+use crate::copying::{copied, unrouted};
 use actor_names::ActorName;
+use address_rules::Controls;
 use call_fs::{NeedData, Own, Port};
 use mail_bytes::{LAST_MOMENT, Memory};
 use send_core::Sender;
@@ -22,7 +28,7 @@ use std::collections::BTreeMap;
 use world_events::{got_of, number_by};
 
 /// Where the record of a recipient is.
-#[derive(Clone, Copy, Debug)]
+#[derive(Clone, Copy)]
 pub struct Spot {
     /// Its channel.
     pub channel: Channel,
@@ -39,6 +45,9 @@ pub struct Tenure {
     pub mail: ActorName,
     /// Its recipients of whom senders took reports that they were delivered to.
     pub delivered: Vec<Spot>,
+    /// The control files by which its recipients are routed: a copy of what the sender had read that last gave its todo command; none
+    /// before that.
+    pub routes: Controls,
 }
 
 /// The lives of messages by the events so far.
@@ -91,6 +100,32 @@ impl Fates {
             .any(|one| one.number == n && one.is_of(mail) && one.has(spot))
     }
 
+    /// By which control files the recipients of this mail are routed, whose message has or had this number: in its life that lasts, else
+    /// in the newest that is over.
+    pub fn routes(&self, n: u64, mail: &[u8]) -> Option<&Controls>
+        ensures { (books : Books) → AreFates self.now books → is_number n ≡ true → option_copied result ≡ routes_by books mail.now (Some n) }
+    {
+        match self.living.get(&n) {
+            Some(tenure) if tenure.is_of(mail) => Some(&tenure.routes),
+            _ => self.past_routes(n, mail),
+        }
+    }
+
+    /// The same, by the lives that are over.
+    fn past_routes(&self, n: u64, mail: &[u8]) -> Option<&Controls>
+        ensures { (books : Books) → AreFates self.now books → is_number n ≡ true → option_copied result ≡ routes_over mail.now n books.over }
+    {
+        let latest = self
+            .over
+            .iter()
+            .rev()
+            .find(|one| one.number == n && one.is_of(mail));
+        match latest {
+            Some(tenure) => Some(&tenure.routes),
+            None => None,
+        }
+    }
+
     /// Takes an event of the injector of this mail into account: if it linked the name of its message, that one's life begins.
     pub fn link(&mut self, alloc: Global, actor: &ActorName, own: &Own) -> Result<(), Memory>
         ensures { OnOk result ((books : Books) (args : Arguments) → AreFates self.old books
@@ -103,6 +138,7 @@ impl Fates {
             number,
             mail: actor.copy(),
             delivered: Vec::new(alloc),
+            routes: unrouted(alloc),
         };
         if let Some(before) = self.living.insert(number, tenure)? {
             self.over.push(before)?;
@@ -120,7 +156,34 @@ impl Fates {
         match &own.due {
             NeedData::Take(Port::Lspawn) => self.take_from(alloc, sender, own, Channel::Local),
             NeedData::Take(Port::Rspawn) => self.take_from(alloc, sender, own, Channel::Remote),
+            NeedData::Give(_, _) => self.give_by(alloc, sender, own),
             _ => go_on(alloc, sender, own),
+        }
+    }
+
+    /// The same, of a giving: that of a todo command routes the message, whatever came of it.
+    fn give_by(&mut self, alloc: Global, sender: &mut Sender, own: &Own) -> Result<(), Memory>
+        ensures stands { OnOk result ((past : List Own) → HasDue past own.now → Stands sender.old None past
+            → Stands sender.new None (own.now ∷ past)) }
+        ensures books { OnOk result ((child : Option Bouncer) (past : List Own) (books : Books) (port : Port) (bytes : List ℕ) → own.now.due ≡ Give port bytes
+            → HasDue past own.now → Stands sender.old None past → AreFates self.old books → AreFates self.new (heard_by child past own.now books)) }
+    {
+        sender.look(own.read.min(LAST_MOMENT), own.ready);
+        match sender.routing() {
+            Some(n) => {
+                self.route(n, copied(alloc, sender.controls())?);
+                go_on(alloc, sender, own)
+            }
+            None => go_on(alloc, sender, own),
+        }
+    }
+
+    /// Routes the message of this number by these controls, if it lives.
+    fn route(&mut self, n: u64, routes: Controls)
+        ensures { (books : Books) → AreFates self.old books → AreFates self.new (entered_in books n (Routes routes)) }
+    {
+        if let Some(tenure) = self.living.get_mut(&n) {
+            tenure.routes = routes;
         }
     }
 

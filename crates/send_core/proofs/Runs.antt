@@ -131,6 +131,7 @@ pub record WasOpened (past : List Own) (fd : Fd) (m : Marked) : Type 0 where
   pub fd_is : told.answer ≡ answer.Opened fd
   pub opens : IsOpened before name
   pub at : m.place ≡ opens.owed.task.place
+  pub names : name ≡ path (name_of (file_of m.channel m.n))
 
 -- what the past has of a mark at work, by its row and by the first mark of the channel
 abbrev pub Was : List Own → MarkRow → Option Mark → Marked → Writing → Type 0
@@ -282,6 +283,7 @@ opened_then turns event before row m told fd due is got fd_is fit =
       fd_is = fd_is;
       opens = it.0;
       at = it.1;
+      names = refl;
     }
 
 abbrev pub Kept : Option ℕ → List Own → Type 0
@@ -669,6 +671,31 @@ due_is turns past now ready run =
     let k : Kept turns past = keeps turns past run in
     is_due turns past (row_now d now ready) (arrives (Was past) (work past) (account Local past) (account Remote past) (frees past) d.row d now ready k.0) k.1 k.2
     (arrive_says (IsSaid past) (facts past) d now ready d.row (knows turns past run))
+
+-- The write of a mark, by its row
+
+-- its file was opened directly before
+pub write_opened : (turns : Option ℕ) (past : List Own) (now : ℕ) (ready : Ready) → IsRunBy (Next turns) past → (fd : Fd) (m : Marked)
+    → row_now (sender_after turns past) now ready ≡ at.Mark (mark.Write fd) m → WasOpened past fd m
+write_opened turns past now ready run fd m is =
+    let d : Desk = sender_after turns past in
+    let fit : FitAt (Was past) (work past) (account Local past) (account Remote past) (row_now d now ready) d =
+    arrives (Was past) (work past) (account Local past) (account Remote past) (frees past) d.row d now ready (keeps turns past run).0
+    in (subst (λ (r : Row). FitAt (Was past) (work past) (account Local past) (account Remote past) r d) is fit).1
+
+-- and nothing else is written over
+pub write_row : (turns : Option ℕ) (past : List Own) (now : ℕ) (ready : Ready) → IsRunBy (Next turns) past → (fd : Fd) (place : ℕ) (bytes : List ℕ)
+    → Next turns past now ready ≡ needs.File (call.WriteAt fd place bytes)
+    → (m : Marked) × (row_now (sender_after turns past) now ready ≡ at.Mark (mark.Write fd) m) × (place ≡ m.place)
+write_row turns past now ready run fd place bytes due =
+    let d : Desk = sender_after turns past in
+    let row : Row = row_now d now ready in
+    let fit : FitAt (Was past) (work past) (account Local past) (account Remote past) row d =
+    arrives (Was past) (work past) (account Local past) (account Remote past) (frees past) d.row d now ready (keeps turns past run).0 in
+    let Written : Fd → ℕ → List ℕ → Type 0 = λ f p b. (m : Marked) × (row ≡ at.Mark (mark.Write f) m) × (p ≡ m.place) in
+    subst (DueOf (λ c text. Unit {0}) (λ name. Unit {0}) (λ name. Unit {0}) Written) due
+    (row_due (λ c text. Unit {0}) (λ name. Unit {0}) (λ name. Unit {0}) Written row d (λ c e. tt) (λ m e. tt) (λ f m e. (m, e, refl)) (λ m e. tt)
+    (λ m e. has_begun (Was past) (work past) (account Local past) (account Remote past) row m d fit e))
 
 -- After the open of a mark its write is due
 

@@ -18,7 +18,7 @@ use Rattle.send_core.specs.Desk.{link, told, with_reader}
 use Rattle.send_jobs.specs.declared.attempts.Attempt.{Attempt}
 use Rattle.send_known.specs.declared.channel.Channel.{Channel}
 use Rattle.send_jobs.specs.Bookings.{Booking}
-use Rattle.send_jobs.specs.Bookings.Booking.{Dropped, Noted, ReadNotes, Reported, Returned}
+use Rattle.send_jobs.specs.Bookings.Booking.{Dropped, Noted, Overwritten, ReadNotes, Reported, Returned, Routed}
 use Rattle.send_jobs.specs.Failures.{is_final}
 use Rattle.send_jobs.specs.Sending.{lane}
 use Rattle.send_jobs.specs.Slots.{attempt_in}
@@ -28,6 +28,8 @@ use Rattle.send_parts.specs.declared.rows.FinishRow.{FinishRow}
 use Rattle.send_parts.specs.declared.rows.FinishRow.TheVariants as finish
 use Rattle.send_parts.specs.Replies.{said}
 use Rattle.spawn_protocol.specs.declared.report.Report.{Report}
+use Rattle.todo_pass.specs.declared.row.Row.{Row as PassRow}
+use Rattle.todo_pass.specs.declared.row.Row.TheVariants as todo
 use Rattle.spawn_protocol.specs.Report.{counted, read_on}
 
 -- Reports
@@ -71,9 +73,27 @@ abbrev pub noted_at : NoteRow → Marked → GotData → List Booking
 noted_at (written.Sync fd) m got = if_done got (Noted m.channel m.n m.place)
 noted_at row m got = []
 
+-- and an overwriting of a record, whatever the answer: one that failed may have written its byte
 abbrev pub marked_at : MarkRow → Marked → NoteRow → GotData → List Booking
 marked_at mark.Noting m row got = noted_at row m got
+marked_at (mark.Write fd) m row got = Overwritten m.channel m.n m.place ∷ []
 marked_at other m row got = []
+
+-- Routes
+
+-- the command that ends a todo pass, whatever came of giving it: the cleaner may have all of one that failed
+abbrev pub routed_at : PassRow → ℕ → List Booking
+routed_at todo.Give n = Routed n ∷ []
+routed_at row n = []
+
+-- the message whose command that is
+abbrev pub routing_by : PassRow → ℕ → Option ℕ
+routing_by todo.Give n = Some n
+routing_by row n = None
+
+abbrev pub routing_at : Row → Desk → Option ℕ
+routing_at at.InTodo d = routing_by d.pass.row d.pass.n
+routing_at row d = None
 
 -- Returns
 
@@ -97,5 +117,6 @@ finished_at other n row notes got = []
 abbrev pub booked_at : Row → GotData → Desk → List Booking
 booked_at (at.TakeLink c) got d = reported_when (said got).way c (said got).bytes d
 booked_at (at.Mark row m) got d = marked_at row m d.note.row got
+booked_at at.InTodo got d = routed_at d.pass.row d.pass.n
 booked_at (at.Finish row n) got d = finished_at row n d.bounce.row d.bounce.notes got
 booked_at row got d = []

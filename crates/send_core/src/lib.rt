@@ -42,7 +42,8 @@
 //!   The law: `lanes_are_accounts`, by `Agrees` (`specs/Agrees.antt`).
 //! - What a world asks a sender beside its need: whether its next step is the search of `todo` in a turn in which
 //!   it has done nothing else; and whether it stands between two turns or has ended. Also which marks are to be
-//!   made. Contracts: `Sender::{is_searching, is_between, marks}`.
+//!   made, what it has read of the control files, and whose todo command it gives next. Contracts: `Sender::{is_searching,
+//!   is_between, marks, controls, routing}`.
 #![tactic(auto)]
 
 mod act;

@@ -4,6 +4,7 @@ ghost use Rattle.call_fs.specs.declared.past.Own.{Own};
 ghost use Rattle.call_fs.specs.Program.{due_of, came_of};
 ghost use Rattle.mail_bytes.specs.Moments.{IsMoment};
 ghost use Rattle.send_jobs.specs.Sending.{lane};
+ghost use Rattle.send_core.specs.Booked.{routing_at, routing_by};
 ghost use Rattle.send_core.specs.Log.{log_since};
 ghost use Rattle.send_core.specs.Stands.{Logs, Stands, due_now, gone_on, is_between, is_search, looked_at, row_of};
 ghost use Rattle.send_core.specs.Table.{Next, begun, due_at, takes_memory};
@@ -12,7 +13,7 @@ use crate::act::go_on;
 use crate::arrive::row_now;
 use crate::steps::words_of;
 use crate::{Desk, MarkRow, Point, Row};
-use address_rules::ControlFile;
+use address_rules::{ControlFile, Controls};
 use bounce_record::{BounceSender, NoteWriter};
 use call_fs::{Got, Need, Ready};
 use mail_bytes::{Memory, NameBuf};
@@ -22,7 +23,7 @@ use send_log::Log;
 use send_parts::{Book, FinishRow, NamedStep, Reading, StartRow, step_of};
 use std::alloc::Global;
 use std::marker::Model;
-use todo_pass::Pass;
+use todo_pass::{Pass, Row as PassRow};
 
 /// The sender: the program that preprocesses what is queued, has each recipient delivered to, marks who is done, tries again by
 /// the schedule, and has the cleaner remove what is finished, as a machine.
@@ -150,6 +151,24 @@ impl Sender {
         matches!(self.desk.row, Row::Turn(Point::TakeLocal) | Row::Ended(_))
     }
 
+    /// The control files as it has read them; before that those of an empty directory. Takes no memory.
+    pub fn controls(&self) -> &Controls
+        ensures { result.now ≡ self.now.desk.book.controls }
+    {
+        &self.desk.book.controls
+    }
+
+    /// The number of the message whose todo command it gives next, if it gives one. The condition: it has looked.
+    pub fn routing(&self) -> Option<u64>
+        requires { IsTrue self.now.looked }
+        ensures { result ≡ routing_at (row_of self.now) self.now.desk }
+    {
+        match self.row {
+            Row::InTodo => routing(&self.desk.pass),
+            _ => None,
+        }
+    }
+
     /// The marks that are to be made on a channel, in order: those of the reports that were taken and not acted
     /// upon yet, each with what is noted before it.
     pub fn marks(&self, channel: Channel) -> &Marks
@@ -192,6 +211,16 @@ impl Sender {
         )?;
         self.looked = false;
         Ok(())
+    }
+}
+
+/// The number of the message of a pass, if that gives the todo command next.
+fn routing(pass: &Pass) -> Option<u64>
+    ensures { result ≡ routing_by pass.now.row pass.now.n }
+{
+    match pass.row() {
+        PassRow::Give => Some(pass.number()),
+        _ => None,
     }
 }
 

@@ -6,7 +6,7 @@ use mail_bytes::ByteText;
 use spawn_protocol::Report;
 
 /// An attempt at a recipient of a message.
-#[derive(Debug, Drop)]
+#[derive(Drop)]
 pub struct Attempt {
     /// The number of the message.
     pub n: u64,
@@ -21,7 +21,7 @@ pub struct Attempt {
 }
 
 /// What a note says of a recipient that couldn't be delivered to.
-#[derive(Debug, Drop)]
+#[derive(Drop)]
 pub struct Failure {
     /// The text of the report, as it was taken.
     pub report: ByteText,
@@ -30,7 +30,7 @@ pub struct Failure {
 }
 
 /// A mark that is to be made: a report has come, and the record of its attempt is to become `D`.
-#[derive(Debug, Drop)]
+#[derive(Drop)]
 pub struct Mark {
     /// The attempt that was reported.
     pub attempt: Attempt,

@@ -7,7 +7,7 @@ use std::alloc::Global;
 use std::marker::Model;
 
 /// A pass over a channel file, from its begin until each of its places was settled.
-#[derive(Clone, Copy, Debug, PartialEq, Eq)]
+#[derive(Clone, Copy, PartialEq, Eq)]
 pub struct Job {
     /// The number of the message.
     pub n: u64,
@@ -18,7 +18,7 @@ pub struct Job {
 }
 
 /// The jobs of a channel, at most one a message; contracts see their list.
-#[derive(Debug, Drop)]
+#[derive(Drop)]
 pub struct Jobs {
     jobs: Vec<Job>,
 }

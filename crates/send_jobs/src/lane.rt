@@ -10,7 +10,7 @@ use mail_bytes::Memory;
 use std::alloc::Global;
 
 /// What the sender keeps of a channel.
-#[derive(Debug, Drop)]
+#[derive(Drop)]
 pub struct Lane {
     /// What the open pass has still to give.
     pub left: Left,

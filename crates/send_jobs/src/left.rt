@@ -13,7 +13,7 @@ use std::marker::Model;
 
 /// The attempts that the open pass of a channel has still to make, in order; contracts see their list. The pass is open as
 /// long as there is one.
-#[derive(Debug, Drop)]
+#[derive(Drop)]
 pub struct Left {
     attempts: VecDeque<Attempt>,
 }

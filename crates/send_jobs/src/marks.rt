@@ -13,7 +13,7 @@ use std::marker::Model;
 
 /// The marks that are to be made, in the order in which their reports came; contracts see their list. There is always room
 /// for as many as a channel has slots.
-#[derive(Debug, Drop)]
+#[derive(Drop)]
 pub struct Marks {
     marks: VecDeque<Mark>,
 }

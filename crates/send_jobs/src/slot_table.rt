@@ -11,7 +11,7 @@ use std::alloc::Global;
 use std::marker::Model;
 
 /// The slots of a channel; contracts see the list of what each has in flight.
-#[derive(Debug, Drop)]
+#[derive(Drop)]
 pub struct SlotTable {
     slots: Vec<Option<Attempt>>,
 }

@@ -18,7 +18,7 @@ pub struct OutOfRange(pub u8);
 
 /// What the sender has out on both channels: its attempts in flight, what the open pass of each has still to give, the
 /// marks that are to be made, and the jobs. Only `new` and `begin_pass` take memory.
-#[derive(Debug, Drop)]
+#[derive(Drop)]
 pub struct Slots {
     local: Lane,
     remote: Lane,

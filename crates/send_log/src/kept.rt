@@ -11,7 +11,7 @@ use std::marker::Model;
 
 /// Lines of the log that haven't been written yet, with room for so many bytes of more lines. Room is made before the sender
 /// acts, so that putting in the lines of what it did takes no memory; contracts see the text and the room.
-#[derive(Debug, Drop)]
+#[derive(Drop)]
 pub struct Log {
     text: Vec<u8>,
     room: usize,

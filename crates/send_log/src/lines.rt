@@ -6,7 +6,7 @@ ghost use Rattle.send_log.specs.Lines.{address_of, channel_of, line_room, outcom
 pub const LINE_ROOM: usize = 120;
 
 /// What came of a delivery, as the log tells it.
-#[derive(Clone, Copy, Debug)]
+#[derive(Clone, Copy)]
 pub enum Outcome {
     /// The message was delivered.
     Success,
@@ -44,7 +44,7 @@ impl Outcome {
 }
 
 /// Where a delivery goes: a recipient, as its channel file has it.
-#[derive(Clone, Copy, Debug)]
+#[derive(Clone, Copy)]
 pub enum Target<'a> {
     /// By qmail-lspawn(8).
     Local(&'a [u8]),
@@ -75,7 +75,7 @@ impl Target<'_> {
 }
 
 /// How many deliveries of a channel are in flight, and how many may be.
-#[derive(Clone, Copy, Debug)]
+#[derive(Clone, Copy)]
 pub struct Load {
     /// How many are in flight.
     pub busy: u8,
@@ -85,7 +85,7 @@ pub struct Load {
 
 /// A line of the sender's log, which borrows the addresses and reports that it shows. In these a newline is shown as `/`, and
 /// each other byte below 33 or above 126, and `%`, as `_`.
-#[derive(Clone, Copy, Debug)]
+#[derive(Clone, Copy)]
 pub enum Line<'a> {
     /// `new msg N`: a message was preprocessed.
     NewMessage {

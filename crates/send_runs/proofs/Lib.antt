@@ -8,6 +8,8 @@ pub mod Rising
 pub mod Known
 -- the reports that a sender takes
 pub mod Reports
+-- what a sender enters, by its row
+pub mod Entries
 -- what is in flight
 pub mod Flights
 -- what rows leave of the slots

@@ -27,7 +27,7 @@ use Rattle.send_core.proofs.Lists.{in_range, news_are, slots_put}
 use Rattle.send_core.proofs.Runs.{Was, frees, keeps}
 use Rattle.send_core.proofs.Standing.{FitAt, InStart, arrives}
 use Rattle.send_core.specs.Agrees.{task_of}
-use Rattle.send_core.specs.Booked.{booked_at, finished_at, if_done, if_ok, if_zero, marked_at, noted_at, reported_all, reported_by, reported_if, reported_in, returned_at}
+use Rattle.send_core.specs.Booked.{booked_at, finished_at, if_done, if_ok, if_zero, marked_at, noted_at, reported_all, reported_by, reported_if, reported_in, returned_at, routed_at}
 use Rattle.send_core.specs.Desk.{deferred, failure_in, is_final, retried_if, settle as settle_desk, told, told_by, waits, with_reader}
 use Rattle.send_core.specs.Past.{Account, Work, account, news, settle, settle_all, settle_by, work, Task}
 use Rattle.send_core.specs.Table.{Next, place_after as sender_after, due_at, row_now}
@@ -177,7 +177,7 @@ module _ (al ar : Account) where
   finish_says finish.Return n got d = return_says d.bounce.row d.bounce n d.bounce.notes got
   finish_says row n got d = refl
 
-  pass_says : (row : PassRow) (p : Pass) (got : GotData) → [] ≡ Said (pass_table.due_at row p) got
+  pass_says : (row : PassRow) (p : Pass) (got : GotData) → filter is_report (routed_at row p.n) ≡ Said (pass_table.due_at row p) got
   pass_says todo.Answer p got = refl
   pass_says row p got = refl
 

@@ -15,7 +15,7 @@ use Rattle.send_core.specs.Table.{Next, place_after, port_of, row_now}
 use Rattle.send_known.specs.declared.channel.Channel.{Channel}
 use Rattle.send_known.specs.declared.channel.Channel.TheVariants.{Local, Remote}
 use Rattle.send_jobs.specs.Bookings.{Booking}
-use Rattle.send_jobs.specs.Bookings.Booking.{Dropped, Noted, ReadNotes, Reported, Returned}
+use Rattle.send_jobs.specs.Bookings.Booking.{Dropped, Noted, Overwritten, ReadNotes, Reported, Returned, Routed}
 use Rattle.send_jobs.specs.Failures.{is_final}
 use Rattle.spawn_protocol.specs.declared.report.Report.{Report}
 use Rattle.spawn_protocol.specs.Report.{counted}
@@ -65,7 +65,9 @@ said_at c past event = said_by c (reports_at c past event) (account c past)
 
 abbrev pub is_report : Booking → Bool
 is_report (Reported delivered c n place) = true
+is_report (Routed n) = false
 is_report (Noted c n place) = false
+is_report (Overwritten c n place) = false
 is_report (ReadNotes n notes) = false
 is_report (Returned n) = false
 is_report (Dropped n) = false

@@ -30,14 +30,14 @@ free : (n : ℕ) (l : Lane) → l.left ≡ [] → is_in_flight n l ≡ false →
 free n l bare none = ap (λ (left : List Attempt). is_none (slice_get left 0) && (not (is_on n (slice_get left 0)) && not (is_in_flight n l))) bare ∙ ap not none
 
 pub passes_begin_alone : PassesBeginAlone
-passes_begin_alone controls d h are legal a x start is alive program c n begun fd there =
+passes_begin_alone d h legal a x start is alive program c n begun fd there =
     let s : State = after d h in
-    let I = always controls d h are legal in
+    let I = always d h legal in
     let q = queue s I.role in
     let row : Row = at.ReadFile c n begun (Closing fd) in
     let run : IsRunBy (Next None) x.past = subst (λ (p : Program). IsRunBy (next_of p) x.past) program (have_run d h legal a x is) in
     let fit : FitAt (Was x.past) (work x.past) (account Local x.past) (account Remote x.past) row (desk_of x.past) =
     subst (λ (r : Row). FitAt (Was x.past) (work x.past) (account Local x.past) (account Remote x.past) r (desk_of x.past)) there (keeps None x.past run).0 in
-    let st : StandsAt controls s.now q a row (desk_of x.past) =
-    subst (λ (r : Row). StandsAt controls s.now q a r (desk_of x.past)) there (sender_fares controls s.now q a x.program x.past x.life start program alive (I.fares a x is)).stands in
+    let st : StandsAt s.now q a row (desk_of x.past) =
+    subst (λ (r : Row). StandsAt s.now q a r (desk_of x.past)) there (sender_fares s.now q a x.program x.past x.life start program alive (I.fares a x is)).stands in
     free n (lane c (desk_of x.past).slots) fit.1 (none_flies q (first_at row c) c n (lane c (desk_of x.past).slots) (st.lanes c).tied st.rests.1.0)

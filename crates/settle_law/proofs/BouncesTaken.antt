@@ -1,7 +1,8 @@
 -- Where nothing fails the injector of each bounce whose status a sender took had ended with 0.
+use Rattle.address_rules.specs.Nuls.{HaveNoNul}
+use Rattle.queue_law.specs.Ledgers.{NotesRead}
 use Rattle.std.proofs.Common.{◌≡◌, ◌⊎◌, inl, inr, ⊎_elim, ℕ, List, true, false, Option, Some, None, refl, sym, ap, ◌∙◌, subst, bytes_eq, codes}
 use Rattle.std.proofs.lemmas.Bool.{false≢true}
-use Rattle.address_rules.specs.declared.controls.Controls.{Controls}
 use Rattle.bounce_record.specs.declared.return_row.ReturnRow.{ReturnRow}
 use Rattle.call_fs.specs.Past.{IsRunBy}
 use Rattle.call_fs.specs.declared.past.GotData.{GotData}
@@ -12,7 +13,7 @@ use Rattle.call_fs.specs.declared.past.Own.{Own}
 use Rattle.call_fs.specs.declared.program.Port.TheVariants as port
 use Rattle.queue_inject.specs.declared.injection.Arguments.{Arguments}
 use Rattle.queue_inject.specs.Causes.{first_fault}
-use Rattle.queue_law.specs.Books.{Child as Bouncer, notes_read}
+use Rattle.queue_law.specs.Entered.{Child as Bouncer, notes_read}
 use Rattle.queue_law.specs.Numbers.{Queue, about}
 use Rattle.send_core.specs.declared.desk.Desk.{Desk}
 use Rattle.send_parts.specs.declared.row.Row.{Row}
@@ -69,7 +70,7 @@ status_by args Stopped got fault fine is = absurd fine
 
 -- An event of a sender
 
-module _ (controls : Controls) (s : State) (I : Inv controls s) (F : AllFine s.actors) (a : List ℕ) (own : Own) (wrote : ℕ) (may : MayDo s a own wrote) (start : ℕ) (is : may.actor.program ≡ Sender start)
+module _ (s : State) (I : Inv s) (F : AllFine s.actors) (a : List ℕ) (own : Own) (wrote : ℕ) (may : MayDo s a own wrote) (start : ℕ) (is : may.actor.program ≡ Sender start)
     (run : IsRunBy (Next None) may.actor.past) where
   abbrev q : Queue
   q = queue s I.role
@@ -92,27 +93,25 @@ module _ (controls : Controls) (s : State) (I : Inv controls s) (F : AllFine s.a
       ∙ ap (λ (p : Program). Some (record { program = p; past = past; life = may.actor.life })) is
       ∙ ap (λ (l : Life). Some (record { program = Sender start; past = past; life = l })) may.reads.alive
 
-  stands_so : StandsAt controls s.now q (codes "sender") row d
-  stands_so = subst (λ (b : List ℕ). StandsAt controls s.now q b row d) named (stands controls s I a own wrote may start is)
+  stands_so : StandsAt s.now q (codes "sender") row d
+  stands_so = subst (λ (b : List ℕ). StandsAt s.now q b row d) named (stands s I a own wrote may start is)
 
   -- as it takes the status of its child
   module _ (w : StatusAt row d) where
-    here : StandsAt controls s.now q (codes "sender") (at.Finish finish.Return w.n) d
-    here = subst (λ (r : Row). StandsAt controls s.now q (codes "sender") r d) w.row_is stands_so
+    here : StandsAt s.now q (codes "sender") (at.Finish finish.Return w.n) d
+    here = subst (λ (r : Row). StandsAt s.now q (codes "sender") r d) w.row_is stands_so
 
     stood : d.row ≡ at.Finish finish.Return w.n
     stood = return_arrived d.row d own.read own.ready w.n w.row_is
 
-    short : AreShort controls
-    short =
-        let read_them : HasControls d.row = subst HasControls (sym stood) tt in
-        subst AreShort (here.controls_are tt) (known_short past run read_them)
+    short : AreShort d.book.controls
+    short = known_short past run (subst HasControls (sym stood) tt)
 
-    returns : ReturnStands controls q (codes "sender") w.n d.book.messages.known d.bounce
+    returns : ReturnStands d.book.controls q (codes "sender") w.n d.book.messages.known d.bounce
     returns = here.rests.1
 
-    held : HasMade controls (about q w.n) (sender_of w.n d.book.messages.known) d.bounce.input
-    held = subst (λ (r : ReturnRow). ReturnHolds controls q (codes "sender") r d.bounce w.n (sender_of w.n d.book.messages.known)) w.awaits returns.holds
+    held : HasMade d.book.controls (about q w.n) (sender_of w.n d.book.messages.known) d.bounce.input
+    held = subst (λ (r : ReturnRow). ReturnHolds d.book.controls q (codes "sender") r d.bounce w.n (sender_of w.n d.book.messages.known)) w.awaits returns.holds
 
     taken : IsStatusTaken row (came.Ended 0) d
     taken = record {
@@ -124,9 +123,16 @@ module _ (controls : Controls) (s : State) (I : Inv controls s) (F : AllFine s.a
       alone = ap (λ (r : Row). booked_at r (came.Ended 0) d) w.row_is ∙ ap (λ (r : ReturnRow). returned_at r w.n d.bounce.notes (came.Ended 0)) w.awaits;
     }
 
-    carries : (c : Bouncer) → bouncer_of s (codes "sender") ≡ Some c → IsBounceOf controls held.read.injection.args (notes_read (s.books.living w.n)) c.args
+    -- what was read last of its bounce file, which is what this sender read
+    abbrev read_last : NotesRead
+    read_last = notes_read (s.books.living w.n)
+
+    by_it : read_last.by ≡ d.book.controls
+    by_it = ap (λ (it : NotesRead). it.by) (ap notes_read held.read.lives ∙ held.read.last)
+
+    carries : (c : Bouncer) → bouncer_of s (codes "sender") ≡ Some c → HaveNoNul read_last.by × IsBounceOf read_last.by held.read.injection.args read_last.notes c.args
     unfolding taken
-    carries c has = carried controls s I start past there own.read own.ready (came.Ended 0) stands_so taken c has held.read.injection held.read.lives
+    carries c has = carried s I start past there own.read own.ready (came.Ended 0) stands_so taken c has held.read.injection held.read.lives
 
     tenant_zero : (slot : ℕ) (got : GotData) (o : Option Tenant) → s.pipework.programs (codes "sender") slot ≡ o → TenantEnds s o got → got ≡ came.Ended 0
     tenant_zero slot got (Some (Runs b)) e ends =
@@ -134,7 +140,8 @@ module _ (controls : Controls) (s : State) (I : Inv controls s) (F : AllFine s.a
         let c : IsBouncer s slot b = is_bouncer s (codes "sender") slot b refl h (I.crew (codes "sender") h.bearer h.bearer_is) in
         let has : bouncer_of s (codes "sender") ≡ Some (record { actor = b; args = c.args }) =
         ap (bouncer_in s.actors) (ap (s.pipework.programs (codes "sender")) (sym c.slot_is) ∙ e) ∙ ap (bouncer_at b) c.is ∙ ap (bouncing b) c.program_is in
-        let fault = bounce_fault controls I.control.no_nul short held.read.injection.args (notes_read (s.books.living w.n)) c.args (carries (record { actor = b; args = c.args }) has) in
+        let it = carries (record { actor = b; args = c.args }) has in
+        let fault = bounce_fault read_last.by it.0 (subst AreShort (sym by_it) short) held.read.injection.args read_last.notes c.args it.1 in
         let fine : EndsFine c.args c.actor.life = over_fine c.actor.program c.actor.past c.actor.life c.args c.program_is (F b c.actor c.is) in
         let same : ends.0 ≡ c.actor = some_actor ends.0 c.actor (sym ends.1 ∙ c.is) in
         status_by c.args c.actor.life got fault fine (subst (λ (z : Actor). IsStatusOf z.life got) same ends.2)
@@ -152,15 +159,15 @@ module _ (controls : Controls) (s : State) (I : Inv controls s) (F : AllFine s.a
 
   pub taken_zero : came_well own.came ≡ true → (slot : ℕ) → own.due ≡ needs.Take (port.Status slot) → own.came ≡ came.Ended 0
   taken_zero well slot e =
-      let w : StatusAt row d = status_at d row slot (due controls s I a own wrote may start is ∙ e) in
+      let w : StatusAt row d = status_at d row slot (due s I a own wrote may start is ∙ e) in
       status_zero w slot own.came (subst (λ (n : NeedData). ComesOf s (codes "sender") n own.came wrote) e (subst (λ (b : List ℕ). ComesOf s b own.due own.came wrote) named may.came)) well
 
 no_status : (own : Own) (parent : List ℕ) (s : State) (b : List ℕ) (program : Program) (may : MayBear s parent own b program) (slot : ℕ) → own.due ≡ needs.Take (port.Status slot) → own.came ≡ came.Ended 0
 no_status own parent s b program may slot e = let both : needs.Start may.asked ≡ needs.Take (port.Status slot) = sym may.starts ∙ e in absurd (cc)
 
 pub bounces_end : BouncesAreTaken
-bounces_end controls d h g a x start is program =
-    sender_pasts controls goes_well (λ s. AllFine s.actors) BouncesEnd tt
-    (λ s I F b own wrote may began sends well ran held. (held, taken_zero controls s I F b own wrote may began sends ran well))
+bounces_end d h g a x start is program =
+    sender_pasts goes_well (λ s. AllFine s.actors) BouncesEnd tt
+    (λ s I F b own wrote may began sends well ran held. (held, taken_zero s I F b own wrote may began sends ran well))
     (λ s I F b own c born may began sends ran held. (held, no_status own b s c born may))
-    d g.are (all_fine controls d g.are) h g.legal g.well a x is start program
+    d (all_fine d) h g.legal g.well a x is start program

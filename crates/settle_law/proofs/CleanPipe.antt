@@ -2,7 +2,6 @@
 use Rattle.std.proofs.Common.{◌≡◌, ◌≢◌, ⊎_elim, ℕ, List, [], ◌∷◌, take, Bool, true, false, if◌then◌else◌, Option, Some, None, refl, sym, ap, ◌∙◌, subst, bytes_eq, codes}
 use Rattle.std.specs.List.{list_all}
 use Rattle.std.proofs.lemmas.Bool.{and_parts}
-use Rattle.address_rules.specs.declared.controls.Controls.{Controls}
 use Rattle.call_fs.specs.Disk.{Disk}
 use Rattle.call_fs.specs.Maps.{put_at}
 use Rattle.call_fs.proofs.Maps.{put_at_cases, put_at_same}
@@ -178,9 +177,9 @@ event_open (Stop a) s U may well served = absurd (cc)
 event_open (Moment m) s U may well served = λ it. U (record { actor = it.actor; is = it.is; alive = it.alive; sends = it.sends })
 event_open (Halt how contents) s U may well served = absurd (cc)
 
-pub open_always : (controls : Controls) (d : Disk) (h : List Event) → GoesWell controls d h → IsOpen (after d h)
-open_always controls d [] g = λ it. refl
-open_always controls d (e ∷ h) g =
+pub open_always : (d : Disk) (h : List Event) → GoesWell d h → IsOpen (after d h)
+open_always d [] g = λ it. refl
+open_always d (e ∷ h) g =
     let parts = and_parts (goes_well e) (list_all goes_well h) g.well in
-    let before : GoesWell controls d h = record { are = g.are; local = g.local; remote = g.remote; legal = g.legal.0; well = parts.1 } in
-    event_open e (after d h) (open_always controls d h before) g.legal.1 parts.0 (λ it. servants_live controls d (e ∷ h) g Cleans it.actor it.is it.alive it.sends)
+    let before : GoesWell d h = record { legal = g.legal.0; well = parts.1 } in
+    event_open e (after d h) (open_always d h before) g.legal.1 parts.0 (λ it. servants_live d (e ∷ h) g Cleans it.actor it.is it.alive it.sends)

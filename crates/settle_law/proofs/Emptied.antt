@@ -3,7 +3,6 @@ use Rattle.std.proofs.Common.{◌≡◌, ⊎_elim, ℕ, List, ◌∷◌, ◌++�
 use Rattle.std.specs.Prelude.{IsSome, is_some}
 use Rattle.std.proofs.lemmas.Bool.{and_from}
 use Rattle.std.proofs.lemmas.List.Elements.{All-contains}
-use Rattle.address_rules.specs.declared.controls.Controls.{Controls}
 use Rattle.call_fs.specs.Disk.{Disk}
 use Rattle.call_fs.specs.Past.{IsRunBy}
 use Rattle.call_fs.specs.declared.calls.CallData.TheVariants as call
@@ -66,7 +65,7 @@ has_so Remote k past both e = sym both.1 ∙ e
 none_some : {A : Type 0} (o : Option A) → o ≡ None → IsSome o → ⊥
 none_some {A = A} o none some = absurd (cc (sym (ap (λ (p : Option A). is_some p) none) ∙ some))
 
-module _ (controls : Controls) (d : Disk) (later : List Deed) (first : Deed) (before : List Deed) (rest : IsRest controls d later first before) (all : AllSucceed (history_of (later ++ first ∷ before))) where
+module _ (d : Disk) (later : List Deed) (first : Deed) (before : List Deed) (rest : IsRest d later first before) (all : AllSucceed (history_of (later ++ first ∷ before))) where
   abbrev x : Actor
   x = rest.turn.sender
 
@@ -118,8 +117,8 @@ module _ (controls : Controls) (d : Disk) (later : List Deed) (first : Deed) (be
     untried : (c : Channel) (n : ℕ) → tried_at y.past c n ≡ true → ⊥
     untried c n t =
         none_some (job_of n (lane c (desk_of y.past).slots).jobs) (no_job c n)
-        (tried_are_at_work controls d (history_of (later ++ first ∷ before)) rest.well (codes "sender") y sends.0 is_now sends.1
-        (reports_succeed controls d (history_of (later ++ first ∷ before)) rest.well all y sends.0 is_now sends.1) c n t)
+        (tried_are_at_work d (history_of (later ++ first ∷ before)) rest.well (codes "sender") y sends.0 is_now sends.1
+        (reports_succeed d (history_of (later ++ first ∷ before)) rest.well all y sends.0 is_now sends.1) c n t)
 
     waits_not : (n : ℕ) → WaitsForRetry (after d (later ++ first ∷ before)) y.past n → ⊥
     waits_not n w = by (has_file w.channel know.0) refl
@@ -149,6 +148,6 @@ module _ (controls : Controls) (d : Disk) (later : List Deed) (first : Deed) (be
         (suffices (after d (later ++ first ∷ before)) y.past ready h n)
 
 pub rests_are_empty_by : RestsHold → RestsAreEmpty
-rests_are_empty_by hold controls d later first before rest all =
-    let h = hold controls d later first before rest (turned.y d later first before rest.turn) (turned.is_now d later first before rest.turn) in
-    all_gone controls d later first before rest all h.0 h.1
+rests_are_empty_by hold d later first before rest all =
+    let h = hold d later first before rest (turned.y d later first before rest.turn) (turned.is_now d later first before rest.turn) in
+    all_gone d later first before rest all h.0 h.1

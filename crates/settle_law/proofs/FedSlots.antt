@@ -4,7 +4,6 @@ use Rattle.std.specs.List.{list_all}
 use Rattle.std.specs.Prelude.{Contains}
 use Rattle.std.proofs.lemmas.Bool.{and_parts, eq-eqb}
 use Rattle.actor_names.specs.MailNames.{members}
-use Rattle.address_rules.specs.declared.controls.Controls.{Controls}
 use Rattle.bounce_record.specs.Returning.{Returning, moved_at as return_moved_at}
 use Rattle.bounce_record.specs.declared.return_row.ReturnRow.{ReturnRow}
 use Rattle.bounce_record.specs.declared.return_row.ReturnRow.TheVariants as back
@@ -22,7 +21,6 @@ use Rattle.call_fs.specs.declared.past.Own.{Own}
 use Rattle.call_fs.specs.declared.program.Port.TheVariants as port
 use Rattle.call_fs.specs.declared.program.Ready.{Ready}
 use Rattle.program_law.proofs.Sender.Programs.{starts_of}
-use Rattle.program_law.specs.Sender.Control.{AreControls}
 use Rattle.queue_law.proofs.Tests.{same_text}
 use Rattle.send_core.specs.Desk.{ready}
 use Rattle.send_core.specs.Finish.{finish_at, returned_to}
@@ -161,8 +159,8 @@ module _ (s : State) (F : AreFed s.actors s.pipework) (a : List ℕ) (own : Own)
 
 -- The start of a child
 
-module _ (controls : Controls) (s : State) (F : AreFed s.actors s.pipework) (parent : List ℕ) (own : Own) (a : List ℕ) (program : Program) (may : MayBear s parent own a program)
-    (run : IsRunBy (next_of may.actor.program) (own ∷ may.actor.past)) (J : Inv controls (bears (acted s parent own 0 (Some may.actor)) parent own a program)) where
+module _ (s : State) (F : AreFed s.actors s.pipework) (parent : List ℕ) (own : Own) (a : List ℕ) (program : Program) (may : MayBear s parent own a program)
+    (run : IsRunBy (next_of may.actor.program) (own ∷ may.actor.past)) (J : Inv (bears (acted s parent own 0 (Some may.actor)) parent own a program)) where
   abbrev bearer : Actor
   bearer = record { program = may.actor.program; past = own ∷ may.actor.past; life = may.actor.life }
 
@@ -338,29 +336,29 @@ start_fed s F a program new b slot at_it =
 abbrev FedIn : State → Type 0
 FedIn s = AreFed s.actors s.pipework
 
-event_fed : (e : Event) (controls : Controls) (s : State) → HaveRun s.actors → Inv controls (happens s e) → FedIn s → Allowed s e → goes_well e ≡ true → FedIn (happens s e)
-event_fed (Start a program) controls s R J F may well = start_fed s F a program may.new
-event_fed (Act a own wrote) controls s R J F may well =
+event_fed : (e : Event) (s : State) → HaveRun s.actors → Inv (happens s e) → FedIn s → Allowed s e → goes_well e ≡ true → FedIn (happens s e)
+event_fed (Start a program) s R J F may well = start_fed s F a program may.new
+event_fed (Act a own wrote) s R J F may well =
     subst (λ (o : Option Actor). FedIn (acted s a own wrote o)) (sym may.reads.is)
     (acted_fed s F a own wrote may.actor may.reads.is may.reads.alive may.due (may_come s a own.due own.came wrote may.came) well)
-event_fed (Child parent own a program) controls s R J F may well =
+event_fed (Child parent own a program) s R J F may well =
     subst (λ (o : Option Actor). FedIn (bears (acted s parent own 0 o) parent own a program)) (sym may.reads.is)
-    (child_fed controls s F parent own a program may (R parent may.actor may.reads.is, (may.due, born_comes s parent own a program may))
-    (subst (λ (o : Option Actor). Inv controls (bears (acted s parent own 0 o) parent own a program)) may.reads.is J))
-event_fed (Generation (sender ∷ clean ∷ lspawn ∷ rspawn ∷ [])) controls s R J F may well = generation_fed s F sender clean lspawn rspawn may
-event_fed (Generation crew) controls s R J F may well = absurd (are_four crew may.kinds)
-event_fed (Report slot output) controls s R J F may well = report_fed s F slot output may.runs
-event_fed (End a read found status) controls s R J F may well =
+    (child_fed s F parent own a program may (R parent may.actor may.reads.is, (may.due, born_comes s parent own a program may))
+    (subst (λ (o : Option Actor). Inv (bears (acted s parent own 0 o) parent own a program)) may.reads.is J))
+event_fed (Generation (sender ∷ clean ∷ lspawn ∷ rspawn ∷ [])) s R J F may well = generation_fed s F sender clean lspawn rspawn may
+event_fed (Generation crew) s R J F may well = absurd (are_four crew may.kinds)
+event_fed (Report slot output) s R J F may well = report_fed s F slot output may.runs
+event_fed (End a read found status) s R J F may well =
     subst (λ (o : Option Actor). FedIn (finished s a (Over status) o)) (sym may.reads.is)
     (end_fed s F a may.actor (Over status) may.reads.is (λ d feeds. let f = feeds read found in
     let both : needs.Ended status ≡ needs.Give (port.Program d) f.0 = sym may.due ∙ f.1 in absurd (cc)))
-event_fed (Stop a) controls s R J F may well = absurd (cc)
-event_fed (Moment m) controls s R J F may well = λ b slot at_it.
+event_fed (Stop a) s R J F may well = absurd (cc)
+event_fed (Moment m) s R J F may well = λ b slot at_it.
     let f = F b slot at_it in record { apart = f.apart; fed = f.fed }
-event_fed (Halt how contents) controls s R J F may well = absurd (cc)
+event_fed (Halt how contents) s R J F may well = absurd (cc)
 
-pub fed_always : (controls : Controls) (d : Disk) (h : List Event) → AreControls controls d → Legal d h → list_all goes_well h ≡ true → let s = after d h in AreFed s.actors s.pipework
-fed_always controls d [] has legal well = λ b slot at_it. absurd (cc)
-fed_always controls d (e ∷ h) has legal well =
+pub fed_always : (d : Disk) (h : List Event) → Legal d h → list_all goes_well h ≡ true → let s = after d h in AreFed s.actors s.pipework
+fed_always d [] legal well = λ b slot at_it. absurd (cc)
+fed_always d (e ∷ h) legal well =
     let parts = and_parts (goes_well e) (list_all goes_well h) well in
-    event_fed e controls (after d h) (have_run d h legal.0) (always controls d (e ∷ h) has legal) (fed_always controls d h has legal.0 parts.1) legal.1 parts.0
+    event_fed e (after d h) (have_run d h legal.0) (always d (e ∷ h) legal) (fed_always d h legal.0 parts.1) legal.1 parts.0

@@ -2,7 +2,6 @@
 use Rattle.std.proofs.Common.{◌≡◌, ℕ, ◌+◌, List, [], ◌∷◌, ◌++◌, take, Bool, true, Option, Some, None, refl, sym, ap, ◌∙◌, subst, arith, codes}
 use Rattle.std.specs.Option.{option_map}
 use Rattle.std.proofs.lemmas.List.Elements.{All-nil}
-use Rattle.address_rules.specs.declared.controls.Controls.{Controls}
 use Rattle.call_fs.specs.Disk.{Disk}
 use Rattle.call_fs.specs.Past.{IsRunBy, taken}
 use Rattle.call_fs.specs.declared.past.Own.{Own}
@@ -144,20 +143,20 @@ module _ (c : Channel) (past mine : List Own) (told asks : List ℕ) (P : Posts 
   in_hand many is = record { waits = L.waits; text = L.text; plain = plain_among L.waits L.plain; are = counted a.heard P.heard ∙ is }
 
 -- of a sender and of a spawner that are there
-pub posts_in : (controls : Controls) (d : Disk) (h : List Event) → GoesWell controls d h → (c : Channel) (x y : Actor) (start : ℕ) → (after d h).actors (codes "sender") ≡ Some x → x.program ≡ Sender start
+pub posts_in : (d : Disk) (h : List Event) → GoesWell d h → (c : Channel) (x y : Actor) (start : ℕ) → (after d h).actors (codes "sender") ≡ Some x → x.program ≡ Sender start
     → (after d h).actors (spawner_name c) ≡ Some y → IsSpawner c y.program → Posts c x.past y.past (told_in c (after d h)) (asked_of c (after d h))
-posts_in controls d h well c x y start sender sends spawner serves =
+posts_in d h well c x y start sender sends spawner serves =
     let s = after d h in
-    let all : Post c (sends_past (s.actors (codes "sender"))) (spawns_past c (s.actors (spawner_name c))) (told_in c s) (asked_of c s) = kept_always Post kept controls d h well.are well.legal well.well c in
+    let all : Post c (sends_past (s.actors (codes "sender"))) (spawns_past c (s.actors (spawner_name c))) (told_in c s) (asked_of c s) = kept_always Post kept d h well.legal well.well c in
     let one : sends_past (s.actors (codes "sender")) ≡ Some x.past = ap sends_past sender ∙ ap (λ (p : Program). sends_by p x.past) sends in
     let two : spawns_past c (s.actors (spawner_name c)) ≡ Some y.past = ap (spawns_past c) spawner ∙ spawned_is c y.program serves y.past in
     subst (λ (o : Option (List Own)). Post c (Some x.past) o (told_in c s) (asked_of c s)) two
     (subst (λ (o : Option (List Own)). Post c o (spawns_past c (s.actors (spawner_name c))) (told_in c s) (asked_of c s)) one all)
 
 pub flights_are_in_hand : FlightsAreInHand
-flights_are_in_hand controls d h well c x y start sender sends alive spawner serves goes takes slot =
+flights_are_in_hand d h well c x y start sender sends alive spawner serves goes takes slot =
     let s = after d h in
-    let P = posts_in controls d h well c x y start sender sends spawner serves in
+    let P = posts_in d h well c x y start sender sends spawner serves in
     let run : IsRunBy (Next None) x.past = subst (λ (p : Program). IsRunBy (next_of p) x.past) sends (have_run d h well.legal (codes "sender") x sender) in
     let agree = (lanes_agree None x.past run c alive).in_flight slot in
     in_hand c x.past y.past (told_in c s) (asked_of c s) P goes takes slot (count (attempt_in (lane c (desk_of x.past).slots).slots slot))

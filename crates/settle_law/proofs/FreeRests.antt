@@ -3,7 +3,6 @@ use Rattle.std.proofs.Common.{◌≡◌, ℕ, ◌+◌, ◌==◌, List, [], ◌�
 use Rattle.std.specs.Prelude.{◌&&◌, cond, slice_get, slice_index_or}
 use Rattle.std.proofs.lemmas.Bool.{and_parts, eqb-true, false≢true}
 use Rattle.std.proofs.lemmas.List.{append-nil}
-use Rattle.address_rules.specs.declared.controls.Controls.{Controls}
 use Rattle.call_fs.specs.Disk.{Disk}
 use Rattle.call_fs.specs.declared.past.ChildData.{ChildData}
 use Rattle.call_fs.specs.declared.past.Own.{Own}
@@ -223,7 +222,7 @@ linked : (c : Channel) (s : State) (start : ℕ) → holds (slice_get (found_by 
 linked Local s start = refl
 linked Remote s start = refl
 
-module _ (controls : Controls) (d : Disk) (later : List Deed) (first : Deed) (before : List Deed) (rest : IsRest controls d later first before) where
+module _ (d : Disk) (later : List Deed) (first : Deed) (before : List Deed) (rest : IsRest d later first before) where
   abbrev s : State
   s = after d before
 
@@ -245,8 +244,8 @@ module _ (controls : Controls) (d : Disk) (later : List Deed) (first : Deed) (be
   alike : AreAlike s now
   alike = turned.alike d later first before rest.turn
 
-  earlier : GoesWell controls d (history_of before)
-  earlier = turned.well_before d later first before rest.turn controls rest.well
+  earlier : GoesWell d (history_of before)
+  earlier = turned.well_before d later first before rest.turn rest.well
 
   ready_is : own.ready ≡ found_by s (codes "sender") (Sender sends.0)
   ready_is = rest.turn.searches.finds.found ∙ ap (λ (o : Option Actor). found_at s (codes "sender") o) rest.turn.is ∙ ap (λ (p : Program). found_by s (codes "sender") p) sends.1
@@ -261,7 +260,7 @@ module _ (controls : Controls) (d : Disk) (later : List Deed) (first : Deed) (be
     still = sym (alike.others (spawner_name c) (λ same. not_spawner c (sym same))) ∙ there
 
     none : none_runs (stands_after c y.past).running ≡ true
-    none = others_run_none controls d (history_of (later ++ first ∷ before)) rest.well rest.others c y still alive serves
+    none = others_run_none d (history_of (later ++ first ∷ before)) rest.well rest.others c y still alive serves
 
     run : IsRunBy (next_on c) y.past
     run = spawned_run c y.program serves y.past (have_run d (history_of before) earlier.legal (spawner_name c) y there)
@@ -286,7 +285,7 @@ module _ (controls : Controls) (d : Disk) (later : List Deed) (first : Deed) (be
         let p = stands_after c y.past in
         let o = (account c x.past).heard in
         let all : InHand p (s.pipework.pipes (spawner_name c) port.Input).bytes (coming o (s.pipework.pipes (codes "sender") (port_of c)).bytes) slot many =
-        flights_are_in_hand controls d (history_of before) earlier c x y sends.0 rest.turn.is sends.1 (begins_on (desk_of x.past).row whole.begins) there serves goes waits.takes slot in
+        flights_are_in_hand d (history_of before) earlier c x y sends.0 rest.turn.is sends.1 (begins_on (desk_of x.past).row whole.begins) there serves goes waits.takes slot in
         let none_left : InHand p [] (coming o []) slot many =
         subst (λ (t : List ℕ). InHand p [] (coming o t) slot many) (told_none c) (subst (λ (t : List ℕ). InHand p t (coming o (s.pipework.pipes (codes "sender") (port_of c)).bytes) slot many) asks_none all) in
         none_flies (attempt_in (lane c (desk_of x.past).slots).slots slot) (none_in_hand p y.past (tells_on c y.past run) none waits.row waits.takes o slot many none_left)
@@ -294,8 +293,8 @@ module _ (controls : Controls) (d : Disk) (later : List Deed) (first : Deed) (be
   -- the spawners live, since the sender does
   all_free : (c : Channel) (slot : ℕ) → attempt_in (lane c (desk_of x.past).slots).slots slot ≡ None
   all_free c slot =
-      let served = servants_live controls d (history_of before) earlier (Spawns c) x rest.turn.is (turned.alive d later first before rest.turn controls rest.well) (subst IsSender (sym sends.1) tt) in
+      let served = servants_live d (history_of before) earlier (Spawns c) x rest.turn.is (turned.alive d later first before rest.turn rest.well) (subst IsSender (sym sends.1) tt) in
       free c served.actor served.is served.alive served.serves slot
 
 pub rests_free : RestsFree
-rests_free controls d later first before rest c slot = all_free controls d later first before rest c slot
+rests_free d later first before rest c slot = all_free d later first before rest c slot

@@ -3,10 +3,8 @@ use Rattle.std.proofs.Common.{◌≡◌, ℕ, List, [], true, false, Option, Som
 use Rattle.std.specs.List.{list_all}
 use Rattle.std.proofs.lemmas.Bool.{false≢true}
 use Rattle.std.specs.Prelude.{is_some}
-use Rattle.address_rules.specs.declared.controls.Controls.{Controls}
 use Rattle.call_fs.specs.Disk.{Disk}
 use Rattle.call_fs.specs.declared.past.Own.{Own}
-use Rattle.program_law.specs.Sender.Control.{AreControls}
 use Rattle.send_core.specs.Past.{account}
 use Rattle.send_known.specs.declared.channel.Channel.{Channel}
 use Rattle.send_known.specs.declared.channel.Channel.TheVariants.{Local, Remote}
@@ -66,5 +64,5 @@ kept = record {
   serves = λ c sends mine told asks own wrote it G. spawned_keeps c sends mine told own wrote G (steps c mine asks own it) (it.gives greeting);
 }
 
-pub greeted_always : (controls : Controls) (d : Disk) (h : List Event) → AreControls controls d → Legal d h → list_all goes_well h ≡ true → (c : Channel) → GreetedIn c (after d h)
-greeted_always controls d h has legal well c = kept_always Both kept controls d h has legal well c
+pub greeted_always : (d : Disk) (h : List Event) → Legal d h → list_all goes_well h ≡ true → (c : Channel) → GreetedIn c (after d h)
+greeted_always d h legal well c = kept_always Both kept d h legal well c

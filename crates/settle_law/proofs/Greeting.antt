@@ -32,7 +32,7 @@ use Rattle.queue_paths.specs.Names.{Name, parse}
 use Rattle.queue_paths.specs.Names.Name.{Of}
 use Rattle.queue_paths.specs.Names.Part.{Bounce as BounceFile, Local as LocalFile, Remote as RemoteFile}
 use Rattle.remote_spawn.specs.Table.{due_by as remote_due, place_after as remote_after, program_of as remote_program, remote}
-use Rattle.send_core.specs.Past.{Account, Happening, Owed, Source, Task, Work, account_by, called, closed, closed_if, ends, first_of, given, given_up, happening, news, note_closed, opened, settle, settle_all, settle_by, took, uncreated_note, unopened_note, whole_of}
+use Rattle.send_core.specs.Past.{Account, Happening, Owed, Source, Task, Work, account_by, called, closed, closed_if, ends, given, given_up, happening, news, note_closed, opened, settle, settle_all, settle_by, took, uncreated_note, unopened_note, whole_of}
 use Rattle.send_core.specs.Past.Happening.{Gives, GivesUp, Marks, Nothing, Reads, Takes}
 use Rattle.send_core.specs.Past.Work.{Missing, Noting, Reading}
 use Rattle.send_known.specs.declared.channel.Channel.{Channel}
@@ -179,10 +179,6 @@ all_stay (r ∷ rs) a =
 pub took_heard : (o : Option (List ℕ)) (bytes : List ℕ) (a : Account) → is_some (took o bytes a).heard ≡ true
 took_heard None bytes a = refl
 took_heard (Some before) bytes a = ap is_some (all_stay (news before bytes) (record a { heard = Some (before ++ bytes) })).heard
-
-pub took_first : (o : Option (List ℕ)) (bytes : List ℕ) (a : Account) → o ≡ None → (took o bytes a).limit ≡ first_of bytes
-took_first None bytes a none = refl
-took_first (Some before) bytes a none = absurd (cc)
 
 pub took_later : (before bytes : List ℕ) (a : Account) → (took (Some before) bytes a).limit ≡ a.limit
 took_later before bytes a = (all_stay (news before bytes) (record a { heard = Some (before ++ bytes) })).limit

@@ -1,14 +1,14 @@
 -- At a rest each channel has a slot.
-use Rattle.std.proofs.Common.{◌≡◌, ℕ, ◌<◌, min, List, true, Option, Some, None, refl, sym, ap, ◌∙◌, subst, arith, codes}
+use Rattle.std.proofs.Common.{◌≡◌, ℕ, ◌<◌, min, List, [], ◌∷◌, ◌++◌, true, Option, Some, None, refl, sym, ap, ◌∙◌, subst, arith, codes}
 use Rattle.std.specs.Prelude.{is_some}
 use Rattle.address_rules.specs.declared.controls.Controls.{Controls}
-use Rattle.call_fs.specs.Disk.{Disk}
 use Rattle.call_fs.specs.Past.{IsRunBy}
 use Rattle.call_fs.specs.declared.past.Own.{Own}
 use Rattle.send_core.specs.declared.desk.Desk.{Desk}
 use Rattle.send_parts.specs.declared.row.Row.{Row}
 use Rattle.send_parts.specs.declared.row.Row.TheVariants as at
-use Rattle.send_core.specs.Papers.{controls_in, controls_told}
+use Rattle.send_core.specs.Papers.{Papers, controls_in, controls_told, papers, papers_by}
+use Rattle.send_core.specs.Papers.Papers.{Told}
 use Rattle.send_core.specs.Past.{account, work}
 use Rattle.send_core.specs.Senders.{IsSaid}
 use Rattle.send_core.specs.Table.{Next}
@@ -19,16 +19,12 @@ use Rattle.send_core.proofs.Standing.{FitAt}
 use Rattle.send_known.specs.declared.channel.Channel.{Channel}
 use Rattle.send_known.specs.declared.channel.Channel.TheVariants.{Local, Remote}
 use Rattle.send_runs.specs.Status.{allowed}
-use Rattle.program_law.specs.Sender.Stands.{HasControls}
 use Rattle.world_events.specs.declared.event.Program.{Program}
-use Rattle.mail_world.specs.History.{Event, after, next_of}
-use Rattle.mail_world.specs.Untouched.{queue}
-use Rattle.world_law.proofs.Histories.{always, sender_fares}
+use Rattle.mail_world.specs.History.{after, next_of}
 use Rattle.world_law.proofs.Ran.{have_run}
 use Rattle.settle_law.specs.Rests.{BeginsTurn}
 use Rattle.settle_law.specs.inside.Slots.{RestsHaveSlots}
 use Rattle.settle_law.specs.Suffices.{desk_of}
-use Rattle.settle_law.specs.Well.{GoesWell}
 use Rattle.settle_law.proofs.Allowed.{slots_are_allowed}
 use Rattle.settle_law.proofs.GreetedEvents.{GreetedIn, greeted_always}
 use Rattle.settle_law.proofs.PipeEvents.{sends_by, sends_past}
@@ -50,8 +46,8 @@ heard_at past (at.Finish row n) d begins h = absurd begins
 heard_at past (at.Sweep row) d begins h = absurd begins
 heard_at past (at.Ended status) d begins h = absurd begins
 
-told_at : (past : List Own) (row : Row) (d : Desk) → BeginsTurn row → KnowsAt (IsSaid past) (facts past) row d → controls_told past ≡ d.book.controls
-told_at past (at.Turn p) d begins h = ap controls_in h.0.3
+told_at : (past : List Own) (row : Row) (d : Desk) → BeginsTurn row → KnowsAt (IsSaid past) (facts past) row d → papers past ≡ Told d.book.controls
+told_at past (at.Turn p) d begins h = h.0.3
 told_at past (at.Start row) d begins h = absurd begins
 told_at past (at.TakeLink c) d begins h = absurd begins
 told_at past (at.Mark row m) d begins h = absurd begins
@@ -77,39 +73,24 @@ heard_on past run begins c =
     by Local l r = some_heard (account Local past).heard l
     by Remote l r = some_heard (account Remote past).heard r
 
-controls_on : (past : List Own) → IsRunBy (Next None) past → BeginsTurn (desk_of past).row → controls_told past ≡ (desk_of past).book.controls
-controls_on past run begins = told_at past (desk_of past).row (desk_of past) begins (all_kept None past run).1
+-- what they said stays
+told_stays : (controls : Controls) (past : List Own) → papers past ≡ Told controls → (more : List Own) → papers (more ++ past) ≡ Told controls
+told_stays controls past told [] = told
+told_stays controls past told (event ∷ before) = ap (λ (p : Papers). papers_by p event.due event.came) (told_stays controls past told before)
+
+pub told_same : (past : List Own) → IsRunBy (Next None) past → BeginsTurn (desk_of past).row → (own : Own) (more : List Own) → controls_told (more ++ own ∷ past) ≡ controls_told past
+told_same past run begins own more =
+    let d = desk_of past in
+    let told = told_at past d.row d begins (all_kept None past run).1 in
+    ap controls_in (told_stays d.book.controls (own ∷ past) (ap (λ (p : Papers). papers_by p own.due own.came) told) more) ∙ sym (ap controls_in told)
 
 least : (limit allows : ℕ) → limit ≡ 120 → 0 < allows → 0 < min (min limit allows) 120
 least limit allows is some = omega (arith, is, some)
 
-allowed_some : (controls : Controls) (d : Disk) (h : List Event) → GoesWell controls d h → (c : Channel) → 0 < allowed c controls
-allowed_some controls d h well Local = well.local
-allowed_some controls d h well Remote = well.remote
-
-has_controls : (row : Row) → BeginsTurn row → HasControls row
-has_controls (at.Turn p) begins = tt
-has_controls (at.Start row) begins = absurd begins
-has_controls (at.TakeLink c) begins = absurd begins
-has_controls (at.Mark row m) begins = absurd begins
-has_controls (at.UnlinkFile c n p) begins = absurd begins
-has_controls (at.ReadFile c n begun reading) begins = absurd begins
-has_controls (at.Request c) begins = absurd begins
-has_controls (at.FindTodo search) begins = absurd begins
-has_controls at.InTodo begins = absurd begins
-has_controls (at.Finish row n) begins = absurd begins
-has_controls (at.Sweep row) begins = absurd begins
-has_controls (at.Ended status) begins = absurd begins
-
 pub rests_have_slots : RestsHaveSlots
-rests_have_slots controls d h well x start is alive program begins c =
-    let s = after d h in
-    let I = always controls d h well.are well.legal in
-    let F = sender_fares controls s.now (queue s I.role) (codes "sender") x.program x.past x.life start program alive (I.fares (codes "sender") x is) in
+rests_have_slots d h well x start is alive program begins c allows =
     let run : IsRunBy (Next None) x.past = subst (λ (p : Program). IsRunBy (next_of p) x.past) program (have_run d h well.legal (codes "sender") x is) in
-    let told : controls_told x.past ≡ controls = controls_on x.past run begins ∙ F.stands.controls_are (has_controls (desk_of x.past).row begins) in
-    let G : GreetedIn c s = greeted_always controls d h well.are well.legal well.well c in
-    let sent : sends_past (s.actors (codes "sender")) ≡ Some x.past = ap sends_past is ∙ ap (λ (p : Program). sends_by p x.past) program in
+    let G : GreetedIn c (after d h) = greeted_always d h well.legal well.well c in
+    let sent : sends_past ((after d h).actors (codes "sender")) ≡ Some x.past = ap sends_past is ∙ ap (λ (p : Program). sends_by p x.past) program in
     let limit : (account c x.past).limit ≡ 120 = G.heard x.past sent (heard_on x.past run begins c) in
-    let some : 0 < allowed c (controls_told x.past) = subst (λ (k : Controls). 0 < allowed c k) (sym told) (allowed_some controls d h well c) in
-    subst (λ (n : ℕ). 0 < n) (sym (slots_are_allowed x.past run begins c)) (least (account c x.past).limit (allowed c (controls_told x.past)) limit some)
+    subst (λ (n : ℕ). 0 < n) (sym (slots_are_allowed x.past run begins c)) (least (account c x.past).limit (allowed c (controls_told x.past)) limit allows)

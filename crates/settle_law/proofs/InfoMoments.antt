@@ -1,6 +1,5 @@
 -- No info file was written later than now.
 use Rattle.std.proofs.Common.{◌≡◌, ◌≢◌, ◌≤◌, ⊎_elim, ℕ, zero, suc, List, [], ◌∷◌, arith, Option, Some, None, refl, sym, ap, ◌∙◌, subst}
-use Rattle.address_rules.specs.declared.controls.Controls.{Controls}
 use Rattle.call_fs.proofs.Maps.{put_at_cases, put_cases}
 use Rattle.call_fs.specs.Apply.{changed, cut, effect, empty_file, grown, grown_part, overwritten, overwritten_part, synced, with_name, with_new}
 use Rattle.call_fs.specs.Disk.{Disk, File, Open as OpenFile}
@@ -19,7 +18,6 @@ use Rattle.call_fs.specs.declared.past.NeedData.{NeedData}
 use Rattle.call_fs.specs.declared.past.Own.{Own}
 use Rattle.program_law.specs.Delivery.Leaves.{LeavesButDrops}
 use Rattle.program_law.proofs.Delivery.Apart.{names_are_apart}
-use Rattle.program_law.specs.Sender.Control.{AreControls}
 use Rattle.queue_paths.proofs.Paths.{parse-path}
 use Rattle.queue_paths.specs.Names.Name.{Of}
 use Rattle.queue_paths.specs.Names.Part.{Info}
@@ -147,23 +145,23 @@ born_bounded s h a own asked due (Some x) = subst (λ (need : NeedData). Bounded
 
 -- Each event
 
-pub infos_bounded : (controls : Controls) (d : Disk) → AreControls controls d → (h : List Event) → Legal d h → Bounded (after d h).disk (after d h).now
-infos_bounded controls d are [] legal = λ n i is. no_number i (sym (legal.empty Info n) ∙ is)
-infos_bounded controls d are (Start a program ∷ h) legal = infos_bounded controls d are h legal.0
-infos_bounded controls d are (Act a own wrote ∷ h) legal =
+pub infos_bounded : (d : Disk) → (h : List Event) → Legal d h → Bounded (after d h).disk (after d h).now
+infos_bounded d [] legal = λ n i is. no_number i (sym (legal.empty Info n) ∙ is)
+infos_bounded d (Start a program ∷ h) legal = infos_bounded d h legal.0
+infos_bounded d (Act a own wrote ∷ h) legal =
     let s : State = after d h in
     let may : MayDo s a own wrote = legal.1 in
-    let leaves = events_leave controls d (Act a own wrote) h are legal in
+    let leaves = events_leave d (Act a own wrote) h legal in
     subst (λ (o : Option Actor). Bounded (acted s a own wrote o).disk (acted s a own wrote o).now) (sym may.reads.is)
-    (acted_bounded s (infos_bounded controls d are h legal.0) a own wrote may.actor may.reads.no_later may.due
+    (acted_bounded s (infos_bounded d h legal.0) a own wrote may.actor may.reads.no_later may.due
     (subst (λ (o : Option Actor). LeavesOutside (program_of o) s.disk (acted s a own wrote o).disk) may.reads.is (leaves.outside refl)))
-infos_bounded controls d are (Child parent own a program ∷ h) legal =
+infos_bounded d (Child parent own a program ∷ h) legal =
     let s : State = after d h in
     let may : MayBear s parent own a program = legal.1 in
-    born_bounded s (infos_bounded controls d are h legal.0) parent own may.asked may.starts (s.actors parent)
-infos_bounded controls d are (Generation crew ∷ h) legal = infos_bounded controls d are h legal.0
-infos_bounded controls d are (Report slot output ∷ h) legal = infos_bounded controls d are h legal.0
-infos_bounded controls d are (End a read ready status ∷ h) legal = let s : State = after d h in finished_bounded s (infos_bounded controls d are h legal.0) a (Over status) (s.actors a)
-infos_bounded controls d are (Stop a ∷ h) legal = let s : State = after d h in finished_bounded s (infos_bounded controls d are h legal.0) a Stopped (s.actors a)
-infos_bounded controls d are (Moment m ∷ h) legal = λ n i is. let w = infos_bounded controls d are h legal.0 n i is in let later = legal.1.no_earlier in omega (arith, w, later)
-infos_bounded controls d are (Halt how contents ∷ h) legal = infos_bounded controls d are h legal.0
+    born_bounded s (infos_bounded d h legal.0) parent own may.asked may.starts (s.actors parent)
+infos_bounded d (Generation crew ∷ h) legal = infos_bounded d h legal.0
+infos_bounded d (Report slot output ∷ h) legal = infos_bounded d h legal.0
+infos_bounded d (End a read ready status ∷ h) legal = let s : State = after d h in finished_bounded s (infos_bounded d h legal.0) a (Over status) (s.actors a)
+infos_bounded d (Stop a ∷ h) legal = let s : State = after d h in finished_bounded s (infos_bounded d h legal.0) a Stopped (s.actors a)
+infos_bounded d (Moment m ∷ h) legal = λ n i is. let w = infos_bounded d h legal.0 n i is in let later = legal.1.no_earlier in omega (arith, w, later)
+infos_bounded d (Halt how contents ∷ h) legal = infos_bounded d h legal.0

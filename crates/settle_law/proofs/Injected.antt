@@ -14,21 +14,23 @@ use Rattle.call_fs.specs.declared.past.NeedData.TheVariants as needs
 use Rattle.call_fs.specs.declared.past.Own.{Own}
 use Rattle.call_fs.specs.declared.program.Ready.{Ready}
 use Rattle.queue_inject.specs.declared.injection.Arguments.{Arguments}
-use Rattle.queue_law.specs.Books.{Books, Child as Bouncer, Injection, accept, begun, booked, booked_all, booked_on, entered_in, line_said, linked, notes_read, with_line}
+use Rattle.queue_law.specs.Books.{Books, Injection, accept, begun, booked, entered_in, linked, with_line}
+use Rattle.queue_law.specs.Entered.{Child as Bouncer, booked_all, booked_on, line_said, notes_read, named_by}
 use Rattle.queue_law.specs.Ledgers.{Line}
-use Rattle.queue_law.specs.Ledgers.Line.{Drops, Notes, Reads, Returns}
+use Rattle.queue_law.specs.Ledgers.Line.{Drops, Notes, Reads, Returns, Marks, Routes}
 use Rattle.queue_paths.specs.Names.{Name, parse, path}
 use Rattle.queue_paths.specs.Names.Name.{Of}
 use Rattle.queue_paths.specs.Names.Part.{Intd, Mess, Todo}
 use Rattle.send_core.specs.Booked.{booked_at}
 use Rattle.send_core.specs.Table.{place_after as sender_after, row_now}
 use Rattle.send_jobs.specs.Bookings.{Booking}
-use Rattle.send_jobs.specs.Bookings.Booking.{Dropped, Noted, ReadNotes, Reported, Returned}
+use Rattle.send_jobs.specs.Bookings.Booking.{Dropped, Noted, ReadNotes, Reported, Returned, Overwritten, Routed}
 use Rattle.world_events.specs.declared.event.Program.{Program}
 use Rattle.world_events.specs.declared.event.Program.TheVariants.{Injector, Sender}
 use Rattle.mail_world.specs.History.{Actor, Allowed, Event, Life, State, acted, booked_by, books_after, bouncer_of, finished, happens, next_of, told_by}
 use Rattle.mail_world.specs.History.Event.{Start, Act, Child, Generation, Report, End, Stop, Moment, Halt}
 use Rattle.mail_world.specs.History.Life.{Over, Stopped}
+use Rattle.address_rules.specs.declared.controls.Controls.{Controls}
 
 module _ (P : ℕ → Arguments → Type 0) where
   abbrev pub OfOne : ℕ → Option Injection → Type 0
@@ -61,21 +63,23 @@ module _ (P : ℕ → Arguments → Type 0) where
   entered_of : (b : Books) (n : ℕ) (line : Line) → OfAll b → OfAll (entered_in b n line)
   entered_of b n line S = put_of b.living n (option_map (with_line line) (b.living n)) S (mapped_of line n (b.living n) (S n))
 
-  booked_on_of : (child : Option Bouncer) (e : Booking) (b : Books) → OfAll b → OfAll (booked_on child e b)
-  booked_on_of child (Reported delivered c n place) b S = entered_of b n (line_said delivered (record { channel = c; place = place })) S
-  booked_on_of child (Noted c n place) b S = entered_of b n (Notes (record { channel = c; place = place })) S
-  booked_on_of child (ReadNotes n notes) b S = entered_of b n (Reads notes) S
-  booked_on_of None (Returned n) b S = S
-  booked_on_of (Some bouncer) (Returned n) b S = entered_of b n (Returns (record { actor = bouncer.actor; args = bouncer.args; notes = notes_read (b.living n) })) S
-  booked_on_of child (Dropped n) b S = entered_of b n Drops S
+  booked_on_of : (child : Option Bouncer) (by : Controls) (e : Booking) (b : Books) → OfAll b → OfAll (booked_on child by e b)
+  booked_on_of child by (Routed n) b S = entered_of b n (Routes by) S
+  booked_on_of child by (Reported delivered c n place) b S = entered_of b n (line_said delivered (record { channel = c; place = place })) S
+  booked_on_of child by (Noted c n place) b S = entered_of b n (Notes (named_by by c place)) S
+  booked_on_of child by (Overwritten c n place) b S = entered_of b n (Marks (named_by by c place)) S
+  booked_on_of child by (ReadNotes n notes) b S = entered_of b n (Reads (record { notes = notes; by = by })) S
+  booked_on_of None by (Returned n) b S = S
+  booked_on_of (Some bouncer) by (Returned n) b S = entered_of b n (Returns (record { actor = bouncer.actor; args = bouncer.args; read = notes_read (b.living n) })) S
+  booked_on_of child by (Dropped n) b S = entered_of b n Drops S
 
-  booked_all_of : (child : Option Bouncer) (es : List Booking) (b : Books) → OfAll b → OfAll (booked_all child es b)
-  booked_all_of child [] b S = S
-  booked_all_of child (e ∷ es) b S = booked_all_of child es (booked_on child e b) (booked_on_of child e b S)
+  booked_all_of : (child : Option Bouncer) (by : Controls) (es : List Booking) (b : Books) → OfAll b → OfAll (booked_all child by es b)
+  booked_all_of child by [] b S = S
+  booked_all_of child by (e ∷ es) b S = booked_all_of child by es (booked_on child by e b) (booked_on_of child by e b S)
 
   told_of : (child : Option Bouncer) (b : Books) (program : Program) (past : List Own) (read : ℕ) (ready : Ready) (came : GotData) → OfAll b → OfAll (told_by child b program past read ready came)
   told_of child b (Sender start) past read ready came S =
-      let d = sender_after None past in booked_all_of child (booked_at (row_now d read ready) came d) b S
+      let d = sender_after None past in booked_all_of child d.book.controls (booked_at (row_now d read ready) came d) b S
   told_of child b other past read ready came S = S
 
   -- what an injector links
@@ -111,6 +115,7 @@ module _ (P : ℕ → Arguments → Type 0) where
     books_of child b a (needs.File c) (Answered told) next S =
         told_of child (booked_by b a program c told.answer) program past read ready (Answered told) (by_program_of b a c told.answer program refl next S)
     books_of child b a (needs.Take port) came next S = told_of child b program past read ready came S
+    books_of child b a (needs.Give port bytes) came next S = told_of child b program past read ready came S
     books_of child b a due came next S = S
 
   acted_of : (s : State) (a : List ℕ) (own : Own) (wrote : ℕ) (x : Actor) → Links x.program x.past own.read own.ready → next_of x.program x.past own.read own.ready ≡ own.due → OfAll s.books

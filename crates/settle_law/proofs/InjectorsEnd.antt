@@ -3,7 +3,6 @@ use Rattle.std.proofs.Common.{◌≡◌, ◌≢◌, ⊎_elim, ℕ, ◌+◌, ◌<
 use Rattle.std.specs.Prelude.{Contains}
 use Rattle.std.specs.List.{list_all}
 use Rattle.std.proofs.lemmas.Bool.{and_parts}
-use Rattle.address_rules.specs.declared.controls.Controls.{Controls}
 use Rattle.call_fs.proofs.Maps.{put_at_cases}
 use Rattle.call_fs.specs.Disk.{Disk}
 use Rattle.call_fs.specs.Maps.{put_at}
@@ -27,7 +26,6 @@ use Rattle.queue_paths.specs.Dirs.{queue_dirs}
 use Rattle.queue_paths.specs.Names.Name.{Of, Pid}
 use Rattle.queue_paths.specs.Names.Part.{Intd, Mess, Todo}
 use Rattle.queue_paths.proofs.Parts.{intd_missing, todo_missing}
-use Rattle.program_law.specs.Sender.Control.{AreControls}
 use Rattle.world_events.specs.declared.event.Program.{Program}
 use Rattle.world_events.specs.declared.event.Program.TheVariants.{Injector}
 use Rattle.mail_world.proofs.Members.{are_four}
@@ -86,7 +84,7 @@ call_due input late due c h = absurd (cc)
 soon_enough : (now start read : ℕ) → nat_lt (start + 86400) read ≡ false → now ≤ read + 43200 → now ≤ start + 129600
 soon_enough now start read h stall = let w : read ≤ start + 86400 = ltb-false _ _ h in omega arith
 
-module _ (controls : Controls) (s : State) (I : Inv controls s) (A : IsApt s) (a : List ℕ) (args : Arguments) (past : List Own) (read : ℕ) (ready : Ready) where
+module _ (s : State) (I : Inv s) (A : IsApt s) (a : List ℕ) (args : Arguments) (past : List Own) (read : ℕ) (ready : Ready) where
   abbrev q : Queue
   q = queue s I.role
 
@@ -128,22 +126,22 @@ module _ (controls : Controls) (s : State) (I : Inv controls s) (A : IsApt s) (a
   came_fine F small stall h due (Answered told) wrote next comes may well = absurd may
   came_fine F small stall h due got wrote next comes may well = h
 
-alive_fares : (controls : Controls) (now : ℕ) (q : Queue) (a : List ℕ) (program : Program) (past : List Own) (life : Life) (args : Arguments) → program ≡ Injector args → life ≡ Alive
-    → FaresBy controls now q a program past life → InjectorFares now q a args past true false
-alive_fares controls now q a program past life args is alive F =
-    subst (λ (l : Life). FaresBy controls now q a (Injector args) past l) alive (subst (λ (p : Program). FaresBy controls now q a p past life) is F)
+alive_fares : (now : ℕ) (q : Queue) (a : List ℕ) (program : Program) (past : List Own) (life : Life) (args : Arguments) → program ≡ Injector args → life ≡ Alive
+    → FaresBy now q a program past life → InjectorFares now q a args past true false
+alive_fares now q a program past life args is alive F =
+    subst (λ (l : Life). FaresBy now q a (Injector args) past l) alive (subst (λ (p : Program). FaresBy now q a p past life) is F)
 
 -- An event of an actor
 
-module _ (controls : Controls) (s : State) (I : Inv controls s) (A : IsApt s) where
+module _ (s : State) (I : Inv s) (A : IsApt s) where
   acts_so : (a : List ℕ) (own : Own) (wrote : ℕ) (may : MayDo s a own wrote) → came_well own.came ≡ true → (program : Program) → may.actor.program ≡ program → FineBy program may.actor.past may.actor.life
       → FineBy program (own ∷ may.actor.past) may.actor.life
   acts_so a own wrote may well (Injector args) is h =
       let x : Actor = may.actor in
       let next : in_time (has_input own.ready) (is_late args own.read) (due_by args (place_after args x.past)) ≡ own.due =
       subst (λ (p : Program). next_of p x.past own.read own.ready ≡ own.due) is may.due in
-      let F = alive_fares controls s.now (queue s I.role) a x.program x.past x.life args is may.reads.alive (I.fares a x may.reads.is) in (
-        came_fine controls s I A a args x.past own.read own.ready F (small_row args x.past (A.pasts a x may.reads.is)) may.reads.no_stall h.0 own.due own.came wrote next may.came
+      let F = alive_fares s.now (queue s I.role) a x.program x.past x.life args is may.reads.alive (I.fares a x may.reads.is) in (
+        came_fine s I A a args x.past own.read own.ready F (small_row args x.past (A.pasts a x may.reads.is)) may.reads.no_stall h.0 own.due own.came wrote next may.came
             (may_come s a own.due own.came wrote may.came) well,
         h.1,
       )
@@ -176,39 +174,39 @@ born_fine : (program : Program) → FineBy program [] Alive
 born_fine (Injector args) = (tt, tt)
 born_fine program = tt
 
-event_fine : (e : Event) (controls : Controls) (s : State) → Inv controls s → IsApt s → AllFine s.actors → Allowed s e → goes_well e ≡ true → AllFine (happens s e).actors
-event_fine (Start a program) controls s I A R may well = put_fine s.actors a (newborn program) R (born_fine program)
-event_fine (Act a own wrote) controls s I A R may well =
+event_fine : (e : Event) (s : State) → Inv s → IsApt s → AllFine s.actors → Allowed s e → goes_well e ≡ true → AllFine (happens s e).actors
+event_fine (Start a program) s I A R may well = put_fine s.actors a (newborn program) R (born_fine program)
+event_fine (Act a own wrote) s I A R may well =
     let x : Actor = may.actor in
     subst (λ (o : Option Actor). AllFine (acted s a own wrote o).actors) (sym may.reads.is)
-    (put_fine s.actors a (record { program = x.program; past = own ∷ x.past; life = x.life }) R (acts_so controls s I A a own wrote may well x.program refl (R a x may.reads.is)))
-event_fine (Child parent own a program) controls s I A R may well =
+    (put_fine s.actors a (record { program = x.program; past = own ∷ x.past; life = x.life }) R (acts_so s I A a own wrote may well x.program refl (R a x may.reads.is)))
+event_fine (Child parent own a program) s I A R may well =
     let x : Actor = may.actor in
     put_fine (acted s parent own 0 (s.actors parent)).actors a (newborn program)
     (subst (λ (o : Option Actor). AllFine (acted s parent own 0 o).actors) (sym may.reads.is)
     (put_fine s.actors parent (record { program = x.program; past = own ∷ x.past; life = x.life }) R (bears_so s parent own a program may x.program (R parent x may.reads.is)))) (born_fine program)
-event_fine (Generation (sender ∷ clean ∷ lspawn ∷ rspawn ∷ [])) controls s I A R may well =
+event_fine (Generation (sender ∷ clean ∷ lspawn ∷ rspawn ∷ [])) s I A R may well =
     put_fine _ _ (newborn rspawn) (put_fine _ _ (newborn lspawn) (put_fine _ _ (newborn clean) (put_fine _ _ (newborn sender) R (born_fine sender)) (born_fine clean)) (born_fine lspawn)) (born_fine rspawn)
-event_fine (Generation crew) controls s I A R may well = absurd (are_four crew may.kinds)
-event_fine (Report slot output) controls s I A R may well = R
-event_fine (End a read ready status) controls s I A R may well =
+event_fine (Generation crew) s I A R may well = absurd (are_four crew may.kinds)
+event_fine (Report slot output) s I A R may well = R
+event_fine (End a read ready status) s I A R may well =
     let x : Actor = may.actor in
     subst (λ (o : Option Actor). AllFine (finished s a (Over status) o).actors) (sym may.reads.is)
     (put_fine s.actors a (record { program = x.program; past = x.past; life = Over status }) R (ended_so s a read ready status may well x.program refl (R a x may.reads.is)))
-event_fine (Stop a) controls s I A R may well = absurd (cc)
-event_fine (Moment m) controls s I A R may well = R
-event_fine (Halt how contents) controls s I A R may well = absurd (cc)
+event_fine (Stop a) s I A R may well = absurd (cc)
+event_fine (Moment m) s I A R may well = R
+event_fine (Halt how contents) s I A R may well = absurd (cc)
 
-pub all_fine : (controls : Controls) (d : Disk) → AreControls controls d → (h : List Event) → Legal d h → list_all goes_well h ≡ true → AllFine (after d h).actors
-all_fine controls d are [] legal well = λ a x is. absurd (cc)
-all_fine controls d are (e ∷ h) legal well =
+pub all_fine : (d : Disk) → (h : List Event) → Legal d h → list_all goes_well h ≡ true → AllFine (after d h).actors
+all_fine d [] legal well = λ a x is. absurd (cc)
+all_fine d (e ∷ h) legal well =
     let parts = and_parts (goes_well e) (list_all goes_well h) well in
-    event_fine e controls (after d h) (always controls d h are legal.0) (apt d h legal.0 parts.1) (all_fine controls d are h legal.0 parts.1) legal.1 parts.0
+    event_fine e (after d h) (always d h legal.0) (apt d h legal.0 parts.1) (all_fine d h legal.0 parts.1) legal.1 parts.0
 
 -- how one has ended
 pub over_fine : (program : Program) (past : List Own) (life : Life) (args : Arguments) → program ≡ Injector args → FineBy program past life → EndsFine args life
 over_fine program past life args is h = (subst (λ (p : Program). FineBy p past life) is h).1
 
 pub injectors_end : InjectorsEnd
-injectors_end controls d h g a x args status is program over =
-    (subst (EndsFine args) over (over_fine x.program x.past x.life args program (all_fine controls d g.are h g.legal g.well a x is))).0
+injectors_end d h g a x args status is program over =
+    (subst (EndsFine args) over (over_fine x.program x.past x.life args program (all_fine d h g.legal g.well a x is))).0

@@ -1,13 +1,11 @@
 -- Births are the moments of info files.
 use Rattle.std.proofs.Common.{◌≡◌, ℕ, List, [], ◌∷◌, false, Bool, true, Option, Some, None, refl, sym, ap, ◌∙◌, subst}
 use Rattle.std.specs.List.{list_all}
-use Rattle.address_rules.specs.declared.controls.Controls.{Controls}
 use Rattle.call_fs.specs.Disk.{Disk}
 use Rattle.call_fs.specs.Past.{IsRunBy}
 use Rattle.call_fs.specs.declared.past.GotData.TheVariants as came
 use Rattle.call_fs.specs.declared.past.GotData.{GotData}
 use Rattle.call_fs.specs.declared.past.Own.{Own}
-use Rattle.program_law.specs.Sender.Control.{AreControls}
 use Rattle.queue_paths.specs.Names.Part.{Info}
 use Rattle.retry_law.proofs.Infos.{AreInfos, infos_on, known_said, none_known}
 use Rattle.retry_law.specs.Infos.{pass_tells, tells}
@@ -28,7 +26,8 @@ use Rattle.mail_world.specs.History.Life.{Alive}
 use Rattle.mail_world.specs.History.{Actor, Event, Legal, MayBear, State, after, disk_after, next_of}
 use Rattle.world_law.proofs.Ran.{have_run}
 use Rattle.settle_law.proofs.InfoFiles.{has_info, info_in, info_is, same_look}
-use Rattle.settle_law.proofs.LivingSenders.{LeftLater, all_held}
+use Rattle.settle_law.proofs.LivingSenders.Concerns.{Knows, KnowsNext}
+use Rattle.settle_law.proofs.LivingSenders.{Concerns, LeavesItsOwn, all_held}
 use Rattle.settle_law.proofs.OwnInfos.{own_tells}
 use Rattle.settle_law.specs.inside.Births.{KnownAreBorn}
 use Rattle.settle_law.specs.Rests.{BeginsTurn}
@@ -38,11 +37,12 @@ use Rattle.settle_law.specs.Suffices.{desk_of}
 abbrev Born : Disk → List Own → Type 0
 Born d past = AreInfos (info_in d) None past
 
--- who leaves each info file leaves that
-others_born : (d e : Disk) (past : List Own) → LeftLater d e → Born d past → Born e past
-others_born d e past left h = ((λ n moment known there. h.0 n moment known (same n moment there)), (λ it moment is there. h.1 it moment is (same it.n moment there))) where
-  same : (n moment : ℕ) → info_in e n ≡ Some moment → info_in d n ≡ Some moment
-  same n moment there = info_is d n moment (same_look d e n (left Info n refl) moment (has_info e n moment there))
+-- who leaves the info files of its own numbers leaves that
+others_born : (d e : Disk) (past : List Own) → LeavesItsOwn d e past → Born d past → Born e past
+others_born d e past left h =
+    ((λ n moment known there. h.0 n moment known (same n (Knows known) moment there)), (λ it moment is there. h.1 it moment is (same it.n (KnowsNext it is refl) moment there))) where
+      same : (n : ℕ) → Concerns past n → (moment : ℕ) → info_in e n ≡ Some moment → info_in d n ≡ Some moment
+      same n concerns moment there = info_is d n moment (same_look d e n (left Info n refl concerns) moment (has_info e n moment there))
 
 -- the start of a child tells nothing
 
@@ -80,21 +80,21 @@ all_any : (h : List Event) → list_all any_event h ≡ true
 all_any [] = refl
 all_any (e ∷ h) = all_any h
 
-all_born : (controls : Controls) (d : Disk) → AreControls controls d → (h : List Event) → Legal d h → (a : List ℕ) (x : Actor) → (after d h).actors a ≡ Some x → (start : ℕ) → x.program ≡ Sender start → x.life ≡ Alive
+all_born : (d : Disk) → (h : List Event) → Legal d h → (a : List ℕ) (x : Actor) → (after d h).actors a ≡ Some x → (start : ℕ) → x.program ≡ Sender start → x.life ≡ Alive
     → IsRunBy (Next None) x.past → Born (after d h).disk x.past
-all_born controls d are h legal = all_held controls any_event Born (λ e. none_known None (info_in e))
+all_born d h legal = all_held any_event Born (λ e. none_known None (info_in e))
     (λ s I a own wrote may start is good run h.
-    infos_on None (info_in s.disk) (info_in (disk_after s.disk own.read own.due own.came wrote)) own may.actor.past run (own_tells controls s I a own wrote may start is run.0) h)
+    infos_on None (info_in s.disk) (info_in (disk_after s.disk own.read own.due own.came wrote)) own may.actor.past run (own_tells s I a own wrote may start is run.0) h)
     (λ s a own b program may start is run h. child_born s a own b program may run h)
-    others_born d are h legal (all_any h)
+    others_born d h legal (all_any h)
 
 begins_lives : (row : Row) → BeginsTurn row → has_ended row ≡ false
 begins_lives (at.Ended status) begins = absurd begins
 begins_lives r begins = refl
 
 pub known_are_born : KnownAreBorn
-known_are_born controls d h are legal a x start is alive program begins k info known there =
+known_are_born d h legal a x start is alive program begins k info known there =
     let t : State = after d h in
     let run : IsRunBy (Next None) x.past = subst (λ (p : Program). IsRunBy (next_of p) x.past) program (have_run d h legal a x is) in
-    sym (known_said None (info_in t.disk) x.past run (begins_lives (desk_of x.past).row begins) (all_born controls d are h legal a x is start program alive run).0 k known (t.disk.files info).moment
+    sym (known_said None (info_in t.disk) x.past run (begins_lives (desk_of x.past).row begins) (all_born d h legal a x is start program alive run).0 k known (t.disk.files info).moment
     (info_is t.disk k.n (t.disk.files info).moment (info, there, refl)))

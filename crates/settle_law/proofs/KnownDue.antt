@@ -31,7 +31,7 @@ plain_before c n past [] plain = plain
 plain_before c n past (event ∷ older) plain = plain_before c n past older plain.0
 
 pub known_are_due : KnownAreDue
-known_are_due controls d h g a x start is program past first later same turn slots none c k known has =
+known_are_due d h g a x start is program past first later same turn slots none c k known has =
     subst (λ (p : List Own). IsDueSo first.read p c k) (sym same) (rests_are_due past first later run turn slots none told reads c k (subst (λ (p : List Own). IsKnown p k) same known) has plain)
   where
     run : IsRunBy (Next None) (later ++ first ∷ past)
@@ -39,10 +39,10 @@ known_are_due controls d h g a x start is program past first later same turn slo
 
     told : All TellsMoments past
     told = All-tail TellsMoments first past
-        (all_before TellsMoments (first ∷ past) later (subst (λ (p : List Own). All TellsMoments p) same (pasts_tell_moments controls d h g.are g.legal a x start is program).0))
+        (all_before TellsMoments (first ∷ past) later (subst (λ (p : List Own). All TellsMoments p) same (pasts_tell_moments d h g.legal a x start is program).0))
 
     reads : All (λ (e : Own). e.read ≤ first.read) past
-    reads = (rises_before (first ∷ past) later (subst Rises same (pasts_tell_moments controls d h g.are g.legal a x start is program).1)).1
+    reads = (rises_before (first ∷ past) later (subst Rises same (pasts_tell_moments d h g.legal a x start is program).1)).1
 
     plain : ArePlain c k.n past
-    plain = (plain_before c k.n (first ∷ past) later (subst (λ (p : List Own). ArePlain c k.n p) same (pasts_are_served.plain controls d h g a x start is program c k.n))).0
+    plain = (plain_before c k.n (first ∷ past) later (subst (λ (p : List Own). ArePlain c k.n p) same (pasts_are_served.plain d h g a x start is program c k.n))).0

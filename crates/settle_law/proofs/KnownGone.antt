@@ -35,11 +35,11 @@ same_file Local k e = e
 same_file Remote k e = e
 
 pub known_are_gone : KnownAreGone
-known_are_gone controls d h are legal a x start is alive program begins c k there none =
+known_are_gone d h legal a x start is alive program begins c k there none =
     let s = after d h in
-    let I = always controls d h are legal in
+    let I = always d h legal in
     let q = queue s I.role in
-    let F = sender_fares controls s.now q a x.program x.past x.life start program alive (I.fares a x is) in
+    let F = sender_fares s.now q a x.program x.past x.life start program alive (I.fares a x is) in
     let row : Row = (desk_of x.past).row in
     let w : Knows row (about q k.n) k = All-contains (λ (y : Known). Knows row (about q y.n) y) (desk_of x.past).book.messages.known k F.stands.knows.known there in
     not_found q.disk.names q.disk.files (Of (lane_part c) k.n) ((known_of row (about q k.n) k begins w).gone c (same_file c k none))

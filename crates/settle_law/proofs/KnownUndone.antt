@@ -1,7 +1,7 @@
 -- Known messages that were tried, and have their file, still have a record that reads `T`, where nothing fails.
 use Rattle.std.proofs.Common.{◌≡◌, ◌<◌, ℕ, List, [], ◌∷◌, ◌++◌, length, Bool, true, false, Option, Some, None, refl, sym, ap, ◌∙◌, subst}
 use Rattle.std.specs.Prelude.{Contains, is_some}
-use Rattle.std.proofs.lemmas.Bool.{and_from}
+use Rattle.std.proofs.lemmas.Bool.{and_from, and_parts}
 use Rattle.std.proofs.lemmas.List.Elements.{All-contains}
 use Rattle.call_fs.specs.Disk.{Disk}
 use Rattle.call_fs.specs.Past.{IsRunBy}
@@ -51,7 +51,8 @@ use Rattle.settle_law.proofs.DuesAtRest.{clear_at, run_before, unlinks_none}
 use Rattle.settle_law.proofs.LaneTexts.{files_on}
 use Rattle.settle_law.proofs.LeftSteps.{MarkNeeds, RowNeeds, StartNeeds, acts_hold, arrives_hold, fewer_tried, lane_keeps}
 use Rattle.settle_law.proofs.Lefts.{lefts_keep}
-use Rattle.settle_law.proofs.LivingSenders.{LeftLater, all_held}
+use Rattle.settle_law.proofs.LivingSenders.Concerns.{HasJob, Knows}
+use Rattle.settle_law.proofs.LivingSenders.{LeavesItsOwn, all_held}
 use Rattle.settle_law.proofs.Searching.{turn_keeps}
 use Rattle.settle_law.proofs.TriedFiles.{event_tried}
 use Rattle.settle_law.proofs.TriedKnown.{known_tried, known_tried_stay}
@@ -77,13 +78,13 @@ lane_later : (ch : Channel) → is_later (lane_part ch) ≡ true
 lane_later Local = refl
 lane_later Remote = refl
 
-others_tried : (d e : Disk) (past : List Own) → LeftLater d e → Tried d past → Tried e past
+others_tried : (d e : Disk) (past : List Own) → LeavesItsOwn d e past → Tried d past → Tried e past
 others_tried d e past left h =
     let desk : Desk = place_after None past in (
       h.0,
       λ ch. lane_keeps (known_tried past ch) (files_on d ch) (files_on e ch) (first_at desk.row ch) (lane ch desk.slots)
-          (λ n job there spoilt records was. ap records_at (left (lane_part ch) n (lane_later ch)))
-          (λ n none t records was. ap records_at (left (lane_part ch) n (lane_later ch)))
+          (λ n job there spoilt records was. ap records_at (left (lane_part ch) n (lane_later ch) (HasJob ch job there)))
+          (λ n none t records was. ap records_at (left (lane_part ch) n (lane_later ch) (Knows (and_parts (tried_at past ch n) (known_in past n) t).1)))
           (h.1 ch),
     )
 
@@ -186,7 +187,7 @@ told past run c k begun known has tried =
     (known_now None past run k known)
 
 pub known_are_undone : KnownAreUndone
-known_are_undone controls d h g a x began is alive program past first later same turn slots free c k begun known has tried =
+known_are_undone d h g a x began is alive program past first later same turn slots free c k begun known has tried =
     undone_of (after d h).disk c k.n ((held.1 c).1 k.n (told x.past run c k begun known has tried)
     (subst (λ (p : List Own). job_of k.n (lane c (desk_of p).slots).jobs ≡ None) (sym same)
     (subst (λ (s : Slots). job_of k.n (lane c s).jobs ≡ None) (sym (turn_keeps past first later turn).slots) (no_work past first later ran turn slots free c k))))
@@ -195,10 +196,10 @@ known_are_undone controls d h g a x began is alive program past first later same
     run = subst (λ (p : Program). IsRunBy (next_of p) x.past) program (have_run d h g.legal a x is)
 
     held : Tried (after d h).disk x.past
-    held = all_held controls goes_well Tried none_tried
-        (λ s I a own wrote may began is well run h. event_tried controls s I a own wrote may began is well run h)
+    held = all_held goes_well Tried none_tried
+        (λ s I a own wrote may began is well run h. event_tried s I a own wrote may began is well run h)
         (λ s a own b program may began is run h. child_tried s a own b program may began is run h)
-        others_tried d g.are h g.legal g.well a x is began program alive run
+        others_tried d h g.legal g.well a x is began program alive run
 
     ran : IsRunBy (Next None) (later ++ first ∷ past)
     ran = subst (IsRunBy (Next None)) same run

@@ -1,16 +1,16 @@
 -- The write of a mark, where it is done: the record reads `D`, and all others of the file as before.
-use Rattle.std.proofs.Common.{◌≡◌, ℕ, zero, suc, ◌+◌, ◌-◌, ◌<◌, List, [], ◌∷◌, length, take, false, Option, Some, refl, sym, ap, ◌∙◌, subst, ⊎_elim, arith, length-append}
-use Rattle.std.specs.Prelude.{Contains, flat_map, option_map}
+use Rattle.std.proofs.Common.{◌≡◌, ℕ, ◌-◌, ◌<◌, List, length, false, Option, Some, sym, ap, ◌∙◌, subst, ⊎_elim, arith}
+use Rattle.std.specs.Prelude.{option_map}
 use Rattle.call_fs.proofs.Maps.{put_cases}
 use Rattle.call_fs.specs.Apply.{changed, overwritten, put_over}
 use Rattle.call_fs.specs.Disk.{Disk, File, Open as OpenFile}
-use Rattle.envelope_records.specs.Records.{AreRecords, text_of}
+use Rattle.envelope_records.specs.Records.{AreRecords}
 use Rattle.envelope_records.specs.declared.channel.Record.{Record}
-use Rattle.program_law.proofs.Channel.Counts.{head_or_tail, not_in_none}
-use Rattle.program_law.proofs.Channel.Texts.{At, at_of, mark_is, one_width, width}
+use Rattle.program_law.proofs.Channel.Texts.{mark_is}
 use Rattle.program_law.proofs.Sender.Texts.{they_are}
 use Rattle.program_law.specs.Channel.Files.{IsOpen, marked, with_mark}
 use Rattle.program_law.specs.Sender.Views.{records_at}
+use Rattle.program_law.proofs.Sender.Writes.{dee, in_text, take_dee}
 use Rattle.queue_law.proofs.Looks.{find_near, found}
 use Rattle.queue_law.specs.Numbers.{Entry, find}
 use Rattle.queue_law.specs.Routes.{lane_part}
@@ -20,35 +20,6 @@ use Rattle.send_known.specs.declared.channel.Channel.{Channel}
 use Rattle.send_links.proofs.WholeRecords.{are_read}
 use Rattle.send_links.specs.Records.{records_of}
 use Rattle.settle_law.proofs.LaneTexts.{files_on}
-
-abbrev dee : List ℕ
-dee = 68 ∷ []
-
-placed_in : (k : ℕ) (rs : List Record) (r : Record) → At k rs → Contains rs r → r.place < k + length (flat_map text_of rs)
-placed_in k [] r h w = absurd (not_in_none r w)
-placed_in k (x ∷ rs) r h w =
-    let sum = length-append (text_of x) (flat_map text_of rs) in
-    let one = one_width x in
-    ⊎_elim
-    (λ same. let here = h.0 in let place = ap (λ (y : Record). y.place) same in omega (arith, here, place, sum, one))
-    (λ more. let up = placed_in (k + width x) rs r h.1 more in omega (arith, up, sum, one))
-    (head_or_tail x r rs w)
-
--- the place of a record lies in its file
-in_text : (bytes : List ℕ) (rs : List Record) (r : Record) → AreRecords bytes rs → Contains rs r → r.place < length bytes
-in_text bytes rs r are w =
-    let there : At 0 rs = at_of 0 rs (λ before after it e. let p = are.places before after it e in omega (arith, p)) in
-    let lt = placed_in 0 rs r there w in
-    let len = ap length are.text in
-    omega (arith, lt, len)
-
-take_none : (k : ℕ) → take {A = ℕ} k [] ≡ []
-take_none zero = refl
-take_none (suc k) = refl
-
-take_dee : (k : ℕ) → 0 < k → take k dee ≡ dee
-take_dee zero lt = absurd (omega arith)
-take_dee (suc k) lt = ap (λ t. 68 ∷ t) (take_none k)
 
 dee_bytes : (read place : ℕ) (f : File) → place < length f.bytes → (overwritten read place dee f).bytes ≡ put_over place dee f.bytes
 dee_bytes read place f lt = ap (λ t. put_over place t f.bytes) (take_dee (length f.bytes - place) (omega (arith, lt)))

@@ -14,7 +14,7 @@ use Rattle.queue_inject.specs.declared.injection.Arguments.{Arguments}
 use Rattle.queue_inject.specs.declared.injection.InputEnd.{InputEnd}
 use Rattle.queue_inject.specs.Texts.{limit, intd_text, envelope_of, envelope_text, recipients_read, recipients_of}
 use Rattle.queue_law.specs.Accounts.{AreOfRecipients}
-use Rattle.queue_law.specs.Books.{Injection, IsValid}
+use Rattle.queue_law.specs.Books.{Injection, IsValid, lane_in}
 use Rattle.queue_law.specs.Ledgers.{Spot}
 use Rattle.queue_law.specs.Marks.{HasItsSpots, IsDone, IsMarked}
 use Rattle.queue_law.specs.Routes.{lane_text}
@@ -67,23 +67,23 @@ placed p (r ∷ rs) h = ⊎_elim
     (λ (w : Among p (map (λ (x : Record). x.place) rs)). let it = placed p rs w in (it.0, Contains-append_right (r ∷ []) rs it.0 it.1, it.2))
     h
 
-module _ (controls : Controls) (i : Injection) (ch : Channel) (none : HaveNoNul controls) (valid : IsValid i.args) (spots : HasItsSpots controls i) where
+module _ (i : Injection) (ch : Channel) (none : HaveNoNul i.ledger.routes) (valid : IsValid i.args) (spots : HasItsSpots i) where
   abbrev text : List ℕ
-  text = lane_text controls i.args ch
+  text = lane_in i ch
 
   made : (rs : List Record) × AreRecords text rs
-  made = lane_records controls i.args ch none valid
+  made = lane_records i.ledger.routes i.args ch none valid
 
   abbrev places : List ℕ
   places = map (λ (r : Record). r.place) made.0
 
-  of_recipients : AreOfRecipients controls i ch made.0
-  of_recipients = records_are controls i ch text made.0 none valid spots (record { long = refl; each = λ k lt. inl refl }) made.1
+  of_recipients : AreOfRecipients i ch made.0
+  of_recipients = records_are i ch text made.0 none valid spots (record { long = refl; each = λ k lt. inl refl }) made.1
 
   -- each that may be marked is a place of it
   done_among : (k : ℕ) → IsDone i.ledger ch k → Among k places
   done_among k done =
-      let w = done_spot controls i spots ch k done in
+      let w = done_spot i spots ch k done in
       let it = of_recipients.all w.0 (sym (ap (λ (s : Spot). s.channel) w.1)) in
       subst (λ (p : ℕ). Among p places) (it.2.place_is ∙ sym (ap (λ (s : Spot). s.place) w.1)) (place_among it.0 made.0 it.1)
 

@@ -65,6 +65,7 @@ pub mod QuietSpawners
 pub mod ShortControls
 pub mod ShortRoutes
 pub mod ShortRequests
+pub mod RoutesShort
 -- names in `todo` are numbers
 pub mod Strays
 -- a search that ended an idle turn was the whole turn

@@ -5,7 +5,6 @@ use Rattle.std.specs.Prelude.{Contains, flat_map}
 use Rattle.std.proofs.lemmas.Bool.{and_parts, false≢true}
 use Rattle.std.proofs.lemmas.List.{append-nil}
 use Rattle.actor_names.specs.MailNames.{members}
-use Rattle.address_rules.specs.declared.controls.Controls.{Controls}
 use Rattle.call_fs.specs.Disk.{Disk}
 use Rattle.call_fs.specs.Maps.{put_at}
 use Rattle.call_fs.specs.Past.{IsRunBy, taken as taken_by}
@@ -24,7 +23,6 @@ use Rattle.local_spawn.specs.Causes.{HasEnded, IsStarved, Starves}
 use Rattle.local_spawn.specs.Causes.HasEnded.{AsAny, InItsStart}
 use Rattle.local_spawn.specs.Causes.Starves.{OpenRefused}
 use Rattle.local_spawn.proofs.Ends.{ends as local_ends}
-use Rattle.program_law.specs.Sender.Control.{AreControls}
 use Rattle.queue_clean.specs.Causes.{EndsWith as CleanEndsWith, IsEnded as CleanEnded}
 use Rattle.queue_clean.specs.Causes.EndsWith.{GiveFailed as AnswerFailed, InputEnded, TakeFailed}
 use Rattle.queue_clean.proofs.Reasons.{ends as clean_ends}
@@ -188,7 +186,7 @@ LivesIn m s = (x : Actor) → s.actors (codes "sender") ≡ Some x → x.life �
 
 -- An event of an actor
 
-module _ (controls : Controls) (s : State) (I : Inv controls s) (m : Servant) (L : LivesIn m s) (a : List ℕ) (own : Own) (wrote : ℕ) (z : Actor) (is : s.actors a ≡ Some z) (alive : z.life ≡ Alive)
+module _ (s : State) (I : Inv s) (m : Servant) (L : LivesIn m s) (a : List ℕ) (own : Own) (wrote : ℕ) (z : Actor) (is : s.actors a ≡ Some z) (alive : z.life ≡ Alive)
     (open_end : (s.pipework.pipes a port.Input).shut ≡ false → own.due ≡ needs.Take port.Input → own.came ≡ came.End → ⊥) where
   abbrev then_is : Actor
   then_is = record { program = z.program; past = own ∷ z.past; life = z.life }
@@ -262,12 +260,12 @@ no_sender_child (child.Forward uid room) pid (Injector args) it sends = sends
 no_sender_child (child.Local slot words uid) pid (Delivery start args) it sends = sends
 no_sender_child asked pid program it sends = absurd it
 
-module _ (controls : Controls) (s : State) (I : Inv controls s) (m : Servant) (L : LivesIn m s) (parent : List ℕ) (own : Own) (a : List ℕ) (program : Program) (may : MayBear s parent own a program) where
+module _ (s : State) (I : Inv s) (m : Servant) (L : LivesIn m s) (parent : List ℕ) (own : Own) (a : List ℕ) (program : Program) (may : MayBear s parent own a program) where
   abbrev mid : State
   mid = acted s parent own 0 (Some may.actor)
 
   mid_lives : LivesIn m mid
-  mid_lives = acted_lives controls s I m L parent own 0 may.actor may.reads.is may.reads.alive (λ is_open due got. let both : needs.Start may.asked ≡ needs.Take port.Input = sym may.starts ∙ due in absurd (cc))
+  mid_lives = acted_lives s I m L parent own 0 may.actor may.reads.is may.reads.alive (λ is_open due got. let both : needs.Start may.asked ≡ needs.Take port.Input = sym may.starts ∙ due in absurd (cc))
 
   mid_new : mid.actors a ≡ None
   mid_new =
@@ -369,30 +367,30 @@ module _ (m : Servant) (s : State) (L : LivesIn m s) (R : HaveRun s.actors) (W :
 
 -- Each event
 
-event_lives : (e : Event) (controls : Controls) (s : State) → Inv controls s → HaveRun s.actors → PastsWell s.actors → (m : Servant) → LivesIn m s → Allowed s e → goes_well e ≡ true → LivesIn m (happens s e)
-event_lives (Start a program) controls s I R W m L may well =
+event_lives : (e : Event) (s : State) → Inv s → HaveRun s.actors → PastsWell s.actors → (m : Servant) → LivesIn m s → Allowed s e → goes_well e ≡ true → LivesIn m (happens s e)
+event_lives (Start a program) s I R W m L may well =
     started_lives m s L a program may.new (no_sender_alone program may.runs) s.pipework.pipes refl (happens s (Start a program)) refl refl
-event_lives (Act a own wrote) controls s I R W m L may well =
+event_lives (Act a own wrote) s I R W m L may well =
     subst (λ (o : Option Actor). LivesIn m (acted s a own wrote o)) (sym may.reads.is)
-    (acted_lives controls s I m L a own wrote may.actor may.reads.is may.reads.alive (λ is_open. no_end s a own.due own.came wrote may.came is_open))
-event_lives (Child parent own a program) controls s I R W m L may well =
-    subst (λ (o : Option Actor). LivesIn m (bears (acted s parent own 0 o) parent own a program)) (sym may.reads.is) (child_lives controls s I m L parent own a program may)
-event_lives (Generation (sender ∷ clean ∷ lspawn ∷ rspawn ∷ [])) controls s I R W m L may well = begun_lives m s sender clean lspawn rspawn may
-event_lives (Generation crew) controls s I R W m L may well = absurd (are_four crew may.kinds)
-event_lives (Report slot output) controls s I R W m L may well = report_lives m s L slot output
-event_lives (End a read ready status) controls s I R W m L may well =
+    (acted_lives s I m L a own wrote may.actor may.reads.is may.reads.alive (λ is_open. no_end s a own.due own.came wrote may.came is_open))
+event_lives (Child parent own a program) s I R W m L may well =
+    subst (λ (o : Option Actor). LivesIn m (bears (acted s parent own 0 o) parent own a program)) (sym may.reads.is) (child_lives s I m L parent own a program may)
+event_lives (Generation (sender ∷ clean ∷ lspawn ∷ rspawn ∷ [])) s I R W m L may well = begun_lives m s sender clean lspawn rspawn may
+event_lives (Generation crew) s I R W m L may well = absurd (are_four crew may.kinds)
+event_lives (Report slot output) s I R W m L may well = report_lives m s L slot output
+event_lives (End a read ready status) s I R W m L may well =
     subst (λ (o : Option Actor). LivesIn m (finished s a (Over status) o)) (sym may.reads.is) (ended_lives m s L R W a may.actor may.reads.is status read ready may.due)
-event_lives (Stop a) controls s I R W m L may well = absurd (cc)
-event_lives (Moment present) controls s I R W m L may well = λ x there living sends.
+event_lives (Stop a) s I R W m L may well = absurd (cc)
+event_lives (Moment present) s I R W m L may well = λ x there living sends.
     let S = L x there living sends in
     record { servant = S.servant; is = S.is; serves = S.serves; lives = S.lives; unshut = S.unshut; takes = S.takes }
-event_lives (Halt how contents) controls s I R W m L may well = absurd (cc)
+event_lives (Halt how contents) s I R W m L may well = absurd (cc)
 
-lives_always : (controls : Controls) (d : Disk) (h : List Event) → AreControls controls d → Legal d h → list_all goes_well h ≡ true → (m : Servant) → LivesIn m (after d h)
-lives_always controls d [] are legal well m = λ x there living sends. absurd (cc)
-lives_always controls d (e ∷ h) are legal well m =
+lives_always : (d : Disk) (h : List Event) → Legal d h → list_all goes_well h ≡ true → (m : Servant) → LivesIn m (after d h)
+lives_always d [] legal well m = λ x there living sends. absurd (cc)
+lives_always d (e ∷ h) legal well m =
     let parts = and_parts (goes_well e) (list_all goes_well h) well in
-    event_lives e controls (after d h) (always controls d h are legal.0) (have_run d h legal.0) (pasts_well d h legal.0 parts.1) m (lives_always controls d h are legal.0 parts.1 m) legal.1 parts.0
+    event_lives e (after d h) (always d h legal.0) (have_run d h legal.0) (pasts_well d h legal.0 parts.1) m (lives_always d h legal.0 parts.1 m) legal.1 parts.0
 
 -- No field was too long
 
@@ -402,8 +400,8 @@ not_long c past mine told asks P long =
     (record { text = sym P.are ∙ sym (append-nil (flat_map request_text P.requests)); whole = P.whole; begun = tt })
 
 pub servants_live : ServantsLive
-servants_live controls d h well m x is alive sends =
-    let S = lives_always controls d h well.are well.legal well.well m x is alive sends in
+servants_live d h well m x is alive sends =
+    let S = lives_always d h well.legal well.well m x is alive sends in
     record {
       actor = S.servant;
       is = S.is;
@@ -418,4 +416,4 @@ servants_live controls d h well m x is alive sends =
     by Cleans y there serves over = over
     by (Spawns c) y there serves over =
         let it = is_sender x.program sends in
-        not_long c x.past y.past (told_in c (after d h)) (asked_of c (after d h)) (posts_in controls d h well c x y it.0 is it.1 there serves) over
+        not_long c x.past y.past (told_in c (after d h)) (asked_of c (after d h)) (posts_in d h well c x y it.0 is it.1 there serves) over

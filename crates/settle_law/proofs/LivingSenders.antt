@@ -3,18 +3,23 @@ use Rattle.std.proofs.Common.{◌≡◌, ◌≢◌, ⊎_elim, ℕ, List, [], ◌
 use Rattle.std.specs.Prelude.{codes, option_map}
 use Rattle.std.specs.List.{list_all}
 use Rattle.std.proofs.lemmas.Bool.{and_parts}
-use Rattle.address_rules.specs.declared.controls.Controls.{Controls}
 use Rattle.call_fs.proofs.Maps.{put_at_cases}
 use Rattle.call_fs.specs.Disk.{Disk}
 use Rattle.call_fs.specs.Maps.{put_at}
 use Rattle.call_fs.specs.Past.{IsRunBy}
 use Rattle.call_fs.specs.declared.past.NeedData.{NeedData}
 use Rattle.call_fs.specs.declared.past.Own.{Own}
-use Rattle.program_law.specs.Sender.Control.{AreControls}
 use Rattle.queue_law.specs.Numbers.{find, is_later}
 use Rattle.queue_paths.specs.Names.Name.{Of}
 use Rattle.queue_paths.specs.Names.{Part}
-use Rattle.send_core.specs.Table.{Next}
+use Rattle.retry_law.specs.Infos.{coming}
+use Rattle.send_core.specs.Births.{Birth}
+use Rattle.send_core.specs.Table.{Next, place_after}
+use Rattle.send_jobs.specs.Jobs.{job_of}
+use Rattle.send_jobs.specs.Sending.{lane}
+use Rattle.send_jobs.specs.declared.jobs.Job.{Job}
+use Rattle.send_known.specs.declared.channel.Channel.{Channel}
+use Rattle.send_runs.specs.Knowing.{known_in}
 use Rattle.world_events.specs.declared.event.Program.TheVariants.{Sender}
 use Rattle.world_events.specs.declared.event.Program.{Program}
 use Rattle.mail_world.proofs.Members.{are_four}
@@ -27,9 +32,16 @@ use Rattle.world_law.specs.Crew.{IsNamed}
 use Rattle.world_law.specs.Inv.{Inv}
 use Rattle.settle_law.proofs.OthersInfos.{later_left}
 
--- each file that preprocessing made is as it was
-abbrev pub LeftLater : Disk → Disk → Type 0
-LeftLater d e = (part : Part) (n : ℕ) → is_later part ≡ true → find e.names e.files (Of part n) ≡ find d.names d.files (Of part n)
+-- A number that concerns a sender: it knows the message, or knows it next, or has a job on it.
+pub data Concerns (past : List Own) (n : ℕ) : Type 0 where
+  Knows : known_in past n ≡ true → Concerns past n
+  KnowsNext : (it : Birth) → coming (place_after None past).row (place_after None past).pass ≡ Some it → it.n ≡ n → Concerns past n
+  HasJob : (c : Channel) (job : Job) → job_of n (lane c (place_after None past).slots).jobs ≡ Some job → Concerns past n
+
+-- Of each such number the files that preprocessing made are as they were. Of others somebody else may make them: who takes up a number that
+-- this sender doesn't know yet.
+abbrev pub LeavesItsOwn : Disk → Disk → List Own → Type 0
+LeavesItsOwn d e past = (part : Part) (n : ℕ) → is_later part ≡ true → Concerns past n → find e.names e.files (Of part n) ≡ find d.names d.files (Of part n)
 
 over_dead : (status : ℕ) → Over status ≡ Alive → ⊥
 over_dead status e = cc
@@ -42,12 +54,12 @@ cut_dead Alive e = cc
 cut_dead (Over status) e = cc
 cut_dead Stopped e = cc
 
-module _ (controls : Controls) (ok : Event → Bool) (P : Disk → List Own → Type 0) (none : (d : Disk) → P d [])
-    (does : (s : State) (I : Inv controls s) (a : List ℕ) (own : Own) (wrote : ℕ) (may : MayDo s a own wrote) (start : ℕ) → may.actor.program ≡ Sender start → ok (Act a own wrote) ≡ true
+module _ (ok : Event → Bool) (P : Disk → List Own → Type 0) (none : (d : Disk) → P d [])
+    (does : (s : State) (I : Inv s) (a : List ℕ) (own : Own) (wrote : ℕ) (may : MayDo s a own wrote) (start : ℕ) → may.actor.program ≡ Sender start → ok (Act a own wrote) ≡ true
     → IsRunBy (Next None) (own ∷ may.actor.past) → P s.disk may.actor.past → P (disk_after s.disk own.read own.due own.came wrote) (own ∷ may.actor.past))
     (bears : (s : State) (a : List ℕ) (own : Own) (b : List ℕ) (program : Program) (may : MayBear s a own b program) (start : ℕ) → may.actor.program ≡ Sender start
     → IsRunBy (Next None) (own ∷ may.actor.past) → P s.disk may.actor.past → P s.disk (own ∷ may.actor.past))
-    (others : (d e : Disk) (past : List Own) → LeftLater d e → P d past → P e past) where
+    (others : (d e : Disk) (past : List Own) → LeavesItsOwn d e past → P d past → P e past) where
   abbrev Holds : Disk → Actor → Type 0
   Holds d x = (start : ℕ) → x.program ≡ Sender start → x.life ≡ Alive → IsRunBy (Next None) x.past → P d x.past
 
@@ -69,7 +81,7 @@ module _ (controls : Controls) (ok : Event → Bool) (P : Disk → List Own → 
 
   -- An event of an actor
 
-  module _ (s : State) (I : Inv controls s) (R : AllHold s.disk s.actors) (a : List ℕ) (own : Own) (wrote : ℕ) (may : MayDo s a own wrote) (good : ok (Act a own wrote) ≡ true) where
+  module _ (s : State) (I : Inv s) (R : AllHold s.disk s.actors) (a : List ℕ) (own : Own) (wrote : ℕ) (may : MayDo s a own wrote) (good : ok (Act a own wrote) ≡ true) where
     abbrev x : Actor
     x = may.actor
 
@@ -83,7 +95,7 @@ module _ (controls : Controls) (ok : Event → Bool) (P : Disk → List Own → 
         let other : b ≡ codes "sender" = subst (IsNamed b) program (I.crew b y is) in
         absurd (far (other ∙ sym mine))
     others_by p e_is b y far is start program alive run =
-        others s.disk e y.past (later_left controls s I a own wrote may (λ h. subst IsSender e_is h)) (R b y is start program alive run)
+        others s.disk e y.past (λ part n later concerns. later_left s I a own wrote may (λ h. subst IsSender e_is h) part n later) (R b y is start program alive run)
 
     own_held : Holds e (record { program = x.program; past = own ∷ x.past; life = x.life })
     own_held start program alive run = does s I a own wrote may start program good run (R a x may.reads.is start program alive run.0)
@@ -107,19 +119,19 @@ module _ (controls : Controls) (ok : Event → Bool) (P : Disk → List Own → 
   -- Any event
 
   -- the descriptors of who ended are shut
-  shut_held : (d e : Disk) (actors : List ℕ → Option Actor) → LeftLater d e → AllHold d actors → AllHold e actors
-  shut_held d e actors left R a x is start program alive run = others d e x.past left (R a x is start program alive run)
+  shut_held : (d e : Disk) (actors : List ℕ → Option Actor) → ((past : List Own) → LeavesItsOwn d e past) → AllHold d actors → AllHold e actors
+  shut_held d e actors left R a x is start program alive run = others d e x.past (left x.past) (R a x is start program alive run)
 
   ended : (s : State) → AllHold s.disk s.actors → (a : List ℕ) (life : Life) → (life ≡ Alive → ⊥) → (o : Option Actor) → AllHold (finished s a life o).disk (finished s a life o).actors
   ended s R a life dead None = R
   ended s R a life dead (Some y) =
-      let e : Disk = (finished s a life (Some y)).disk in put_over e s.actors a y life dead (shut_held s.disk e s.actors (λ part n later. refl) R)
+      let e : Disk = (finished s a life (Some y)).disk in put_over e s.actors a y life dead (shut_held s.disk e s.actors (λ past part n later concerns. refl) R)
 
   halted : (d : Disk) (o : Option Actor) (x : Actor) → option_map stopped o ≡ Some x → Holds d x
   halted d None x is start program alive run = absurd (cc)
   halted d (Some y) x is start program alive run = absurd (cut_dead y.life (ap (λ (z : Actor). z.life) (some_actor (stopped y) x is) ∙ alive))
 
-  event_held : (e : Event) (s : State) → Inv controls s → AllHold s.disk s.actors → ok e ≡ true → Allowed s e → AllHold (happens s e).disk (happens s e).actors
+  event_held : (e : Event) (s : State) → Inv s → AllHold s.disk s.actors → ok e ≡ true → Allowed s e → AllHold (happens s e).disk (happens s e).actors
   event_held (Start a program) s I R good may = put_new s.disk s.actors a program R
   event_held (Act a own wrote) s I R good may =
       subst (λ (o : Option Actor). AllHold (acted s a own wrote o).disk (acted s a own wrote o).actors) (sym may.reads.is) (acts_held s I R a own wrote may good)
@@ -136,8 +148,8 @@ module _ (controls : Controls) (ok : Event → Bool) (P : Disk → List Own → 
   event_held (Moment m) s I R good may = R
   event_held (Halt how contents) s I R good may = λ a x is. halted (happens s (Halt how contents)).disk (s.actors a) x is
 
-  pub all_held : (d : Disk) → AreControls controls d → (h : List Event) → Legal d h → list_all ok h ≡ true → AllHold (after d h).disk (after d h).actors
-  all_held d are [] legal good = λ a x is. absurd (cc)
-  all_held d are (e ∷ h) legal good =
+  pub all_held : (d : Disk) → (h : List Event) → Legal d h → list_all ok h ≡ true → AllHold (after d h).disk (after d h).actors
+  all_held d [] legal good = λ a x is. absurd (cc)
+  all_held d (e ∷ h) legal good =
       let parts = and_parts (ok e) (list_all ok h) good in
-      event_held e (after d h) (always controls d h are legal.0) (all_held d are h legal.0 parts.1) parts.0 legal.1
+      event_held e (after d h) (always d h legal.0) (all_held d h legal.0 parts.1) parts.0 legal.1

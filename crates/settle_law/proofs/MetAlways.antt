@@ -1,7 +1,6 @@
 -- Each preprocessed message is met by the sender that lives.
 use Rattle.std.proofs.Common.{◌≡◌, ◌≢◌, inr, ⊎_elim, ℕ, List, [], ◌∷◌, Option, Some, None, refl, sym, ap, ◌∙◌, subst}
 use Rattle.std.specs.Prelude.{codes, option_map}
-use Rattle.address_rules.specs.declared.controls.Controls.{Controls}
 use Rattle.call_fs.proofs.Maps.{put_at_cases}
 use Rattle.call_fs.specs.Disk.{Disk, Open as OpenFile}
 use Rattle.call_fs.specs.Maps.{put_at}
@@ -12,7 +11,6 @@ use Rattle.call_fs.specs.declared.past.NeedData.{NeedData}
 use Rattle.call_fs.specs.declared.past.NeedData.TheVariants as needs
 use Rattle.call_fs.specs.declared.past.Own.{Own}
 use Rattle.call_fs.specs.declared.program.Port.TheVariants as port
-use Rattle.program_law.specs.Sender.Control.{AreControls}
 use Rattle.queue_paths.specs.Names.{path}
 use Rattle.queue_paths.specs.Names.Name.{Of}
 use Rattle.queue_paths.specs.Names.Part.{Info}
@@ -70,7 +68,7 @@ none_left d e n same none = by (e.names (path (Of Info n))) refl where
   by None is = refl
   by (Some i) is = let was : HasInfo d n (e.files i).moment = same (e.files i).moment (i, is, refl) in let there : d.names (path (Of Info n)) ≡ Some was.0 = was.1 in absurd (cc)
 
-module _ (controls : Controls) (s : State) (I : Inv controls s) (R : AllMet s.disk s.actors) (a : List ℕ) (own : Own) (wrote : ℕ) (may : MayDo s a own wrote) where
+module _ (s : State) (I : Inv s) (R : AllMet s.disk s.actors) (a : List ℕ) (own : Own) (wrote : ℕ) (may : MayDo s a own wrote) where
   abbrev x : Actor
   x = may.actor
 
@@ -83,8 +81,8 @@ module _ (controls : Controls) (s : State) (I : Inv controls s) (R : AllMet s.di
     met = λ n low high filed. ⊎_elim
         (λ (there : IsFiled s.disk n). was.met n low high there)
         (λ (all : (y : Actor) (start : ℕ) → s.actors (codes "sender") ≡ Some y → y.program ≡ Sender start → y.life ≡ Alive → Comes (desk_of y.past).row (desk_of y.past) n). inr (comes n all))
-        (other_filed controls s I a own wrote may other n filed);
-    gone = λ n removes. none_left s.disk e n (same_look s.disk e n (other_left controls s I a own wrote may other n)) (was.gone n removes);
+        (other_filed s I a own wrote may other n filed);
+    gone = λ n removes. none_left s.disk e n (same_look s.disk e n (other_left s I a own wrote may other n)) (was.gone n removes);
   }
 
   -- another sender lives: then its event is no sender's
@@ -100,9 +98,9 @@ module _ (controls : Controls) (s : State) (I : Inv controls s) (R : AllMet s.di
   own_met : Met e (record { program = x.program; past = own ∷ x.past; life = x.life })
   own_met start program alive run stays = record {
     met = λ n low high filed.
-        let there : IsFiled s.disk n = own_filed controls s I a own wrote may start program n filed in
-        stays_met own x.past run stays.1 n low high (own_shows controls s I a own wrote may start program n low high there was.gone) (was.met n low high there);
-    gone = own_gone controls s I a own wrote may start program run.1.1;
+        let there : IsFiled s.disk n = own_filed s I a own wrote may start program n filed in
+        stays_met own x.past run stays.1 n low high (own_shows s I a own wrote may start program n low high there was.gone) (was.met n low high there);
+    gone = own_gone s I a own wrote may start program run.1.1;
   }
     where
       was : AreMet s.disk x.past
@@ -172,23 +170,23 @@ halted_met : (d : Disk) (o : Option Actor) (x : Actor) → option_map stopped o 
 halted_met d None x is start program alive run stays = absurd (cc)
 halted_met d (Some y) x is start program alive run stays = absurd (cut_dead y.life (ap (λ (z : Actor). z.life) (some_actor (stopped y) x is) ∙ alive))
 
-event_met : (controls : Controls) (e : Event) (s : State) → Inv controls s → AllMet s.disk s.actors → Allowed s e → AllMet (happens s e).disk (happens s e).actors
-event_met controls (Start a program) s I R may = put_new s.disk s.actors a program R
-event_met controls (Act a own wrote) s I R may =
-    subst (λ (o : Option Actor). AllMet (acted s a own wrote o).disk (acted s a own wrote o).actors) (sym may.reads.is) (acts controls s I R a own wrote may)
-event_met controls (Child parent own a program) s I R may =
+event_met : (e : Event) (s : State) → Inv s → AllMet s.disk s.actors → Allowed s e → AllMet (happens s e).disk (happens s e).actors
+event_met (Start a program) s I R may = put_new s.disk s.actors a program R
+event_met (Act a own wrote) s I R may =
+    subst (λ (o : Option Actor). AllMet (acted s a own wrote o).disk (acted s a own wrote o).actors) (sym may.reads.is) (acts s I R a own wrote may)
+event_met (Child parent own a program) s I R may =
     let t : State = acted s parent own 0 (s.actors parent) in
     put_new t.disk t.actors a program
     (subst (λ (o : Option Actor). AllMet (acted s parent own 0 o).disk (acted s parent own 0 o).actors) (sym may.reads.is) (bears_all s R parent own a program may))
-event_met controls (Generation (sender ∷ clean ∷ lspawn ∷ rspawn ∷ [])) s I R may =
+event_met (Generation (sender ∷ clean ∷ lspawn ∷ rspawn ∷ [])) s I R may =
     put_new s.disk _ _ rspawn (put_new s.disk _ _ lspawn (put_new s.disk _ _ clean (put_new s.disk s.actors _ sender R)))
-event_met controls (Generation crew) s I R may = absurd (are_four crew may.kinds)
-event_met controls (Report slot output) s I R may = R
-event_met controls (End a read ready status) s I R may = ended s R a (Over status) (over_dead status) (s.actors a)
-event_met controls (Stop a) s I R may = ended s R a Stopped stopped_dead (s.actors a)
-event_met controls (Moment m) s I R may = R
-event_met controls (Halt how contents) s I R may = λ a x is. halted_met (happens s (Halt how contents)).disk (s.actors a) x is
+event_met (Generation crew) s I R may = absurd (are_four crew may.kinds)
+event_met (Report slot output) s I R may = R
+event_met (End a read ready status) s I R may = ended s R a (Over status) (over_dead status) (s.actors a)
+event_met (Stop a) s I R may = ended s R a Stopped stopped_dead (s.actors a)
+event_met (Moment m) s I R may = R
+event_met (Halt how contents) s I R may = λ a x is. halted_met (happens s (Halt how contents)).disk (s.actors a) x is
 
-pub all_met : (controls : Controls) (d : Disk) → AreControls controls d → (h : List Event) → Legal d h → AllMet (after d h).disk (after d h).actors
-all_met controls d are [] legal = λ a x is. absurd (cc)
-all_met controls d are (e ∷ h) legal = event_met controls e (after d h) (always controls d h are legal.0) (all_met controls d are h legal.0) legal.1
+pub all_met : (d : Disk) → (h : List Event) → Legal d h → AllMet (after d h).disk (after d h).actors
+all_met d [] legal = λ a x is. absurd (cc)
+all_met d (e ∷ h) legal = event_met e (after d h) (always d h legal.0) (all_met d h legal.0) legal.1

@@ -3,7 +3,6 @@ use Rattle.std.proofs.Common.{◌≡◌, ◌≢◌, ⊎_elim, ℕ, List, [], ◌
 use Rattle.std.specs.Prelude.{Contains}
 use Rattle.std.specs.List.{list_all}
 use Rattle.std.proofs.lemmas.Bool.{and_parts}
-use Rattle.address_rules.specs.declared.controls.Controls.{Controls}
 use Rattle.call_fs.specs.Disk.{Disk}
 use Rattle.call_fs.specs.Maps.{put_at}
 use Rattle.call_fs.proofs.Maps.{put_at_cases, put_at_other}
@@ -83,7 +82,7 @@ clean_none (cleaning.Ended status) name now asked e = cc
 
 -- The start of a child
 
-module _ (controls : Controls) (s : State) (H : Holds controls s) (parent : List ℕ) (own : Own) (a : List ℕ) (program : Program) (may : MayBear s parent own a program) where
+module _ (s : State) (H : Holds s) (parent : List ℕ) (own : Own) (a : List ℕ) (program : Program) (may : MayBear s parent own a program) where
   abbrev x : Actor
   x = may.actor
 
@@ -151,7 +150,7 @@ module _ (controls : Controls) (s : State) (H : Holds controls s) (parent : List
 
 -- Other events
 
-module _ (controls : Controls) (s : State) (H : Holds controls s) where
+module _ (s : State) (H : Holds s) where
   clean_there : (z : Actor) (start : ℕ) → s.actors (codes "sender") ≡ Some z → z.life ≡ Alive → z.program ≡ Sender start → IsServed Cleans s
   clean_there z start is alive runs = H.served (record { actor = z; is = is; alive = alive; sends = subst IsSender (sym runs) tt })
 
@@ -254,36 +253,36 @@ module _ (controls : Controls) (s : State) (H : Holds controls s) where
 
 -- Each event
 
-event_minds : (e : Event) (controls : Controls) (d : Disk) (h : List Event) → Legal d (e ∷ h) → goes_well e ≡ true → Holds controls (after d h) → Minds (after d (e ∷ h))
-event_minds (Start a program) controls d h legal well H = start_minds controls (after d h) H a program legal.1.new
-event_minds (Act a own wrote) controls d h legal well H =
+event_minds : (e : Event) (d : Disk) (h : List Event) → Legal d (e ∷ h) → goes_well e ≡ true → Holds (after d h) → Minds (after d (e ∷ h))
+event_minds (Start a program) d h legal well H = start_minds (after d h) H a program legal.1.new
+event_minds (Act a own wrote) d h legal well H =
     subst (λ (o : Option Actor). Minds (acted (after d h) a own wrote o)) (sym legal.1.reads.is)
-    (acts_minded controls (after d h) H a own wrote legal.1 well (λ args is c due. injections_are_in_time d a own wrote h legal legal.1.actor legal.1.reads.is args is c due))
-event_minds (Child parent own a program) controls d h legal well H =
-    subst (λ (o : Option Actor). Minds (bears (acted (after d h) parent own 0 o) parent own a program)) (sym legal.1.reads.is) (child_minds controls (after d h) H parent own a program legal.1)
-event_minds (Generation (sender ∷ clean ∷ lspawn ∷ rspawn ∷ [])) controls d h legal well H = generation_minds controls (after d h) H sender clean lspawn rspawn legal.1
-event_minds (Generation crew) controls d h legal well H = absurd (are_four crew legal.1.kinds)
-event_minds (Report slot output) controls d h legal well H = report_minds controls (after d h) H slot output
-event_minds (End a read ready status) controls d h legal well H =
+    (acts_minded (after d h) H a own wrote legal.1 well (λ args is c due. injections_are_in_time d a own wrote h legal legal.1.actor legal.1.reads.is args is c due))
+event_minds (Child parent own a program) d h legal well H =
+    subst (λ (o : Option Actor). Minds (bears (acted (after d h) parent own 0 o) parent own a program)) (sym legal.1.reads.is) (child_minds (after d h) H parent own a program legal.1)
+event_minds (Generation (sender ∷ clean ∷ lspawn ∷ rspawn ∷ [])) d h legal well H = generation_minds (after d h) H sender clean lspawn rspawn legal.1
+event_minds (Generation crew) d h legal well H = absurd (are_four crew legal.1.kinds)
+event_minds (Report slot output) d h legal well H = report_minds (after d h) H slot output
+event_minds (End a read ready status) d h legal well H =
     subst (λ (o : Option Actor). Minds (finished (after d h) a (Over status) o)) (sym legal.1.reads.is)
-    (end_minds controls (after d h) H a legal.1.actor legal.1.reads.is status read ready legal.1.due well)
-event_minds (Stop a) controls d h legal well H = absurd (cc)
-event_minds (Moment m) controls d h legal well H = moment_minds controls (after d h) H m
-event_minds (Halt how contents) controls d h legal well H = absurd (cc)
+    (end_minds (after d h) H a legal.1.actor legal.1.reads.is status read ready legal.1.due well)
+event_minds (Stop a) d h legal well H = absurd (cc)
+event_minds (Moment m) d h legal well H = moment_minds (after d h) H m
+event_minds (Halt how contents) d h legal well H = absurd (cc)
 
-minds_always : (controls : Controls) (d : Disk) (h : List Event) → GoesWell controls d h → Minds (after d h)
-minds_always controls d [] g = λ n half. absurd (half.mess (g.legal.empty Mess n))
-minds_always controls d (e ∷ h) g =
+minds_always : (d : Disk) (h : List Event) → GoesWell d h → Minds (after d h)
+minds_always d [] g = λ n half. absurd (half.mess (g.legal.empty Mess n))
+minds_always d (e ∷ h) g =
     let parts = and_parts (goes_well e) (list_all goes_well h) g.well in
-    let before : GoesWell controls d h = record { are = g.are; local = g.local; remote = g.remote; legal = g.legal.0; well = parts.1 } in
-    event_minds e controls d h g.legal parts.0 (record {
-      inv = always controls d h g.are g.legal.0;
-      minds = minds_always controls d h before;
-      served = λ it. servants_live controls d h before Cleans it.actor it.is it.alive it.sends;
-      opened = open_always controls d h before;
+    let before : GoesWell d h = record { legal = g.legal.0; well = parts.1 } in
+    event_minds e d h g.legal parts.0 (record {
+      inv = always d h g.legal.0;
+      minds = minds_always d h before;
+      served = λ it. servants_live d h before Cleans it.actor it.is it.alive it.sends;
+      opened = open_always d h before;
       dirs = λ dir here. subst (λ (l : List (List ℕ)). Contains l dir) (sym (same_dirs d h)) ((legal_opens d h g.legal.0).dirs dir here);
       small = λ n i is. numbers_are_small d h g.legal.0 parts.1 n i is;
     })
 
 pub half_ways_are_minded : HalfWaysAreMinded
-half_ways_are_minded controls d h g = minds_always controls d h g
+half_ways_are_minded d h g = minds_always d h g

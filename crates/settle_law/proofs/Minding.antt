@@ -2,7 +2,6 @@
 use Rattle.std.proofs.Common.{◌≡◌, ◌≢◌, ◌⊎◌, ⊎_elim, ℕ, List, [], ◌∷◌, ◌++◌, Bool, true, false, if◌then◌else◌, Option, Some, None, refl, sym, ap, ◌∙◌, subst, bytes_eq, codes}
 use Rattle.std.specs.Prelude.{Contains, IsSome}
 use Rattle.std.proofs.lemmas.Bool.{false≢true}
-use Rattle.address_rules.specs.declared.controls.Controls.{Controls}
 use Rattle.call_fs.specs.Apply.{Fits}
 use Rattle.call_fs.specs.Maps.{put_at}
 use Rattle.call_fs.proofs.Maps.{put_at_cases, put_at_other, put_at_same}
@@ -55,7 +54,6 @@ use Rattle.send_parts.specs.Steps.{remove_text}
 use Rattle.spawner_parts.specs.Table.{row_now as remote_now}
 use Rattle.todo_pass.specs.Disks.{HoldsTodo}
 use Rattle.todo_pass.specs.Table as pass_table
-use Rattle.todo_pass.specs.Table.{Pass}
 use Rattle.todo_pass.specs.declared.part.Target.TheVariants as target
 use Rattle.todo_pass.specs.declared.row.Row.{Row as PassRow}
 use Rattle.todo_pass.specs.declared.row.Row.TheVariants as todo
@@ -92,8 +90,8 @@ abbrev pub Minds : State → Type 0
 Minds s = (n : ℕ) → IsHalfWay s.disk n → IsMinded s n
 
 -- what holds besides in each state of such a history
-pub record Holds (controls : Controls) (s : State) : Type 0 where
-  pub inv : Inv controls s
+pub record Holds (s : State) : Type 0 where
+  pub inv : Inv s
   pub minds : Minds s
   pub served : Sends s → IsServed Cleans s
   pub opened : IsOpen s
@@ -104,11 +102,11 @@ none_some : {A B : Type 0} (i : A) → ◌≡◌ {A = Option A} None (Some i) �
 none_some i e = absurd (cc)
 
 -- a message that is being preprocessed, or is, is a living injection
-info_lives : (controls : Controls) (w : About) → Phase controls w → (y : Entry) → w.parts Info ≡ Some y → (i : Injection) × (w.living ≡ Some i)
-info_lives controls w (Free free) y there = none_some y (sym (free.unsorted Info refl) ∙ there)
-info_lives controls w (Queued queued) y there = (queued.taken.injection, queued.taken.lives)
-info_lives controls w (Sorted sorted) y there = (sorted.taken.injection, sorted.taken.lives)
-info_lives controls w (Finished finished) y there = none_some y (sym (finished.unsorted Info refl) ∙ there)
+info_lives : (w : About) → Phase w → (y : Entry) → w.parts Info ≡ Some y → (i : Injection) × (w.living ≡ Some i)
+info_lives w (Free free) y there = none_some y (sym (free.unsorted Info refl) ∙ there)
+info_lives w (Queued queued) y there = (queued.taken.injection, queued.taken.lives)
+info_lives w (Sorted sorted) y there = (sorted.taken.injection, sorted.taken.lives)
+info_lives w (Finished finished) y there = none_some y (sym (finished.unsorted Info refl) ∙ there)
 
 -- what a living sender waits for
 waits_for : (o : Option Actor) (z : Actor) (start : ℕ) → o ≡ Some z → z.life ≡ Alive → z.program ≡ Sender start → awaits_in o ≡ awaits (desk_of z.past)
@@ -130,7 +128,7 @@ calm row name now free = tt
 
 -- An event of an actor
 
-module _ (controls : Controls) (s : State) (H : Holds controls s) (a : List ℕ) (own : Own) (wrote : ℕ) (may : MayDo s a own wrote) (well : came_well own.came ≡ true)
+module _ (s : State) (H : Holds s) (a : List ℕ) (own : Own) (wrote : ℕ) (may : MayDo s a own wrote) (well : came_well own.came ≡ true)
     (soon : (args : Arguments) → may.actor.program ≡ Injector args → (c : CallData) → own.due ≡ needs.File c → InTime s.now args) where
   abbrev x : Actor
   x = may.actor
@@ -265,7 +263,7 @@ module _ (controls : Controls) (s : State) (H : Holds controls s) (a : List ℕ)
         let file : own.due ≡ needs.File c =
         sym timely ∙ ap (in_time (has_input own.ready) (is_late args own.read)) due ∙ called (has_input own.ready) (is_late args own.read) c own.came comes in
         let relies : Relies q a args (inject.LinkTodo n) =
-        subst (Relies q a args) e (relies_by controls s.now q a x.program x.past x.life args is may.reads.alive (H.inv.fares a x may.reads.is) (soon args is c file)) in
+        subst (Relies q a args) e (relies_by s.now q a x.program x.past x.life args is may.reads.alive (H.inv.fares a x may.reads.is) (soon args is c file)) in
         let held = relies.holds.rest in
         let intd = found s.disk.names s.disk.files (Of Intd n) (record { number = relies.number; file = held.file }) held.intd in
         record {
@@ -315,9 +313,9 @@ module _ (controls : Controls) (s : State) (H : Holds controls s) (a : List ℕ)
     place_then : place_in (t.actors (codes "clean")) ≡ clean_after (own ∷ x.past)
     place_then = ap (λ (m : List ℕ). place_in (t.actors m)) (sym named) ∙ ap place_in (put_at_same s.actors a (Some y)) ∙ ap (λ (p : Program). place_by p (own ∷ x.past)) is
 
-    stood : CleanerStands controls s.now q (clean_after x.past)
-    stood = subst (λ (l : Life). FaresBy controls s.now q a (Cleaner began) x.past l) may.reads.alive
-        (subst (λ (p : Program). FaresBy controls s.now q a p x.past x.life) is (H.inv.fares a x may.reads.is))
+    stood : CleanerStands s.now q (clean_after x.past)
+    stood = subst (λ (l : Life). FaresBy s.now q a (Cleaner began) x.past l) may.reads.alive
+        (subst (λ (p : Program). FaresBy s.now q a p x.past x.life) is (H.inv.fares a x may.reads.is))
 
     not_sender : IsSender x.program → ⊥
     not_sender sends = subst IsSender is sends
@@ -325,10 +323,10 @@ module _ (controls : Controls) (s : State) (H : Holds controls s) (a : List ℕ)
     -- a todo file goes only from a message that has its info file
     todo_kept : (n : ℕ) → IsHalfWay t.disk n → (row : CleanRow) → cleaner_row ≡ row → IsTakingTodo row n → ⊥
     todo_kept n half (clean.UnlinkSecond (TodoCommand m)) e same =
-        let rests : Rests controls s.now q (clean.UnlinkSecond (TodoCommand m)) = subst (λ (r : CleanRow). CleanStandsAt controls s.now q r (clean_after x.past)) e stood in
-        let info = rests.rest.0.info in
+        let rests : Rests s.now q (clean.UnlinkSecond (TodoCommand m)) = subst (λ (r : CleanRow). CleanStandsAt s.now q r (clean_after x.past)) e stood in
+        let info = rests.rest.0.made.info in
         let there : look q (Of Info n) ≡ Some info.file = ap (λ (k : ℕ). look q (Of Info k)) (sym same) ∙ info.there in
-        none_some info.file (sym (find_none t.disk.names t.disk.files (Of Info n) half.no_info) ∙ other_left controls s H.inv a own wrote may not_sender n ∙ there)
+        none_some info.file (sym (find_none t.disk.names t.disk.files (Of Info n) half.no_info) ∙ other_left s H.inv a own wrote may not_sender n ∙ there)
     todo_kept n half r e taking = absurd taking
 
     cleaner_waits : (n : ℕ) → IsHalfWay t.disk n → WaitsOn n
@@ -418,7 +416,7 @@ module _ (controls : Controls) (s : State) (H : Holds controls s) (a : List ℕ)
           by : (o : Option ℕ) → s.disk.names (path (Of Info n)) ≡ o → IsSome o → IsNumber n
           by None e some = absurd (false≢true some)
           by (Some i) e some =
-              let w = info_lives controls (about q n) (H.inv.sound.fine n) (entry s.disk.files i) (find_some s.disk.names s.disk.files (Of Info n) i e) in H.small n w.0 w.1
+              let w = info_lives (about q n) (H.inv.sound.fine n) (entry s.disk.files i) (find_some s.disk.names s.disk.files (Of Info n) i e) in H.small n w.0 w.1
 
       finishes : IsMinded t n
       finishes = Gives y began there_then may.reads.alive is (ap (λ (r : Row). (moved_by r own.read own.came d).row) at_it ∙ row_then) number
@@ -426,9 +424,9 @@ module _ (controls : Controls) (s : State) (H : Holds controls s) (a : List ℕ)
     -- It clears what an earlier preprocessing left: its todo file is there
 
     clears_none : (n : ℕ) → IsUndone s.disk n own.due own.came → send_row ≡ at.InTodo → IsClearing d.pass.row → d.pass.n ≡ n → ⊥
-    clears_none n u at_it clearing same = by d.pass.row refl (at_row controls s H.inv a own wrote may began is well at.InTodo at_it).rests.1.1 clearing
+    clears_none n u at_it clearing same = by d.pass.row refl (at_row s H.inv a own wrote may began is well at.InTodo at_it).rests.1.1 clearing
       where
-        by : (r : PassRow) → d.pass.row ≡ r → TodoStands controls s.now q a r d.pass → IsClearing r → ⊥
+        by : (r : PassRow) → d.pass.row ≡ r → TodoStands d.book.controls s.now q a r d.pass → IsClearing r → ⊥
         by (todo.Clear target.Info) e st clearing =
             let queued = (st.stands.rests (subst HoldsTodo (sym e) tt)).rest in
             let todo_is : in_todo (parts_of s.disk.names n) ≡ Some queued.todo.number =

@@ -2,7 +2,6 @@
 use Rattle.std.proofs.Common.{◌≡◌, ◌≢◌, ◌⊎◌, ⊎_elim, ℕ, List, ◌∷◌, ◌++◌, Bool, true, false, Option, Some, None, refl, sym, ap, ◌∙◌, subst, bytes_eq, codes}
 use Rattle.std.specs.Prelude.{is_some}
 use Rattle.std.proofs.lemmas.Bool.{false≢true}
-use Rattle.address_rules.specs.declared.controls.Controls.{Controls}
 use Rattle.call_fs.specs.Disk.{Disk}
 use Rattle.call_fs.specs.declared.past.NeedData.{NeedData}
 use Rattle.call_fs.specs.declared.past.NeedData.TheVariants as needs
@@ -95,7 +94,7 @@ search_gives due d text e is = false≢true (ap is_search_call (sym is) ∙ e)
 no_finish : (row : Row) (step : FinishRow) (n : ℕ) → row ≡ at.Finish step n → BeginsTurn row → ⊥
 no_finish row step n e begins = subst BeginsTurn e begins
 
-module _ (controls : Controls) (d : Disk) (later : List Deed) (first : Deed) (before : List Deed) (rest : IsRest controls d later first before) (n : ℕ) where
+module _ (d : Disk) (later : List Deed) (first : Deed) (before : List Deed) (rest : IsRest d later first before) (n : ℕ) where
   abbrev h : List Event
   h = history_of before
 
@@ -112,14 +111,14 @@ module _ (controls : Controls) (d : Disk) (later : List Deed) (first : Deed) (be
   abbrev own : Own
   own = rest.turn.searches.own
 
-  well : GoesWell controls d h
-  well = turned.well_before d later first before rest.turn controls rest.well
+  well : GoesWell d h
+  well = turned.well_before d later first before rest.turn rest.well
 
   alike : AreAlike s t
   alike = turned.alike d later first before rest.turn
 
   may : MayDo s (codes "sender") own rest.turn.searches.wrote
-  may = (turned.well_first d later first before rest.turn controls rest.well).legal.1
+  may = (turned.well_first d later first before rest.turn rest.well).legal.1
 
   sends : (start : ℕ) × (x.program ≡ Sender start) × (is_search (row_now (desk_of x.past) own.read own.ready) ≡ true)
   sends = turned.sends d later first before rest.turn
@@ -165,10 +164,10 @@ module _ (controls : Controls) (d : Disk) (later : List Deed) (first : Deed) (be
 
       by : (o : Option Slot) → s.pipework.slots b ≡ o → ⊥
       by None alone =
-          others_end.mails controls d (history_of (later ++ first ∷ before)) rest.well rest.others b z args (left b far ∙ is) alive far runs
+          others_end.mails d (history_of (later ++ first ∷ before)) rest.well rest.others b z args (left b far ∙ is) alive far runs
           (ap (λ (w : Pipework). w.slots b) (sym alike.pipework) ∙ alone)
       by (Some slot) at_it =
-          let f : IsFed s.actors s.pipework slot b = fed_always controls d h well.are well.legal well.well b slot at_it in
+          let f : IsFed s.actors s.pipework slot b = fed_always d h well.legal well.well b slot at_it in
           ⊎_elim acts (none_feeds slot b) f.fed
 
   none_minds : IsMinded s n → ⊥
@@ -177,10 +176,10 @@ module _ (controls : Controls) (d : Disk) (later : List Deed) (first : Deed) (be
   none_minds (Waits z start is alive runs row small empty free) = none_finishes z finish.Take is row
 
   none_half : IsHalfWay t.disk n → ⊥
-  none_half half = none_minds (half_ways_are_minded controls d h well n (subst (λ (disk : Disk). IsHalfWay disk n) (sym alike.disk) half))
+  none_half half = none_minds (half_ways_are_minded d h well n (subst (λ (disk : Disk). IsHalfWay disk n) (sym alike.disk) half))
 
 pub none_is_half_way : NoneIsHalfWay
-none_is_half_way controls d later first before rest n = (
-  λ e. none_half controls d later first before rest n (in_second (after d (later ++ first ∷ before)).disk n e),
-  λ e. none_half controls d later first before rest n (in_third (after d (later ++ first ∷ before)).disk n e),
+none_is_half_way d later first before rest n = (
+  λ e. none_half d later first before rest n (in_second (after d (later ++ first ∷ before)).disk n e),
+  λ e. none_half d later first before rest n (in_third (after d (later ++ first ∷ before)).disk n e),
 )

@@ -3,7 +3,6 @@ use Rattle.std.proofs.Common.{◌≡◌, ◌⊎◌, inl, inr, ⊎_elim, ℕ, Lis
 use Rattle.std.specs.Prelude.{Contains}
 use Rattle.std.specs.List.{list_all}
 use Rattle.std.proofs.lemmas.Bool.{and_parts, false≢true}
-use Rattle.address_rules.specs.declared.controls.Controls.{Controls}
 use Rattle.call_fs.specs.Apply.{Fits}
 use Rattle.call_fs.specs.Disk.{Disk}
 use Rattle.call_fs.specs.declared.calls.Answer.{Answer}
@@ -99,7 +98,7 @@ module _ (past : List Own) (first : Own) (turned_in : (desk_of (first ∷ past))
 
 -- The first search
 
-module _ (controls : Controls) (d : Disk) (later : List Deed) (first : Deed) (before : List Deed) (rest : IsRest controls d later first before) where
+module _ (d : Disk) (later : List Deed) (first : Deed) (before : List Deed) (rest : IsRest d later first before) where
   abbrev s : State
   s = after d before
 
@@ -115,8 +114,8 @@ module _ (controls : Controls) (d : Disk) (later : List Deed) (first : Deed) (be
   abbrev desk : Desk
   desk = desk_of x.past
 
-  well : GoesWell controls d (Act (codes "sender") own wrote ∷ history_of before)
-  well = turned.well_first d later first before rest.turn controls rest.well
+  well : GoesWell d (Act (codes "sender") own wrote ∷ history_of before)
+  well = turned.well_first d later first before rest.turn rest.well
 
   whole : IsWholeTurn x.past own (turned.more d later first before rest.turn)
   whole = turned.whole d later first before rest.turn
@@ -128,7 +127,7 @@ module _ (controls : Controls) (d : Disk) (later : List Deed) (first : Deed) (be
   may = well.legal.1
 
   stays : NoneLeft None x.past
-  stays = passes_go_on controls d (history_of before) (turned.well_before d later first before rest.turn controls rest.well) (codes "sender") x sends.0 rest.turn.is sends.1
+  stays = passes_go_on d (history_of before) (turned.well_before d later first before rest.turn rest.well) (codes "sender") x sends.0 rest.turn.is sends.1
 
   next : next_of (Sender sends.0) x.past own.read own.ready ≡ own.due
   next = subst (λ (p : Program). next_of p x.past own.read own.ready ≡ own.due) sends.1
@@ -149,7 +148,7 @@ module _ (controls : Controls) (d : Disk) (later : List Deed) (first : Deed) (be
   gave_none g = by (message_number g.name) refl
     where
       by : (o : Option ℕ) → message_number g.name ≡ o → ⊥
-      by None stray = none_given controls d own wrote (history_of before) well rest.empty (record { after = []; due = due; told = g.told; came = g.is; name = g.name; gives = g.gave; stray = stray })
+      by None stray = none_given d own wrote (history_of before) well rest.empty (record { after = []; due = due; told = g.told; came = g.is; name = g.name; gives = g.gave; stray = stray })
       by (Some n) number = no_pass x.past own (begins_pass g n number) (turned.more d later first before rest.turn) whole.goes_on whole.ends
 
   found_none : Fits s.disk (NextName (codes "todo") []) answer.NoName wrote
@@ -160,6 +159,6 @@ module _ (controls : Controls) (d : Disk) (later : List Deed) (first : Deed) (be
       (and_parts (goes_well (Act (codes "sender") own wrote)) (list_all goes_well (history_of before)) well.well).0)
 
 pub unqueued : RestsUnqueued
-unqueued controls d later first before rest n e =
-    none (after d before).disk rest.turn.searches.wrote (found_none controls d later first before rest) n (waits_small controls d (history_of (later ++ first ∷ before)) n rest.well e)
+unqueued d later first before rest n e =
+    none (after d before).disk rest.turn.searches.wrote (found_none d later first before rest) n (waits_small d (history_of (later ++ first ∷ before)) n rest.well e)
     (ap (λ (disk : Disk). state_of disk n) (turned.alike d later first before rest.turn).disk ∙ e)

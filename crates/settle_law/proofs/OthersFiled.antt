@@ -3,7 +3,6 @@
 use Rattle.std.proofs.Common.{◌≡◌, ◌≢◌, ◌⊎◌, inl, inr, ⊎_elim, ℕ, true, List, Option, Some, None, refl, sym, ap, ◌∙◌, subst, arith}
 use Rattle.std.specs.Prelude.{IsSome, codes, is_some}
 use Rattle.std.proofs.lemmas.Bool.Decides.{eqb_tells}
-use Rattle.address_rules.specs.declared.controls.Controls.{Controls}
 use Rattle.call_fs.specs.Apply.{effect}
 use Rattle.call_fs.specs.Disk.{Disk}
 use Rattle.call_fs.specs.declared.calls.Answer.{Answer}
@@ -97,7 +96,7 @@ module _ (waits : Option Command) (x : Link) (E : Errand waits x) (n : ℕ) (wor
   row_comes (at.Ended status) d e = tt
   row_comes row d e = not_idle e
 
-module _ (controls : Controls) (s : State) (I : Inv controls s) (a : List ℕ) (own : Own) (wrote : ℕ) where
+module _ (s : State) (I : Inv s) (a : List ℕ) (own : Own) (wrote : ℕ) where
   abbrev q : Queue
   q = queue s I.role
 
@@ -138,7 +137,7 @@ module _ (controls : Controls) (s : State) (I : Inv controls s) (a : List ℕ) (
   intd_far : (m n : ℕ) (part : Part) → is_todo part ≡ true → path (Of part n) ≢ path (Of Intd m)
   intd_far m n part is = texts_apart (Of part n) (Of Intd m) (todo_apart part n (Of Intd m) is refl)
 
-  cleaner_by : (row : CleanRow) (p : Place) (name : List ℕ) (c : CallData) (told : Answer) → StandsAt controls s.now q row p → clean_due_at row name own.read ≡ needs.File c
+  cleaner_by : (row : CleanRow) (p : Place) (name : List ℕ) (c : CallData) (told : Answer) → StandsAt s.now q row p → clean_due_at row name own.read ≡ needs.File c
       → ((n : ℕ) → number_at row ≢ Some n → about (called_queue q a own.read c told wrote q.role) n ≡ about q n) → ((n : ℕ) → work_at row ≡ Some (Todo n) → at_work row ≡ 1 → Awaited n)
       → (n : ℕ) → look q (Of Info n) ≢ None → IsFiled (effect s.disk own.read c told wrote) n → IsFiled s.disk n ⊎ Awaited n
   cleaner_by (clean.UnlinkIntd (Foop m)) p name c told h due same waits n there filed = ⊎_elim
@@ -181,7 +180,7 @@ module _ (controls : Controls) (s : State) (I : Inv controls s) (a : List ℕ) (
 
   injector_left : (args : Arguments) (past : List Own) → Runs (Injector args) past → (due : NeedData) (got : GotData) → next_of (Injector args) past own.read own.ready ≡ due → ComesOf s a due got wrote → Left due got
   injector_left args past may (needs.File c) (came.Answered told) next comes n filed =
-      let w = injector_calls controls s.now q a args past own.read own.ready c told wrote I.sound (I.fares a (actor (Injector args) past) may.is) may.no_earlier may.no_stall next comes.0 in
+      let w = injector_calls s.now q a args past own.read own.ready c told wrote I.sound (I.fares a (actor (Injector args) past) may.is) may.no_earlier may.no_stall next comes.0 in
       let there = info_back (queue_after q a args own.read c told.answer wrote w.role) n (by_sorted q (queue_after q a args own.read c told.answer wrote w.role) w.sorted w.unsorted Info n refl) filed.1 in
       inl (filed_by (queue_after q a args own.read c told.answer wrote w.role) n (w.sorted n (Info, refl, has_look n there)) filed)
   injector_left args past may due got next comes n filed = inl filed
@@ -190,7 +189,7 @@ module _ (controls : Controls) (s : State) (I : Inv controls s) (a : List ℕ) (
   cleaner_left since past may (needs.File c) (came.Answered told) next comes n filed =
       let p : Place = clean_after past in
       let st = I.fares a (actor (Cleaner since) past) may.is in
-      let leads = cleaners_keep controls s.now q a past own.read own.ready c told wrote I.sound st may.no_later next comes.0 in
+      let leads = cleaners_keep s.now q a past own.read own.ready c told wrote I.sound st may.no_later next comes.0 in
       let later = by_row q a own.read wrote told.answer p.row p.name c next comes.0 leads.abouts Info n refl in
       let there = info_back (called_queue q a own.read c told.answer wrote q.role) n later filed.1 in
       cleaner_by p.row p p.name c told.answer st next leads.abouts (awaited since past may) n (has_look n there) filed
@@ -199,7 +198,7 @@ module _ (controls : Controls) (s : State) (I : Inv controls s) (a : List ℕ) (
   local_left : (since : ℕ) (past : List Own) → Runs (LocalSpawner since) past → (due : NeedData) (got : GotData) → next_of (LocalSpawner since) past own.read own.ready ≡ due → ComesOf s a due got wrote → Left due got
   local_left since past may (needs.File c) (came.Answered told) next comes n filed =
       let reads = local_reads q a (local_after past) own.ready c (I.fares a (actor (LocalSpawner since) past) may.is) next in
-      let w = reads_keep controls s.now q a I.sound own.read c told.answer wrote reads comes.0 in
+      let w = reads_keep s.now q a I.sound own.read c told.answer wrote reads comes.0 in
       inl (filed_by (called_queue q a own.read c told.answer wrote q.role) n (about_same s.now a None q (called_queue q a own.read c told.answer wrote q.role) w.elsewhere n (λ e. absurd (cc))) filed)
   local_left since past may due got next comes n filed = inl filed
 
@@ -207,7 +206,7 @@ module _ (controls : Controls) (s : State) (I : Inv controls s) (a : List ℕ) (
   remote_left since past may (needs.File c) (came.Answered told) next comes n filed =
       let p = remote_after past in
       let holds = arrive_holds q a p.row p own.ready (I.fares a (actor (RemoteSpawner since) past) may.is) in
-      let w = reads_keep controls s.now q a I.sound own.read c told.answer wrote (only_reads q a (remote_asks p.request) (remote_now p own.ready) p c holds next) comes.0 in
+      let w = reads_keep s.now q a I.sound own.read c told.answer wrote (only_reads q a (remote_asks p.request) (remote_now p own.ready) p c holds next) comes.0 in
       inl (filed_by (called_queue q a own.read c told.answer wrote q.role) n (about_same s.now a None q (called_queue q a own.read c told.answer wrote q.role) w.elsewhere n (λ e. absurd (cc))) filed)
   remote_left since past may due got next comes n filed = inl filed
 

@@ -1,6 +1,5 @@
 -- An event of an actor that is no sender leaves each file that preprocessing made.
 use Rattle.std.proofs.Common.{◌≡◌, ℕ, List, true, refl}
-use Rattle.address_rules.specs.declared.controls.Controls.{Controls}
 use Rattle.call_fs.specs.Disk.{Disk}
 use Rattle.call_fs.specs.declared.past.GotData.TheVariants as came
 use Rattle.call_fs.specs.declared.past.GotData.{GotData}
@@ -36,7 +35,7 @@ use Rattle.world_law.specs.Fares.{DeliveryFares}
 use Rattle.world_law.specs.Inv.{Inv}
 use Rattle.settle_law.proofs.LaterLeft.{by_about, by_row, by_sorted}
 
-module _ (controls : Controls) (s : State) (I : Inv controls s) (a : List ℕ) (own : Own) (wrote : ℕ) where
+module _ (s : State) (I : Inv s) (a : List ℕ) (own : Own) (wrote : ℕ) where
   abbrev q : Queue
   q = queue s I.role
 
@@ -51,21 +50,21 @@ module _ (controls : Controls) (s : State) (I : Inv controls s) (a : List ℕ) (
 
   injector_left : (args : Arguments) (past : List Own) → Runs (Injector args) past → (due : NeedData) (got : GotData) → next_of (Injector args) past own.read own.ready ≡ due → ComesOf s a due got wrote → Left due got
   injector_left args past may (needs.File c) (came.Answered told) next comes part n later =
-      let w = injector_calls controls s.now q a args past own.read own.ready c told wrote I.sound (I.fares a (actor (Injector args) past) may.is) may.no_earlier may.no_stall next comes.0 in
+      let w = injector_calls s.now q a args past own.read own.ready c told wrote I.sound (I.fares a (actor (Injector args) past) may.is) may.no_earlier may.no_stall next comes.0 in
       by_sorted q (queue_after q a args own.read c told.answer wrote w.role) w.sorted w.unsorted part n later
   injector_left args past may due got next comes part n later = refl
 
   cleaner_left : (since : ℕ) (past : List Own) → Runs (Cleaner since) past → (due : NeedData) (got : GotData) → next_of (Cleaner since) past own.read own.ready ≡ due → ComesOf s a due got wrote → Left due got
   cleaner_left since past may (needs.File c) (came.Answered told) next comes part n later =
       let p : Place = clean_after past in
-      let leads = cleaners_keep controls s.now q a past own.read own.ready c told wrote I.sound (I.fares a (actor (Cleaner since) past) may.is) may.no_later next comes.0 in
+      let leads = cleaners_keep s.now q a past own.read own.ready c told wrote I.sound (I.fares a (actor (Cleaner since) past) may.is) may.no_later next comes.0 in
       by_row q a own.read wrote told.answer p.row p.name c next comes.0 leads.abouts part n later
   cleaner_left since past may due got next comes part n later = refl
 
   local_left : (since : ℕ) (past : List Own) → Runs (LocalSpawner since) past → (due : NeedData) (got : GotData) → next_of (LocalSpawner since) past own.read own.ready ≡ due → ComesOf s a due got wrote → Left due got
   local_left since past may (needs.File c) (came.Answered told) next comes part n later =
       let reads = local_reads q a (local_after past) own.ready c (I.fares a (actor (LocalSpawner since) past) may.is) next in
-      let w = reads_keep controls s.now q a I.sound own.read c told.answer wrote reads comes.0 in
+      let w = reads_keep s.now q a I.sound own.read c told.answer wrote reads comes.0 in
       w.elsewhere.looks (Of part n) (λ e. absurd (cc))
   local_left since past may due got next comes part n later = refl
 
@@ -73,7 +72,7 @@ module _ (controls : Controls) (s : State) (I : Inv controls s) (a : List ℕ) (
   remote_left since past may (needs.File c) (came.Answered told) next comes part n later =
       let p = remote_after past in
       let holds = arrive_holds q a p.row p own.ready (I.fares a (actor (RemoteSpawner since) past) may.is) in
-      let w = reads_keep controls s.now q a I.sound own.read c told.answer wrote (only_reads q a (remote_asks p.request) (remote_now p own.ready) p c holds next) comes.0 in
+      let w = reads_keep s.now q a I.sound own.read c told.answer wrote (only_reads q a (remote_asks p.request) (remote_now p own.ready) p c holds next) comes.0 in
       w.elsewhere.looks (Of part n) (λ e. absurd (cc))
   remote_left since past may due got next comes part n later = refl
 

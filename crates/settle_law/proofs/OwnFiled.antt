@@ -5,7 +5,6 @@ use Rattle.std.specs.Ordering.{is_gt, nat_cmp}
 use Rattle.std.specs.Prelude.{IsSome, is_some, if◌then◌else◌, nat_lt}
 use Rattle.std.specs.declared.cmp.Ordering.{Ordering}
 use Rattle.std.specs.declared.cmp.Ordering.TheVariants.{Equal, Greater, Less}
-use Rattle.address_rules.specs.declared.controls.Controls.{Controls}
 use Rattle.bounce_record.specs.Returning.{Returning, due_at as return_due_at}
 use Rattle.bounce_record.specs.Writing.{Writing, due_at as note_due_at}
 use Rattle.bounce_record.specs.declared.note_row.NoteRow.TheVariants as written
@@ -87,7 +86,7 @@ up_to Less text n is low short = (short, inr is)
 up_to Equal text n is low short = (short, inl (same-text text (digits n) is))
 up_to Greater text n is low short = absurd (cc)
 
-module _ (controls : Controls) (s : State) (I : Inv controls s) (a : List ℕ) (own : Own) (wrote : ℕ) (may : MayDo s a own wrote) (began : ℕ) (is : may.actor.program ≡ Sender began) where
+module _ (s : State) (I : Inv s) (a : List ℕ) (own : Own) (wrote : ℕ) (may : MayDo s a own wrote) (began : ℕ) (is : may.actor.program ≡ Sender began) where
   abbrev q : Queue
   q = queue s I.role
 
@@ -101,16 +100,16 @@ module _ (controls : Controls) (s : State) (I : Inv controls s) (a : List ℕ) (
   row = row_now d own.read own.ready
 
   abbrev At : Row → Type 0
-  At r = StandsAt controls s.now q a r d
+  At r = StandsAt s.now q a r d
 
   here : At row
-  here = stands controls s I a own wrote may began is
+  here = stands s I a own wrote may began is
 
   came_here : ComesOf s a (due_at row d) own.came wrote
-  came_here = comes_there controls s I a own wrote may began is
+  came_here = comes_there s I a own wrote may began is
 
   same_due : due_at row d ≡ own.due
-  same_due = due controls s I a own wrote may began is
+  same_due = due s I a own wrote may began is
 
   -- No call that is due takes a todo file away, or makes an info file without one
 
@@ -144,15 +143,15 @@ module _ (controls : Controls) (s : State) (I : Inv controls s) (a : List ℕ) (
     mark_keeps r m = tt
 
     -- a pass makes the info file of its number, whose todo file is there
-    info_made : (p : Pass) → p.row ≡ todo.Create target.Info → PassStands controls s.now q a p.n p.row → path (Of Info n) ≡ path (Of Info p.n) → IsSome (in_todo (parts_of s.disk.names n))
+    info_made : (p : Pass) → p.row ≡ todo.Create target.Info → PassStands s.now q a p.n p.row → path (Of Info n) ≡ path (Of Info p.n) → IsSome (in_todo (parts_of s.disk.names n))
     info_made p at st same =
-        let here_st : PassStands controls s.now q a p.n (todo.Create target.Info) = subst (λ (r : PassRow). PassStands controls s.now q a p.n r) at st in
+        let here_st : PassStands s.now q a p.n (todo.Create target.Info) = subst (λ (r : PassRow). PassStands s.now q a p.n r) at st in
         let queued = (here_st.rests tt).rest in
         let there = todo_named s.disk.names s.disk.files p.n queued.todo queued.todo_there in
         let one : p.n ≡ n = (let names : ◌≡◌ {A = Option Name} (Some (Of Info n)) (Some (Of Info p.n)) = sym (parse-path (Of Info n)) ∙ ap parse same ∙ parse-path (Of Info p.n) in cc) in
         ap is_some (ap (λ (k : ℕ). in_todo (parts_of s.disk.names k)) (sym one) ∙ there)
 
-    pass_keeps : (r : PassRow) (p : Pass) → p.row ≡ r → TodoStands controls s.now q a r p → Kept (pass_table.due_at r p)
+    pass_keeps : (r : PassRow) (p : Pass) → p.row ≡ r → TodoStands d.book.controls s.now q a r p → Kept (pass_table.due_at r p)
     pass_keeps (todo.Clear target.Info) p at st = far_from (Of Info p.n) refl
     pass_keeps (todo.Clear target.Local) p at st = far_from (Of LocalFile p.n) refl
     pass_keeps (todo.Clear target.Remote) p at st = far_from (Of RemoteFile p.n) refl
@@ -248,8 +247,8 @@ module _ (controls : Controls) (s : State) (I : Inv controls s) (a : List ℕ) (
     open_shows (answer.Refused why.Memory) bytes fits missing = cc
     open_shows told bytes fits missing = fits
 
-    preprocessed : IsPreprocessed controls (about q n)
-    preprocessed = sorted_of controls (about q n) (I.sound.fine n) (todo_absent s.disk.names s.disk.files n filed.0) (entry s.disk.files info.0) (find_some s.disk.names s.disk.files (Of Info n) info.0 info.1)
+    preprocessed : IsPreprocessed (about q n)
+    preprocessed = sorted_of (about q n) (I.sound.fine n) (todo_absent s.disk.names s.disk.files n filed.0) (entry s.disk.files info.0) (find_some s.disk.names s.disk.files (Of Info n) info.0 info.1)
 
     same_entry : (o : Option Entry) (x y : Entry) → o ≡ Some x → o ≡ Some y → x ≡ y
     same_entry o x y e f = cc
@@ -304,6 +303,6 @@ module _ (controls : Controls) (s : State) (I : Inv controls s) (a : List ℕ) (
 
   pub own_gone : MayCome own.due own.came → (n : ℕ) → Removes (place_after None (own ∷ past)).row n → (disk_after s.disk own.read own.due own.came wrote).names (path (Of Info n)) ≡ None
   own_gone comes n removes =
-      let w = removed_gone controls s.now q a d own.read own.ready here n own.came (subst (λ (need : NeedData). MayCome need own.came) (sym same_due) comes) removes in
+      let w = removed_gone s.now q a d own.read own.ready here n own.came (subst (λ (need : NeedData). MayCome need own.came) (sym same_due) comes) removes in
       subst (λ (need : NeedData). (disk_after s.disk own.read need own.came wrote).names (path (Of Info n)) ≡ None) (sym w.1 ∙ same_due)
       (not_found s.disk.names s.disk.files (Of Info n) w.2)

@@ -2,7 +2,6 @@
 use Rattle.std.proofs.Common.{◌≡◌, ◌≢◌, ℕ, List, [], ◌∷◌, Bool, true, false, Option, Some, None, eqb-true, refl, sym, ap, ◌∙◌, subst}
 use Rattle.std.specs.Prelude.{All, ◌==◌, ◌||◌}
 use Rattle.std.proofs.lemmas.List.Elements.{All-head, All-tail}
-use Rattle.address_rules.specs.declared.controls.Controls.{Controls}
 use Rattle.bounce_record.specs.Returning.{Returning, due_at as return_due_at}
 use Rattle.bounce_record.specs.Writing.{Writing, due_at as note_due_at}
 use Rattle.bounce_record.specs.declared.note_row.NoteRow.TheVariants as written
@@ -113,7 +112,7 @@ other_part part k n far same = far (some_name (Of Info n) (Of part k) (sym (pars
   some_name : (x y : Name) → ◌≡◌ {A = Option Name} (Some x) (Some y) → x ≡ y
   some_name x y e = cc
 
-module _ (controls : Controls) (s : State) (I : Inv controls s) (a : List ℕ) (own : Own) (wrote : ℕ) (may : MayDo s a own wrote) (began : ℕ) (is : may.actor.program ≡ Sender began) where
+module _ (s : State) (I : Inv s) (a : List ℕ) (own : Own) (wrote : ℕ) (may : MayDo s a own wrote) (began : ℕ) (is : may.actor.program ≡ Sender began) where
   abbrev q : Queue
   q = queue s I.role
 
@@ -127,10 +126,10 @@ module _ (controls : Controls) (s : State) (I : Inv controls s) (a : List ℕ) (
   row = row_now d own.read own.ready
 
   abbrev At : Row → Type 0
-  At r = StandsAt controls s.now q a r d
+  At r = StandsAt s.now q a r d
 
   here : At row
-  here = stands controls s I a own wrote may began is
+  here = stands s I a own wrote may began is
 
   -- an open file that was made as another part is no info file
   else_by : (n : ℕ) (o : Option OpenFile) (how : OpenFile) (y : Entry) (role : Role) → o ≡ Some how → how.number ≡ y.number → I.role y.number ≡ role → role ≢ AsPart Info n → IsElse s.disk n o
@@ -155,8 +154,8 @@ module _ (controls : Controls) (s : State) (I : Inv controls s) (a : List ℕ) (
   info_apart k n far e = far (cc)
 
   -- what a pass holds open
-  holds_at : (r : PassRow) (p : Pass) → p.row ≡ r → PassStands controls s.now q a p.n p.row → PassStands controls s.now q a p.n r
-  holds_at r p same st = subst (λ (x : PassRow). PassStands controls s.now q a p.n x) same st
+  holds_at : (r : PassRow) (p : Pass) → p.row ≡ r → PassStands s.now q a p.n p.row → PassStands s.now q a p.n r
+  holds_at r p same st = subst (λ (x : PassRow). PassStands s.now q a p.n x) same st
 
   local_else : (n k : ℕ) (fd : Fd) (y : Entry) → look q (Of LocalFile k) ≡ Some y → s.disk.opens fd.0 ≡ Some (created y.number) → IsElse s.disk n (s.disk.opens fd.0)
   local_else n k fd y there opened = else_by n (s.disk.opens fd.0) (created y.number) y (AsPart LocalFile k) opened refl (lane_made Local k y there) (lane_far Local k n)
@@ -187,7 +186,7 @@ module _ (controls : Controls) (s : State) (I : Inv controls s) (a : List ℕ) (
     start_spares (start.ReadInfo split k (Shutting fd)) = tt
     start_spares r = tt
 
-    note_spares : (r : NoteRow) (note : Writing) (m : Marked) (name report text : List ℕ) → NoteHolds controls q a r m name report text → Spares s.disk n (note_due_at r note)
+    note_spares : (r : NoteRow) (note : Writing) (m : Marked) (name report text : List ℕ) → NoteHolds d.book.controls q a r m name report text → Spares s.disk n (note_due_at r note)
     note_spares written.Open note m name report text h = tt
     note_spares written.Create note m name report text h = creates _
     note_spares (written.Append fd done) note m name report text h =
@@ -203,14 +202,14 @@ module _ (controls : Controls) (s : State) (I : Inv controls s) (a : List ℕ) (
     mark_spares r m st = tt
 
     -- the number of a pass isn't preprocessed
-    passes_another : (p : Pass) (r : PassRow) → p.row ≡ r → PassStands controls s.now q a p.n p.row → (fd : Fd) (done : ℕ) → r ≡ todo.Append target.Info fd done → p.n ≢ n
+    passes_another : (p : Pass) (r : PassRow) → p.row ≡ r → PassStands s.now q a p.n p.row → (fd : Fd) (done : ℕ) → r ≡ todo.Append target.Info fd done → p.n ≢ n
     passes_another p r same st fd done e number =
         let st_at = holds_at (todo.Append target.Info fd done) p (same ∙ e) st in
         let queued = (st_at.rests tt).rest in
         let none = ap (λ (k : ℕ). in_todo (about q k).parts) number ∙ w.no_todo in
         absurd (cc (sym none ∙ queued.todo_there))
 
-    pass_spares : (r : PassRow) (p : Pass) → p.row ≡ r → TodoStands controls s.now q a r p → Spares s.disk n (pass_table.due_at r p)
+    pass_spares : (r : PassRow) (p : Pass) → p.row ≡ r → TodoStands d.book.controls s.now q a r p → Spares s.disk n (pass_table.due_at r p)
     pass_spares (todo.Create t) p same st = creates _
     pass_spares (todo.Append target.Info fd done) p same st =
         let h = (holds_at (todo.Append target.Info fd done) p same st.stands).holds in
@@ -259,7 +258,7 @@ module _ (controls : Controls) (s : State) (I : Inv controls s) (a : List ℕ) (
 
   -- Nor one of the message that becomes known next, unless the event tells so
 
-  pass_next : (r : PassRow) (p : Pass) → p.row ≡ r → TodoStands controls s.now q a r p → (it : Birth) → born (has_written r) p ≡ Some it → Spares s.disk it.n (pass_table.due_at r p)
+  pass_next : (r : PassRow) (p : Pass) → p.row ≡ r → TodoStands d.book.controls s.now q a r p → (it : Birth) → born (has_written r) p ≡ Some it → Spares s.disk it.n (pass_table.due_at r p)
   pass_next (todo.Create target.Local) p same st it e = λ free. other_part LocalFile p.n it.n (λ x. cc)
   pass_next (todo.Create target.Remote) p same st it e = λ free. other_part RemoteFile p.n it.n (λ x. cc)
   pass_next (todo.Append target.Local fd done) p same st it e = let h = (holds_at (todo.Append target.Local fd done) p same st.stands).holds in local_else it.n p.n fd h.file h.there h.opened.opened
@@ -303,7 +302,7 @@ module _ (controls : Controls) (s : State) (I : Inv controls s) (a : List ℕ) (
           sym (ap (λ (f : File). f.moment) grew) ∙ has.2
   append_told n fd bytes y there opened told it e moment h = absurd (cc)
 
-  pass_told : (r : PassRow) (p : Pass) → p.row ≡ r → (got : GotData) → TodoStands controls s.now q a r p → ComesOf s a (pass_table.due_at r p) got wrote → (it : Birth) → pass_tells r p.n own.read got ≡ Some it → (moment : ℕ)
+  pass_told : (r : PassRow) (p : Pass) → p.row ≡ r → (got : GotData) → TodoStands d.book.controls s.now q a r p → ComesOf s a (pass_table.due_at r p) got wrote → (it : Birth) → pass_tells r p.n own.read got ≡ Some it → (moment : ℕ)
       → HasInfo (Then (pass_table.due_at r p) got) it.n moment → it.moment ≡ moment
   pass_told (todo.Append target.Info fd done) p same (came.Answered told) st comes it e moment h =
       let held = (holds_at (todo.Append target.Info fd done) p same st.stands).holds in append_told p.n fd _ held.file held.there held.opened.opened told.answer it e moment h
@@ -315,7 +314,7 @@ module _ (controls : Controls) (s : State) (I : Inv controls s) (a : List ℕ) (
   row_told r got st comes it e moment h = absurd (cc)
 
   came_here : ComesOf s a (due_at row d) own.came wrote
-  came_here = comes_there controls s I a own wrote may began is
+  came_here = comes_there s I a own wrote may began is
 
   tells_here : IsRunBy (Next None) past → TellsInfos (info_in s.disk) (info_in (Then (due_at row d) own.came)) None past own
   tells_here run = record {
@@ -327,4 +326,4 @@ module _ (controls : Controls) (s : State) (I : Inv controls s) (a : List ℕ) (
   }
 
   pub own_tells : IsRunBy (Next None) past → TellsInfos (info_in s.disk) (info_in (Then own.due own.came)) None past own
-  own_tells run = subst (λ (x : NeedData). TellsInfos (info_in s.disk) (info_in (Then x own.came)) None past own) (due controls s I a own wrote may began is) (tells_here run)
+  own_tells run = subst (λ (x : NeedData). TellsInfos (info_in s.disk) (info_in (Then x own.came)) None past own) (due s I a own wrote may began is) (tells_here run)

@@ -1,6 +1,5 @@
 -- Which channel files an event of a sender leaves as they read.
 use Rattle.std.proofs.Common.{◌≡◌, ◌≢◌, ℕ, List, Option, Some, None, refl, sym, ap, ◌∙◌, subst}
-use Rattle.address_rules.specs.declared.controls.Controls.{Controls}
 use Rattle.bounce_record.specs.Returning.{Returning, due_at as return_due_at}
 use Rattle.bounce_record.specs.Writing.{Writing, due_at as note_due_at}
 use Rattle.bounce_record.specs.declared.note_row.NoteRow.TheVariants as written
@@ -100,7 +99,7 @@ info_named : (c : Channel) (k n : ℕ) → ◌≡◌ {A = Name} (Of (lane_part c
 info_named Local k n e = absurd (cc)
 info_named Remote k n e = absurd (cc)
 
-module _ (controls : Controls) (s : State) (I : Inv controls s) (a : List ℕ) (own : Own) (wrote : ℕ) (may : MayDo s a own wrote) (began : ℕ) (is : may.actor.program ≡ Sender began) where
+module _ (s : State) (I : Inv s) (a : List ℕ) (own : Own) (wrote : ℕ) (may : MayDo s a own wrote) (began : ℕ) (is : may.actor.program ≡ Sender began) where
   abbrev q : Queue
   q = queue s I.role
 
@@ -111,10 +110,10 @@ module _ (controls : Controls) (s : State) (I : Inv controls s) (a : List ℕ) (
   row = row_now d own.read own.ready
 
   abbrev At : Row → Type 0
-  At r = StandsAt controls s.now q a r d
+  At r = StandsAt s.now q a r d
 
   here : At row
-  here = stands controls s I a own wrote may began is
+  here = stands s I a own wrote may began is
 
   lane_made : (c : Channel) (k : ℕ) (y : Entry) → look q (Of (lane_part c) k) ≡ Some y → I.role y.number ≡ AsPart (lane_part c) k
   lane_made Local k y there = (I.sound.suits (Of LocalFile k) y there).0
@@ -145,7 +144,7 @@ module _ (controls : Controls) (s : State) (I : Inv controls s) (a : List ℕ) (
     start_left (start.ReadInfo split k (Shutting fd)) = tt
     start_left r = tt
 
-    note_left : (r : NoteRow) (note : Writing) (m : Marked) (name report text : List ℕ) → NoteHolds controls q a r m name report text → Left (note_due_at r note)
+    note_left : (r : NoteRow) (note : Writing) (m : Marked) (name report text : List ℕ) → NoteHolds d.book.controls q a r m name report text → Left (note_due_at r note)
     note_left written.Open note m name report text h = tt
     note_left written.Create note m name report text h = tt
     note_left (written.Append fd done) note m name report text h =
@@ -161,16 +160,16 @@ module _ (controls : Controls) (s : State) (I : Inv controls s) (a : List ℕ) (
     mark_left r m st far = tt
 
     -- the number of a pass isn't preprocessed
-    pass_at : (r : PassRow) (p : Pass) → p.row ≡ r → PassStands controls s.now q a p.n p.row → PassStands controls s.now q a p.n r
-    pass_at r p same st = subst (λ (x : PassRow). PassStands controls s.now q a p.n x) same st
+    pass_at : (r : PassRow) (p : Pass) → p.row ≡ r → PassStands s.now q a p.n p.row → PassStands s.now q a p.n r
+    pass_at r p same st = subst (λ (x : PassRow). PassStands s.now q a p.n x) same st
 
-    passes_another : (r : PassRow) (p : Pass) → HoldsTodo r → PassStands controls s.now q a p.n r → p.n ≢ n
+    passes_another : (r : PassRow) (p : Pass) → HoldsTodo r → PassStands s.now q a p.n r → p.n ≢ n
     passes_another r p holds st number =
         let queued = (st.rests holds).rest in
         let none = ap (λ (k : ℕ). in_todo (about q k).parts) number ∙ settled.no_todo in
         absurd (cc (sym none ∙ queued.todo_there))
 
-    pass_left : (r : PassRow) (p : Pass) → p.row ≡ r → TodoStands controls s.now q a r p → Left (pass_table.due_at r p)
+    pass_left : (r : PassRow) (p : Pass) → p.row ≡ r → TodoStands d.book.controls s.now q a r p → Left (pass_table.due_at r p)
     pass_left (todo.Clear target.Info) p same st = another Info p.n (passes_another (todo.Clear target.Info) p tt (pass_at (todo.Clear target.Info) p same st.stands))
     pass_left (todo.Clear target.Local) p same st = another LocalFile p.n (passes_another (todo.Clear target.Local) p tt (pass_at (todo.Clear target.Local) p same st.stands))
     pass_left (todo.Clear target.Remote) p same st = another RemoteFile p.n (passes_another (todo.Clear target.Remote) p tt (pass_at (todo.Clear target.Remote) p same st.stands))
@@ -235,4 +234,4 @@ module _ (controls : Controls) (s : State) (I : Inv controls s) (a : List ℕ) (
   files_by need got e comes c n y y_there settled far = refl
 
   pub own_files : LeavesFiles (Then own.due own.came)
-  own_files = files_by own.due own.came (due controls s I a own wrote may began is) may.came
+  own_files = files_by own.due own.came (due s I a own wrote may began is) may.came

@@ -46,7 +46,7 @@ use Rattle.todo_pass.specs.declared.sorted.Sorted.{Sorted}
 use Rattle.todo_pass.specs.Disks.{HoldsTodo, HoldsWhatWasRead}
 use Rattle.todo_pass.specs.Parts.{part_of, path_in}
 use Rattle.todo_pass.specs.Sorting.{has, sort_todo, text_of}
-use Rattle.todo_pass.specs.Table.{Pass, answer_row, appended, clear_row, cleared, create_row, give_row, made_row, moved, moved_at, next_piece, open_row, read, read_row, sorted_with, stated, sync_row}
+use Rattle.todo_pass.specs.Table.{Pass, answer_row, appended, clear_row, cleared, create_row, give_row, made_row, moved, moved_at, open_row, read, sorted_with, stated, sync_row}
 use Rattle.todo_pass.specs.Table as pass_table
 use Rattle.retry_law.specs.Left.{NoneLeft, is_left, leaves}
 use Rattle.program_law.proofs.Sender.Awaits.{arrives}
@@ -179,10 +179,10 @@ record IsApt (s : State) : Type 0 where
   dirs : (dir : List ℕ) → Contains queue_dirs dir → Contains s.disk.dirs dir
   small : (n : ℕ) (i : Injection) → s.books.living n ≡ Some i → n < 2 ^ 64
 
-apt : (controls : Controls) (d : Disk) (h : List Event) → GoesWell controls d h → IsApt (after d h)
-apt controls d h g = record {
+apt : (d : Disk) (h : List Event) → GoesWell d h → IsApt (after d h)
+apt d h g = record {
   texts = todo_texts_are_read d h g.legal g.well;
-  answers = todo_answers_are_well controls d h g;
+  answers = todo_answers_are_well d h g;
   dirs = λ dir here. subst (λ (l : List (List ℕ)). Contains l dir) (sym (same_dirs d h)) ((legal_opens d h g.legal).dirs dir here);
   small = λ n i is. (numbers_are_small d h g.legal g.well n i is).1;
 }
@@ -201,7 +201,7 @@ plus_taken pipe (b ∷ (c ∷ bytes)) plus yields = ⊎_elim
 
 -- An event of a sender
 
-module _ (controls : Controls) (s : State) (I : Inv controls s) (A : IsApt s) (a : List ℕ) (own : Own) (wrote : ℕ) (may : MayDo s a own wrote) (start : ℕ) (is : may.actor.program ≡ Sender start)
+module _ (s : State) (I : Inv s) (A : IsApt s) (a : List ℕ) (own : Own) (wrote : ℕ) (may : MayDo s a own wrote) (start : ℕ) (is : may.actor.program ≡ Sender start)
     (well : came_well own.came ≡ true) where
   abbrev q : Queue
   q = queue s I.role
@@ -218,17 +218,17 @@ module _ (controls : Controls) (s : State) (I : Inv controls s) (A : IsApt s) (a
   abbrev row : Row
   row = row_now d own.read own.ready
 
-  queued : PassGoesOn controls s.now q a p → HoldsTodo p.row → IsQueued controls (about q p.n)
+  queued : PassGoesOn d.book.controls s.now q a p → HoldsTodo p.row → IsQueued (about q p.n)
   queued h holds = (h.stands.rests holds).rest
 
   named : (x : Part) (n : ℕ) (y : Entry) → look q (Of x n) ≡ Some y → s.disk.names (path (Of x n)) ≡ Some y.number
   named x n y e = (found q.disk.names q.disk.files (Of x n) y e).0
 
-  rests : PassGoesOn controls s.now q a p → Rests controls p.row p s.disk
-  rests h = subst (λ (z : Pass). Rests controls z.row z s.disk) (sym h.is) (pass_rests controls p.n h.past h.first s.disk h.run h.leads)
+  rests : PassGoesOn d.book.controls s.now q a p → Rests d.book.controls p.row p s.disk
+  rests h = subst (λ (z : Pass). Rests d.book.controls z.row z s.disk) (sym h.is) (pass_rests d.book.controls p.n h.past h.first s.disk h.run h.leads)
 
   -- what was read is the message's todo text
-  read_well : (Q : IsQueued controls (about q p.n)) → HoldsWhatWasRead p.n p s.disk → (place : ℕ) → sort_todo d.book.controls p.todo ≡ Err place → ⊥
+  read_well : (Q : IsQueued (about q p.n)) → HoldsWhatWasRead p.n p s.disk → (place : ℕ) → sort_todo d.book.controls p.todo ≡ Err place → ⊥
   read_well Q held place bad =
       let w = found q.disk.names q.disk.files (Of Todo p.n) Q.todo (sym (todo_alone (about q p.n).parts) ∙ Q.todo_there) in
       let number : held.0 ≡ Q.todo.number = (let u = w.0 in let v = held.1 in cc) in
@@ -251,7 +251,7 @@ module _ (controls : Controls) (s : State) (I : Inv controls s) (A : IsApt s) (a
       plus_taken (s.pipework.pipes (codes "sender") port.Clean) bytes (A.answers p.n (waits_now at_pass e))
       (subst (λ (b : List ℕ). Yields (s.pipework.pipes b port.Clean) (came.Took bytes)) named_so (subst (λ (g : GotData). ComesOf s a (needs.Take port.Clean) g wrote) took comes))
 
-  by_row : (r : PassRow) → p.row ≡ r → row ≡ at.InTodo → TodoStands controls s.now q a r p → IsUnshut r → ComesOf s a (pass_table.due_at r p) own.came wrote → Goes (Moves r own.came).row
+  by_row : (r : PassRow) → p.row ≡ r → row ≡ at.InTodo → TodoStands d.book.controls s.now q a r p → IsUnshut r → ComesOf s a (pass_table.due_at r p) own.came wrote → Goes (Moves r own.came).row
   by_row (todo.Clear t) e at_pass h unshut comes =
       by_answer s a (λ g. came_well g ≡ true → Goes (Moves (todo.Clear t) g).row) (call.Unlink (path_in (part_of t) p.n)) wrote own.came comes
       (λ answers bytes fits fine. clear_goes s.disk (path_in (part_of t) p.n) t answers wrote fits fine) well
@@ -268,12 +268,12 @@ module _ (controls : Controls) (s : State) (I : Inv controls s) (A : IsApt s) (a
       (λ answers bytes fits fine. read_goes s.disk fd (length p.todo) 8192 p answers bytes wrote fits fine) well
   by_row (todo.CloseTodo fd) e at_pass h unshut comes =
       let Q = queued h (subst HoldsTodo (sym e) tt) in
-      let stood : Rests controls (todo.CloseTodo fd) p s.disk = subst (λ (r : PassRow). Rests controls r p s.disk) e (rests h) in
+      let stood : Rests d.book.controls (todo.CloseTodo fd) p s.disk = subst (λ (r : PassRow). Rests d.book.controls r p s.disk) e (rests h) in
       by_answer s a (λ g. Goes (Moves (todo.CloseTodo fd) g).row) (call.Close fd) wrote own.came comes
       (λ answers bytes fits. sorted_goes p (sort_todo d.book.controls p.todo) (read_well Q stood.todo))
   by_row (todo.Create t) e at_pass h unshut comes =
       let Q = queued h (subst HoldsTodo (sym e) tt) in
-      let stood : Rests controls (todo.Create t) p s.disk = subst (λ (r : PassRow). Rests controls r p s.disk) e (rests h) in
+      let stood : Rests d.book.controls (todo.Create t) p s.disk = subst (λ (r : PassRow). Rests d.book.controls r p s.disk) e (rests h) in
       let none : s.disk.names (path_in (part_of t) p.n) ≡ None = its_own t Gone p.sorted p.n s.disk stood.files in
       let dir : HasDir s.disk (path_in (part_of t) p.n) = has_dir s.disk t p.n A.dirs (A.small p.n Q.taken.injection Q.taken.lives) in
       by_answer s a (λ g. came_well g ≡ true → Goes (Moves (todo.Create t) g).row) (call.CreateExcl (path_in (part_of t) p.n)) wrote own.came comes
@@ -295,7 +295,7 @@ module _ (controls : Controls) (s : State) (I : Inv controls s) (A : IsApt s) (a
   by_row todo.Lost e at_pass h unshut comes = absurd comes
 
   in_pass : row ≡ at.InTodo → IsUnshut p.row → Goes (Moves p.row own.came).row
-  in_pass e unshut = by_row p.row refl e (at_row controls s I a own wrote may start is well at.InTodo e).rests.1.1 unshut (comes_at controls s I a own wrote may start is well at.InTodo e)
+  in_pass e unshut = by_row p.row refl e (at_row s I a own wrote may start is well at.InTodo e).rests.1.1 unshut (comes_at s I a own wrote may start is well at.InTodo e)
 
 -- Each past
 
@@ -322,13 +322,13 @@ module _ (past : List Own) (own : Own) (run : IsRunBy (Next None) (own ∷ past)
   holds_on : (r ≡ at.InTodo → Goes (moved e.book.controls e.pass own.read own.came).row) → Held (own ∷ past)
   holds_on fine = (goes_here r own.read own.came e comes_there (λ is. (fine is).0), (held.1, not_in r e own (λ is. (fine is).1)))
 
-acts : (controls : Controls) (s : State) (I : Inv controls s) → IsApt s → (a : List ℕ) (own : Own) (wrote : ℕ) (may : MayDo s a own wrote) (start : ℕ) → may.actor.program ≡ Sender start → goes_well (Act a own wrote) ≡ true
+acts : (s : State) (I : Inv s) → IsApt s → (a : List ℕ) (own : Own) (wrote : ℕ) (may : MayDo s a own wrote) (start : ℕ) → may.actor.program ≡ Sender start → goes_well (Act a own wrote) ≡ true
     → IsRunBy (Next None) may.actor.past → Held may.actor.past → Held (own ∷ may.actor.past)
-acts controls s I A a own wrote may start is well ran held =
+acts s I A a own wrote may start is well ran held =
     let past : List Own = may.actor.past in
     let due : Next None past own.read own.ready ≡ own.due = subst (λ (p : Program). next_of p past own.read own.ready ≡ own.due) is may.due in
     let run : IsRunBy (Next None) (own ∷ past) = (ran, (due, may_come s a own.due own.came wrote may.came)) in
-    holds_on past own run held (λ e. in_pass controls s I A a own wrote may start is well e (unshut_at past own run held e))
+    holds_on past own run held (λ e. in_pass s I A a own wrote may start is well e (unshut_at past own run held e))
 
 starts_none : (r : PassRow) (p : Pass) (asked : ChildData) → pass_table.due_at r p ≡ needs.Start asked → ⊥
 starts_none (todo.Clear t) p asked e = cc
@@ -357,6 +357,6 @@ bears s a own b program may start is ran held =
     holds_on past own run held (λ e. absurd (starts_none d.pass.row d.pass may.asked (ap (λ (r : Row). due_at r d) (sym e) ∙ due ∙ may.starts)))
 
 pub passes_go_on : PassesGoOn
-passes_go_on controls d h g a x start is program =
-    (sender_pasts controls goes_well IsApt Held (tt, tt) (λ s I A. acts controls s I A) (λ s I A. bears s) d g.are
-    (λ k legal well. apt controls d k (record { are = g.are; local = g.local; remote = g.remote; legal = legal; well = well })) h g.legal g.well a x is start program).1
+passes_go_on d h g a x start is program =
+    (sender_pasts goes_well IsApt Held (tt, tt) (λ s I A. acts s I A) (λ s I A. bears s) d
+    (λ k legal well. apt d k (record { legal = legal; well = well })) h g.legal g.well a x is start program).1

@@ -3,13 +3,11 @@ use Rattle.std.proofs.Common.{◌≡◌, ◌≢◌, ⊎_elim, ℕ, List, [], ◌
 use Rattle.std.specs.Prelude.{option_map}
 use Rattle.std.specs.List.{list_all}
 use Rattle.std.proofs.lemmas.Bool.{and_parts}
-use Rattle.address_rules.specs.declared.controls.Controls.{Controls}
 use Rattle.call_fs.proofs.Maps.{put_at_cases}
 use Rattle.call_fs.specs.Disk.{Disk}
 use Rattle.call_fs.specs.Maps.{put_at}
 use Rattle.call_fs.specs.Past.{IsRunBy}
 use Rattle.call_fs.specs.declared.past.Own.{Own}
-use Rattle.program_law.specs.Sender.Control.{AreControls}
 use Rattle.send_core.specs.Table.{Next}
 use Rattle.world_events.specs.declared.event.Program.{Program}
 use Rattle.world_events.specs.declared.event.Program.TheVariants.{Sender}
@@ -22,10 +20,10 @@ use Rattle.world_law.proofs.Ran.{HaveRun, have_run}
 use Rattle.world_law.proofs.Tenants.{some_actor}
 use Rattle.world_law.specs.Inv.{Inv}
 
-module _ (controls : Controls) (ok : Event → Bool) (Q : State → Type 0) (P : List Own → Type 0) (none : P [])
-    (acts : (s : State) (I : Inv controls s) → Q s → (a : List ℕ) (own : Own) (wrote : ℕ) (may : MayDo s a own wrote) (start : ℕ) → may.actor.program ≡ Sender start → ok (Act a own wrote) ≡ true
+module _ (ok : Event → Bool) (Q : State → Type 0) (P : List Own → Type 0) (none : P [])
+    (acts : (s : State) (I : Inv s) → Q s → (a : List ℕ) (own : Own) (wrote : ℕ) (may : MayDo s a own wrote) (start : ℕ) → may.actor.program ≡ Sender start → ok (Act a own wrote) ≡ true
     → IsRunBy (Next None) may.actor.past → P may.actor.past → P (own ∷ may.actor.past))
-    (bears : (s : State) (I : Inv controls s) → Q s → (a : List ℕ) (own : Own) (b : List ℕ) (program : Program) (may : MayBear s a own b program) (start : ℕ) → may.actor.program ≡ Sender start
+    (bears : (s : State) (I : Inv s) → Q s → (a : List ℕ) (own : Own) (b : List ℕ) (program : Program) (may : MayBear s a own b program) (start : ℕ) → may.actor.program ≡ Sender start
     → IsRunBy (Next None) may.actor.past → P may.actor.past → P (own ∷ may.actor.past)) where
   abbrev Holds : Actor → Type 0
   Holds x = (start : ℕ) → x.program ≡ Sender start → P x.past
@@ -57,7 +55,7 @@ module _ (controls : Controls) (ok : Event → Bool) (Q : State → Type 0) (P :
     stops None x held is = absurd (cc)
     stops (Some y) x held is = subst Holds (some_actor (stopped y) x is) (held y refl)
 
-  event_holds : (e : Event) (s : State) → Inv controls s → Q s → HaveRun s.actors → AllHold s.actors → ok e ≡ true → Allowed s e → AllHold (happens s e).actors
+  event_holds : (e : Event) (s : State) → Inv s → Q s → HaveRun s.actors → AllHold s.actors → ok e ≡ true → Allowed s e → AllHold (happens s e).actors
   event_holds (Start a program) s I w ran R well may = put_holds s.actors a (newborn program) R (born program)
   event_holds (Act a own wrote) s I w ran R well may =
       subst (λ (o : Option Actor). AllHold (acted s a own wrote o).actors) (sym may.reads.is)
@@ -75,8 +73,8 @@ module _ (controls : Controls) (ok : Event → Bool) (Q : State → Type 0) (P :
   event_holds (Moment m) s I w ran R well may = R
   event_holds (Halt how contents) s I w ran R well may = λ a x is. stops s R ran (s.actors a) x (R a) is
 
-  pub sender_pasts : (d : Disk) → AreControls controls d → ((h : List Event) → Legal d h → list_all ok h ≡ true → Q (after d h)) → (h : List Event) → Legal d h → list_all ok h ≡ true → AllHold (after d h).actors
-  sender_pasts d are facts [] legal well = λ a x is. absurd (cc)
-  sender_pasts d are facts (e ∷ h) legal well =
+  pub sender_pasts : (d : Disk) → ((h : List Event) → Legal d h → list_all ok h ≡ true → Q (after d h)) → (h : List Event) → Legal d h → list_all ok h ≡ true → AllHold (after d h).actors
+  sender_pasts d facts [] legal well = λ a x is. absurd (cc)
+  sender_pasts d facts (e ∷ h) legal well =
       let parts = and_parts (ok e) (list_all ok h) well in
-      event_holds e (after d h) (always controls d h are legal.0) (facts h legal.0 parts.1) (have_run d h legal.0) (sender_pasts d are facts h legal.0 parts.1) parts.0 legal.1
+      event_holds e (after d h) (always d h legal.0) (facts h legal.0 parts.1) (have_run d h legal.0) (sender_pasts d facts h legal.0 parts.1) parts.0 legal.1

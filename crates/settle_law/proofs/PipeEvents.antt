@@ -3,7 +3,6 @@
 use Rattle.std.proofs.Common.{◌≡◌, ◌≢◌, ℕ, ◌≤◌, List, [], ◌∷◌, true, Option, Some, None, refl, sym, ap, ◌∙◌, subst, arith, codes}
 use Rattle.std.specs.List.{list_all}
 use Rattle.std.proofs.lemmas.Bool.{and_parts}
-use Rattle.address_rules.specs.declared.controls.Controls.{Controls}
 use Rattle.call_fs.specs.Disk.{Disk}
 use Rattle.call_fs.specs.Maps.{put_at}
 use Rattle.call_fs.specs.Past.{IsRunBy}
@@ -21,8 +20,6 @@ use Rattle.mail_bytes.specs.Moments.{IsMoment}
 use Rattle.program_law.specs.Post.Posts.{IsOffered, asked_by, told_by}
 use Rattle.program_law.specs.Post.Senders.{AsksFor, asked_on, told_on}
 use Rattle.program_law.specs.Sender.Asking.{IsRequestFor}
-use Rattle.program_law.specs.Sender.Control.{AreControls}
-use Rattle.program_law.specs.Sender.Stands.{HasControls}
 use Rattle.program_law.proofs.Sender.Asking.{requests_are_texts}
 use Rattle.queue_law.specs.Numbers.{Role}
 use Rattle.send_core.specs.Table.{Next}
@@ -54,9 +51,9 @@ use Rattle.world_law.proofs.Starts.{is_local, is_remote, is_sender}
 use Rattle.settle_law.specs.Suffices.{desk_of}
 use Rattle.settle_law.specs.Well.{came_well, goes_well}
 use Rattle.settle_law.proofs.Greeted.{IsTaken}
-use Rattle.settle_law.proofs.ShortControls.{AreShort}
-use Rattle.settle_law.proofs.ShortRequests.{IsShort, gives_has, known_short, short_request}
+use Rattle.settle_law.proofs.ShortRequests.{IsShort, short_request}
 use Rattle.settle_law.proofs.Spawns.{next_on}
+use Rattle.settle_law.proofs.RoutesShort.{routes_short}
 
 -- Their pasts, and what lies in the pipes
 
@@ -154,8 +151,8 @@ takes_some s a own wrote comes c due bytes got =
     by Remote h = h
 
 -- each request that a living sender of that state would give has no field that is too long
-abbrev AllShort : Controls → State → Type 0
-AllShort controls s = AreShort controls → (x : Actor) (began : ℕ) → s.actors (codes "sender") ≡ Some x → x.life ≡ Alive → x.program ≡ Sender began → (role : ℕ → Role) (c : Channel) (text : List ℕ)
+abbrev AllShort : State → Type 0
+AllShort s = (x : Actor) (began : ℕ) → s.actors (codes "sender") ≡ Some x → x.life ≡ Alive → x.program ≡ Sender began → (role : ℕ → Role) (c : Channel) (text : List ℕ)
     → IsRequestFor (queue s role) c (desk_of x.past) text → IsShort text
 
 gave_well : (got : GotData) (text : List ℕ) → MayCome (needs.Give port.Output text) got → came_well got ≡ true → got ≡ came.Gave
@@ -196,14 +193,14 @@ module _ (P : Channel → Option (List Own) → Option (List Own) → (told asks
 
   -- Events of actors
 
-  module _ (controls : Controls) (s : State) (I : Inv controls s) (a : List ℕ) (own : Own) (wrote : ℕ) (x : Actor) (is : s.actors a ≡ Some x) (due : next_of x.program x.past own.read own.ready ≡ own.due)
+  module _ (s : State) (I : Inv s) (a : List ℕ) (own : Own) (wrote : ℕ) (x : Actor) (is : s.actors a ≡ Some x) (due : next_of x.program x.past own.read own.ready ≡ own.due)
       (run : IsRunBy (next_of x.program) (own ∷ x.past)) where
     abbrev then_is : Actor
     then_is = record { program = x.program; past = own ∷ x.past; life = x.life }
 
     other_acts : (c : Channel) → In c s → IsOther c x.program → In c (acted s a own wrote (Some x))
     other_acts c h it =
-        let aside = acts_aside controls s I c a own wrote x is it due in
+        let aside = acts_aside s I c a own wrote x is it due in
         one_stays c s h a then_is _ _
         (other_sends c x.program it (own ∷ x.past) ∙ sym (other_sends c x.program it x.past) ∙ ap sends_past (sym is))
         (other_spawns c x.program it (own ∷ x.past) ∙ sym (other_spawns c x.program it x.past) ∙ ap (spawns_past c) (sym is))
@@ -219,16 +216,16 @@ module _ (P : Channel → Option (List Own) → Option (List Own) → (told asks
           (ap sends_past (put_at_other s.actors (spawner_name c) (Some then_is) (codes "sender") (not_spawner c)))
           (ap (spawns_past c) (put_at_same s.actors (spawner_name c) (Some then_is)) ∙ spawned_is c x.program it (own ∷ x.past))
           (told_spawned s.pipework c own.due own.came wrote)
-          (asked_spawned s.pipework c (tenant_not controls s I c (spawner_name c)) own.due own.came wrote
+          (asked_spawned s.pipework c (tenant_not s I c (spawner_name c)) own.due own.came wrote
           (calm c own.due (subst IsMild due (mild x.program (spawner_apart c x.program it) x.past own.read own.ready))))
           (K.serves c (sends_past (s.actors (codes "sender"))) x.past (told_of c s) (asked_of c s) own wrote
           (record { run = spawned_run c x.program it (own ∷ x.past) run; offered = offered; gives = gives }) was_served)
 
   -- of the sender
-  module _ (controls : Controls) (s : State) (I : Inv controls s) (own : Own) (wrote began : ℕ) (past : List Own) (life : Life) (alive : life ≡ Alive)
+  module _ (s : State) (I : Inv s) (own : Own) (wrote began : ℕ) (past : List Own) (life : Life) (alive : life ≡ Alive)
       (is : s.actors (codes "sender") ≡ Some (record { program = Sender began; past = past; life = life })) (soon : own.read ≤ s.now) (run : IsRunBy (Next None) (own ∷ past))
       (takes : (c : Channel) → own.due ≡ needs.Take (port_of c) → (bytes : List ℕ) → own.came ≡ came.Took bytes → IsTaken (told_of c s) bytes) (well : came_well own.came ≡ true)
-      (short : AllShort controls s) where
+      (short : AllShort s) where
     abbrev was : Actor
     was = record { program = Sender began; past = past; life = life }
 
@@ -238,20 +235,18 @@ module _ (P : Channel → Option (List Own) → Option (List Own) → (told asks
     moment : IsMoment own.read
     moment = let m = I.moment in omega (arith, m, soon)
 
-    fares : SenderFares controls s.now (queue s I.role) (codes "sender") (desk_of past)
-    fares = sender_fares controls s.now (queue s I.role) (codes "sender") (Sender began) past life began refl alive (I.fares (codes "sender") was is)
+    fares : SenderFares s.now (queue s I.role) (codes "sender") (desk_of past)
+    fares = sender_fares s.now (queue s I.role) (codes "sender") (Sender began) past life began refl alive (I.fares (codes "sender") was is)
 
     request : (c : Channel) (text : List ℕ) → own.due ≡ needs.Give (port_of c) text → IsRequestFor (queue s I.role) c (desk_of past) text
-    request c text e = requests_are_texts controls s.now (queue s I.role) (codes "sender") (desk_of past) own.read own.ready c text soon moment fares.stands fares.texts (run.1.0 ∙ e)
+    request c text e = requests_are_texts s.now (queue s I.role) (codes "sender") (desk_of past) own.read own.ready c text soon moment fares.stands fares.texts (run.1.0 ∙ e)
 
     gives_one : (c : Channel) (text : List ℕ) → own.due ≡ needs.Give (port_of c) text → AsksFor c (desk_of past) text
-    gives_one c text e = asks_for controls (queue s I.role) (desk_of past) c text I.sound.fine (request c text e)
+    gives_one c text e = asks_for (queue s I.role) (desk_of past) c text I.sound.fine (request c text e)
 
     short_one : (c : Channel) (text : List ℕ) → own.due ≡ needs.Give (port_of c) text → IsShort text
     short_one c text e =
-        let read_them : HasControls (desk_of past).row = gives_has past own c text run e in
-        let low : AreShort controls = subst AreShort (fares.stands.controls_are read_them) (known_short past run.0 read_them) in
-        short low was began is alive refl I.role c text (request c text e)
+        short was began is alive refl I.role c text (request c text e)
 
     was_sent : (c : Channel) → In c s → P c (Some past) (spawns_past c (s.actors (spawner_name c))) (told_of c s) (asked_of c s)
     was_sent c h = subst (λ (o : Option (List Own)). P c o (spawns_past c (s.actors (spawner_name c))) (told_of c s) (asked_of c s)) (ap sends_past is) h
@@ -261,14 +256,14 @@ module _ (P : Channel → Option (List Own) → Option (List Own) → (told asks
         (ap sends_past (put_at_same s.actors (codes "sender") (Some sent_is)))
         (ap (spawns_past c) (put_at_other s.actors (codes "sender") (Some sent_is) (spawner_name c) (λ e. not_spawner c (sym e))))
         (told_sent s.pipework c own.due own.came wrote)
-        (asked_sent s.pipework c (tenant_not controls s I c (codes "sender")) own.due own.came wrote)
+        (asked_sent s.pipework c (tenant_not s I c (codes "sender")) own.due own.came wrote)
         (K.sends c past (spawns_past c (s.actors (spawner_name c))) (told_of c s) (asked_of c s) own wrote (record { run = run; takes = takes c; gives = gives_one c; shorts = short_one c; well = well }) (was_sent c h))
 
   -- of any actor
 
-  module _ (controls : Controls) (s : State) (I : Inv controls s) (R : HaveRun s.actors) (a : List ℕ) (own : Own) (wrote : ℕ) (may : MayCome own.due own.came)
+  module _ (s : State) (I : Inv s) (R : HaveRun s.actors) (a : List ℕ) (own : Own) (wrote : ℕ) (may : MayCome own.due own.came)
       (takes : (c : Channel) → own.due ≡ needs.Take (port_of c) → (bytes : List ℕ) → own.came ≡ came.Took bytes → IsTaken (s.pipework.pipes a (port_of c)).bytes bytes)
-      (offered : own.due ≡ needs.Take port.Input → IsOffered (s.pipework.pipes a port.Input).bytes own.came) (well : came_well own.came ≡ true) (short : AllShort controls s) where
+      (offered : own.due ≡ needs.Take port.Input → IsOffered (s.pipework.pipes a port.Input).bytes own.came) (well : came_well own.came ≡ true) (short : AllShort s) where
     gives_well : (text : List ℕ) → own.due ≡ needs.Give port.Output text → own.came ≡ came.Gave
     gives_well text e = gave_well own.came text (subst (λ (n : NeedData). MayCome n own.came) e may) well
 
@@ -277,7 +272,7 @@ module _ (P : Channel → Option (List Own) → Option (List Own) → (told asks
         → In c (acted s a own wrote (Some (record { program = program; past = past; life = life })))
     sends_now c h (Sender began) past life it named alive is soon due =
         subst (λ (b : List ℕ). In c (acted s b own wrote (Some (record { program = Sender began; past = past; life = life })))) (sym named)
-        (sender_acts controls s I own wrote began past life alive (subst (λ (b : List ℕ). s.actors b ≡ Some (record { program = Sender began; past = past; life = life })) named is) soon
+        (sender_acts s I own wrote began past life alive (subst (λ (b : List ℕ). s.actors b ≡ Some (record { program = Sender began; past = past; life = life })) named is) soon
         (R a (record { program = Sender began; past = past; life = life }) is, (due, may))
         (λ k e bytes got. subst (λ (b : List ℕ). IsTaken (s.pipework.pipes b (port_of k)).bytes bytes) named (takes k e bytes got)) well short c h)
     sends_now c h program past life it named alive is soon due = absurd it
@@ -290,15 +285,15 @@ module _ (P : Channel → Option (List Own) → Option (List Own) → (told asks
       serves_now c h it =
           let name = spawner_named c a x.program it (I.crew a x is) in
           subst (λ (b : List ℕ). In c (acted s b own wrote (Some x))) (sym name)
-          (spawner_acts controls s I a own wrote x is due ran c h it (subst (λ (b : List ℕ). s.actors b ≡ Some x) name is)
+          (spawner_acts s I a own wrote x is due ran c h it (subst (λ (b : List ℕ). s.actors b ≡ Some x) name is)
           (subst (λ (b : List ℕ). own.due ≡ needs.Take port.Input → IsOffered (s.pipework.pipes b port.Input).bytes own.came) name offered) gives_well)
 
       acts_now : x.life ≡ Alive → own.read ≤ s.now → (c : Channel) → In c s → (program : Program) → x.program ≡ program → In c (acted s a own wrote (Some x))
       acts_now alive soon c h (Sender began) e = sends_now c h x.program x.past x.life (subst IsSender (sym e) tt) (I.crew a x is) alive is soon due
       acts_now alive soon Local h (LocalSpawner began) e = serves_now Local h (subst (IsSpawner Local) (sym e) tt)
       acts_now alive soon Remote h (RemoteSpawner began) e = serves_now Remote h (subst (IsSpawner Remote) (sym e) tt)
-      acts_now alive soon Local h program e = other_acts controls s I a own wrote x is due ran Local h (subst (IsOther Local) (sym e) tt)
-      acts_now alive soon Remote h program e = other_acts controls s I a own wrote x is due ran Remote h (subst (IsOther Remote) (sym e) tt)
+      acts_now alive soon Local h program e = other_acts s I a own wrote x is due ran Local h (subst (IsOther Local) (sym e) tt)
+      acts_now alive soon Remote h program e = other_acts s I a own wrote x is due ran Remote h (subst (IsOther Remote) (sym e) tt)
 
   -- A start
 
@@ -307,8 +302,8 @@ module _ (P : Channel → Option (List Own) → Option (List Own) → (told asks
   begins_so c s h a program it new told asks told_is asks_is =
       one_stays c s h a (newborn program) told asks (other_sends c program it [] ∙ ap sends_past (sym new)) (other_spawns c program it [] ∙ ap (spawns_past c) (sym new)) told_is asks_is
 
-  module _ (controls : Controls) (s : State) (I : Inv controls s) (R : HaveRun s.actors) (parent : List ℕ) (own : Own) (a : List ℕ) (program : Program) (may : MayBear s parent own a program)
-      (short : AllShort controls s) where
+  module _ (s : State) (I : Inv s) (R : HaveRun s.actors) (parent : List ℕ) (own : Own) (a : List ℕ) (program : Program) (may : MayBear s parent own a program)
+      (short : AllShort s) where
     abbrev moved : State
     moved = acted s parent own 0 (Some may.actor)
 
@@ -330,7 +325,7 @@ module _ (P : Channel → Option (List Own) → Option (List Own) → (told asks
     children_so : (c : Channel) → In c s → In c (happens s (Child parent own a program))
     children_so c h =
         let now : In c moved =
-        acts_now controls s I R parent own 0 (born_comes s parent own a program may) takes_none offered_none (ap came_well may.came) short may.actor may.reads.is may.due may.reads.alive may.reads.no_later c h
+        acts_now s I R parent own 0 (born_comes s parent own a program may) takes_none offered_none (ap came_well may.came) short may.actor may.reads.is may.due may.reads.alive may.reads.no_later c h
         may.actor.program refl in
         subst (λ (o : Option Actor). In c (bears (acted s parent own 0 o) parent own a program)) (sym may.reads.is)
         (begins_so c moved now a program (child_other c may.asked may.pid program may.is) still_new (told_of c (bears moved parent own a program)) (asked_of c (bears moved parent own a program))
@@ -371,25 +366,25 @@ module _ (P : Channel → Option (List Own) → Option (List Own) → (told asks
   report_so Local s h slot output = h
   report_so Remote s h slot output = h
 
-  event_so : (e : Event) (controls : Controls) (s : State) → Inv controls s → HaveRun s.actors → AllShort controls s → (c : Channel) → In c s → Allowed s e → goes_well e ≡ true → In c (happens s e)
-  event_so (Start a program) controls s I R short c h may well = begins_so c s h a program (run_other c program may.runs) may.new (told_of c s) (asked_of c s) refl refl
-  event_so (Act a own wrote) controls s I R short c h may well =
+  event_so : (e : Event) (s : State) → Inv s → HaveRun s.actors → AllShort s → (c : Channel) → In c s → Allowed s e → goes_well e ≡ true → In c (happens s e)
+  event_so (Start a program) s I R short c h may well = begins_so c s h a program (run_other c program may.runs) may.new (told_of c s) (asked_of c s) refl refl
+  event_so (Act a own wrote) s I R short c h may well =
       subst (λ (o : Option Actor). In c (acted s a own wrote o)) (sym may.reads.is)
-      (acts_now controls s I R a own wrote (may_come s a own.due own.came wrote may.came) (takes_some s a own wrote may.came)
+      (acts_now s I R a own wrote (may_come s a own.due own.came wrote may.came) (takes_some s a own wrote may.came)
       (λ e. offered_by (s.pipework.pipes a port.Input) own.came (subst (λ (n : NeedData). ComesOf s a n own.came wrote) e may.came)) well short may.actor may.reads.is may.due may.reads.alive
       may.reads.no_later c h may.actor.program refl)
-  event_so (Child parent own a program) controls s I R short c h may well = children_so controls s I R parent own a program may short c h
-  event_so (Generation (sender ∷ clean ∷ lspawn ∷ rspawn ∷ [])) controls s I R short c h may well = generations_so c s sender clean lspawn rspawn may
-  event_so (Generation crew) controls s I R short c h may well = absurd (are_four crew may.kinds)
-  event_so (Report slot output) controls s I R short c h may well = report_so c s h slot output
-  event_so (End a read ready status) controls s I R short c h may well = ends_so c s h a (Over status) (s.actors a) refl
-  event_so (Stop a) controls s I R short c h may well = absurd (cc)
-  event_so (Moment m) controls s I R short c h may well = h
-  event_so (Halt how contents) controls s I R short c h may well = absurd (cc)
+  event_so (Child parent own a program) s I R short c h may well = children_so s I R parent own a program may short c h
+  event_so (Generation (sender ∷ clean ∷ lspawn ∷ rspawn ∷ [])) s I R short c h may well = generations_so c s sender clean lspawn rspawn may
+  event_so (Generation crew) s I R short c h may well = absurd (are_four crew may.kinds)
+  event_so (Report slot output) s I R short c h may well = report_so c s h slot output
+  event_so (End a read ready status) s I R short c h may well = ends_so c s h a (Over status) (s.actors a) refl
+  event_so (Stop a) s I R short c h may well = absurd (cc)
+  event_so (Moment m) s I R short c h may well = h
+  event_so (Halt how contents) s I R short c h may well = absurd (cc)
 
-  pub kept_always : (controls : Controls) (d : Disk) (h : List Event) → AreControls controls d → Legal d h → list_all goes_well h ≡ true → (c : Channel) → In c (after d h)
-  kept_always controls d [] has legal well c = K.none c [] []
-  kept_always controls d (e ∷ h) has legal well c =
+  pub kept_always : (d : Disk) (h : List Event) → Legal d h → list_all goes_well h ≡ true → (c : Channel) → In c (after d h)
+  kept_always d [] legal well c = K.none c [] []
+  kept_always d (e ∷ h) legal well c =
       let parts = and_parts (goes_well e) (list_all goes_well h) well in
-      event_so e controls (after d h) (always controls d h has legal.0) (have_run d h legal.0)
-      (λ low x began is alive sends role k text w. short_request controls d h has legal.0 parts.1 x began is alive sends low role k text w) c (kept_always controls d h has legal.0 parts.1 c) legal.1 parts.0
+      event_so e (after d h) (always d h legal.0) (have_run d h legal.0)
+      (λ x began is alive sends role k text w. short_request d h legal.0 parts.1 x began is alive sends (routes_short d h legal.0) role k text w) c (kept_always d h legal.0 parts.1 c) legal.1 parts.0

@@ -164,20 +164,15 @@ module _ (script text : List ℕ) (prints : Prints script text) (low : length pr
       let whole = ap length it.deeds_are ∙ length-append it.later done in
       omega (arith, whole, low)
 
-  has_settled : (own : it.own ≡ []) → (calm : IsUntroubled disk done) → HasSettled calm.controls disk it.before letter it.rounds
+  has_settled : (own : it.own ≡ []) → (calm : IsUntroubled disk done) → HasSettled disk it.before letter it.rounds
   has_settled own calm =
       let numbered = all_numbered disk done (first_uses prints.content.opening disk few_entries prints.played.is_first) far.came few in
       record {
         plan = it.left;
         settles = subst (λ (t : List ℕ). IsSettled disk it.before it.left letter it.rounds t) own it.settles;
         empty = first_empty prints.content.opening disk (said_paths script prints.content prints.says) prints.played.is_first;
-        well = record {
-          are = calm.are;
-          local = calm.local;
-          remote = calm.remote;
-          legal = far.goes.legal;
-          well = all_well (history_of done) calm.well numbered;
-        };
+        well = record { legal = far.goes.legal; well = all_well (history_of done) calm.well numbered };
+        may = calm.may;
       }
 
   settles_there : SettlesEnd → SuccessesEnd → SettlesThere disk first letter prints.played.deeds text
@@ -196,8 +191,8 @@ module _ (script text : List ℕ) (prints : Prints script text) (low : length pr
       text_is = it.text_is;
     };
     stops = settle_stops disk it.before it.left letter it.rounds it.own it.settles;
-    settled = λ own calm. ends calm.controls disk it.before letter it.rounds (has_settled own calm);
-    gone = λ own calm all. gone calm.controls disk it.before letter it.rounds (has_settled own calm) all;
+    settled = λ own calm. ends disk it.before letter it.rounds (has_settled own calm);
+    gone = λ own calm all. gone disk it.before letter it.rounds (has_settled own calm) all;
   }
 
 pub lines_settle_by : SettlesEnd → SuccessesEnd → LinesSettle

@@ -1,7 +1,6 @@
 -- Each preprocessed message is known, when a turn begins.
 use Rattle.std.proofs.Common.{◌≡◌, ⊎_elim, ℕ, suc, ◌<◌, ◌≤◌, ◌^◌, List, [], ◌∷◌, Bool, true, false, Option, Some, None, eqb-true, refl, sym, ap, ◌∙◌, subst, arith}
 use Rattle.std.specs.Prelude.{Contains, is_some, ◌==◌, ◌||◌}
-use Rattle.address_rules.specs.declared.controls.Controls.{Controls}
 use Rattle.call_fs.specs.Disk.{Disk}
 use Rattle.call_fs.specs.Past.{IsRunBy}
 use Rattle.queue_law.proofs.Looks.{find_some}
@@ -57,12 +56,12 @@ filed_of d n e =
 
 -- It is the message of an injection
 
-living_of : (controls : Controls) (s : State) (n : ℕ) (role : ℕ → Role) → Phase controls (about (queue s role) n) → IsFiled s.disk n → (i : Injection) × (s.books.living n ≡ Some i)
-living_of controls s n role (Free h) filed =
+living_of : (s : State) (n : ℕ) (role : ℕ → Role) → Phase (about (queue s role) n) → IsFiled s.disk n → (i : Injection) × (s.books.living n ≡ Some i)
+living_of s n role (Free h) filed =
     let info = some_of (s.disk.names (path (Of Info n))) filed.1 in let here = find_some s.disk.names s.disk.files (Of Info n) info.0 info.1 in let gone = h.unsorted Info refl in absurd (cc)
-living_of controls s n role (Queued h) filed = (h.taken.injection, h.taken.lives)
-living_of controls s n role (Sorted h) filed = (h.taken.injection, h.taken.lives)
-living_of controls s n role (Finished h) filed = (h.injection, h.lives)
+living_of s n role (Queued h) filed = (h.taken.injection, h.taken.lives)
+living_of s n role (Sorted h) filed = (h.taken.injection, h.taken.lives)
+living_of s n role (Finished h) filed = (h.injection, h.lives)
 
 -- One that the sender knows
 
@@ -79,16 +78,16 @@ begins_none (at.Turn p) d n begins comes = comes
 begins_none row d n begins comes = begins
 
 pub preprocessed_are_known : PreprocessedAreKnown
-preprocessed_are_known controls d h well a x start is alive program begins n e = ⊎_elim
+preprocessed_are_known d h well a x start is alive program begins n e = ⊎_elim
     (λ (known : known_in x.past n ≡ true). known_one n (desk_of x.past).book.messages.known (known_exactly None x.past run n ∙ known))
     (λ (comes : Comes (desk_of x.past).row (desk_of x.past) n). absurd (begins_none (desk_of x.past).row (desk_of x.past) n begins comes))
-    ((all_met controls d well.are h well.legal a x is start program alive run (passes_go_on controls d h well a x start is program)).met n small.0 small.1 filed)
+    ((all_met d h well.legal a x is start program alive run (passes_go_on d h well a x start is program)).met n small.0 small.1 filed)
   where
     t : State
     t = after d h
 
-    I : Inv controls t
-    I = always controls d h well.are well.legal
+    I : Inv t
+    I = always d h well.legal
 
     run : IsRunBy (Next None) x.past
     run = subst (λ (p : Program). IsRunBy (next_of p) x.past) program (have_run d h well.legal a x is)
@@ -97,7 +96,7 @@ preprocessed_are_known controls d h well a x start is alive program begins n e =
     filed = filed_of t.disk n e
 
     lives : (i : Injection) × (t.books.living n ≡ Some i)
-    lives = living_of controls t n I.role (I.sound.fine n) filed
+    lives = living_of t n I.role (I.sound.fine n) filed
 
     small : (1 ≤ n) × (n < 2 ^ 64)
     small = numbers_are_small d h well.legal well.well n lives.0 lives.1

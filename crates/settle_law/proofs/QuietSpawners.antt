@@ -8,7 +8,6 @@ use Rattle.std.proofs.lemmas.List.Folds.{list_any_at}
 use Rattle.std.proofs.lemmas.List.FromFn.{get_or-range_with_len, length-range_with_len}
 use Rattle.std.proofs.lemmas.List.Quantifiers.{position-Some}
 use Rattle.actor_names.specs.MailNames.{members}
-use Rattle.address_rules.specs.declared.controls.Controls.{Controls}
 use Rattle.call_fs.specs.Disk.{Disk}
 use Rattle.call_fs.specs.Past.{IsRunBy}
 use Rattle.call_fs.specs.declared.calls.CallData.{CallData}
@@ -166,15 +165,15 @@ none_true running none = ap (λ (b : Bool). not b) (runs_none running none)
 sender_among : Contains members (codes "sender")
 sender_among = member_contained (codes "sender") refl
 
-module _ (controls : Controls) (d : Disk) (h : List Event) (well : GoesWell controls d h) (others : OthersWait (after d h)) where
+module _ (d : Disk) (h : List Event) (well : GoesWell d h) (others : OthersWait (after d h)) where
   abbrev s : State
   s = after d h
 
-  I : Inv controls (after d h)
-  I = always controls d h well.are well.legal
+  I : Inv (after d h)
+  I = always d h well.legal
 
   T : Tended (after d h).actors (after d h).pipework
-  T = tended_always controls d h well.are well.legal well.well
+  T = tended_always d h well.legal well.well
 
   K : Ties (after d h).actors (after d h).pipework
   K = ties_always d h well.legal well.well
@@ -439,9 +438,9 @@ module _ (controls : Controls) (d : Disk) (h : List Event) (well : GoesWell cont
 
 pub others_end : OthersEnd
 others_end = record {
-  mails = λ controls d h well others. alone_acts controls d h well others;
-  children = λ controls d h well others. child_acts controls d h well others;
+  mails = λ d h well others. alone_acts d h well others;
+  children = λ d h well others. child_acts d h well others;
 }
 
 pub others_run_none : OthersRunNone
-others_run_none controls d h well others c y there alive serves = none_of controls d h well others c y there alive serves
+others_run_none d h well others c y there alive serves = none_of d h well others c y there alive serves

@@ -1,6 +1,5 @@
 -- A message that the cleaner was told to remove has no info file.
 use Rattle.std.proofs.Common.{◌≡◌, ⊎_elim, ℕ, List, None, refl, sym, ap, ◌∙◌, subst}
-use Rattle.address_rules.specs.declared.controls.Controls.{Controls}
 use Rattle.call_fs.specs.Program.{MayCome}
 use Rattle.call_fs.specs.declared.past.GotData.{GotData}
 use Rattle.call_fs.specs.declared.past.GotData.TheVariants as came
@@ -66,7 +65,7 @@ none_removed d read ready n got none h =
 
 -- The command is given only where the file is gone
 
-module _ (controls : Controls) (now : ℕ) (q : Queue) (a : List ℕ) (d : Desk) (read : ℕ) (ready : Ready) where
+module _ (now : ℕ) (q : Queue) (a : List ℕ) (d : Desk) (read : ℕ) (ready : Ready) where
   abbrev row : Row
   row = row_now d read ready
 
@@ -74,7 +73,7 @@ module _ (controls : Controls) (now : ℕ) (q : Queue) (a : List ℕ) (d : Desk)
   pass_given todo.Give m n command is same = absurd (let bad : Todo m ≡ Foop n = sym is ∙ same in cc)
   pass_given r m n command is same = absurd is
 
-  given_gone : (r : Row) → StandsAt controls now q a r d → (n : ℕ) (command : Command) → IsGive r d.pass command → command ≡ Foop n → look q (Of Info n) ≡ None
+  given_gone : (r : Row) → StandsAt now q a r d → (n : ℕ) (command : Command) → IsGive r d.pass command → command ≡ Foop n → look q (Of Info n) ≡ None
   given_gone at.InTodo st n command is same = pass_given d.pass.row d.pass.n n command is same
   given_gone (at.Finish finish.Give m) st n command is same =
       let one : m ≡ n = (let both : Foop m ≡ Foop n = sym is ∙ same in cc) in subst (λ (k : ℕ). look q (Of Info k) ≡ None) one (st.rests.1.1.rest.unsorted Info refl)
@@ -88,7 +87,7 @@ module _ (controls : Controls) (now : ℕ) (q : Queue) (a : List ℕ) (d : Desk)
   same_command : (x y : Command) → ◌≡◌ {A = Awaits} (Answer x) (Answer y) → x ≡ y
   same_command x y e = cc
 
-  module _ (st : StandsAt controls now q a row d) (n : ℕ) where
+  module _ (st : StandsAt now q a row d) (n : ℕ) where
     gave : (text : List ℕ) → due_at row d ≡ needs.Give port.Clean text → (got : GotData) → MayCome (needs.Give port.Clean text) got → Removes (moved_by row read got d).row n → Given n
     gave text e came.Gave may h =
         let w : GivesAt row d text = gives d row text e in

@@ -1,6 +1,5 @@
 -- Where a sender stands at an event, and what comes there.
 use Rattle.std.proofs.Common.{◌≡◌, ℕ, List, None, arith, sym, subst}
-use Rattle.address_rules.specs.declared.controls.Controls.{Controls}
 use Rattle.call_fs.specs.declared.past.NeedData.{NeedData}
 use Rattle.call_fs.specs.declared.past.Own.{Own}
 use Rattle.mail_bytes.specs.Moments.{IsMoment}
@@ -17,7 +16,7 @@ use Rattle.mail_world.specs.Untouched.{queue}
 use Rattle.world_law.proofs.Histories.{sender_fares}
 use Rattle.world_law.specs.Inv.{Inv}
 
-module _ (controls : Controls) (s : State) (I : Inv controls s) (a : List ℕ) (own : Own) (wrote : ℕ) (may : MayDo s a own wrote) (start : ℕ) (is : may.actor.program ≡ Sender start) where
+module _ (s : State) (I : Inv s) (a : List ℕ) (own : Own) (wrote : ℕ) (may : MayDo s a own wrote) (start : ℕ) (is : may.actor.program ≡ Sender start) where
   abbrev q : Queue
   q = queue s I.role
 
@@ -27,11 +26,11 @@ module _ (controls : Controls) (s : State) (I : Inv controls s) (a : List ℕ) (
   abbrev row : Row
   row = row_now d own.read own.ready
 
-  pub stands : StandsAt controls s.now q a row d
+  pub stands : StandsAt s.now q a row d
   stands =
       let soon = may.reads.no_later in
       let moment : IsMoment own.read = (let m = I.moment in omega (arith, m, soon)) in
-      arrived controls s.now own.read q a soon moment d own.ready (sender_fares controls s.now q a may.actor.program may.actor.past may.actor.life start is may.reads.alive (I.fares a may.actor may.reads.is)).stands
+      arrived s.now own.read q a soon moment d own.ready (sender_fares s.now q a may.actor.program may.actor.past may.actor.life start is may.reads.alive (I.fares a may.actor may.reads.is)).stands
 
   pub due : due_at row d ≡ own.due
   due = subst (λ (p : Program). next_of p may.actor.past own.read own.ready ≡ own.due) is may.due

@@ -2,7 +2,6 @@
 use Rattle.std.proofs.Common.{◌≡◌, ◌≤◌, ℕ, List, [], ◌∷◌, length, arith, eq-eqb, Bool, true, false, ◌&&◌, Option, Some, None, is_some, refl, sym, ap, ◌∙◌, subst, cond, count_by}
 use Rattle.std.specs.Prelude.{IsSome, ◌==◌, ◌||◌}
 use Rattle.std.specs.List.{list_any}
-use Rattle.address_rules.specs.declared.controls.Controls.{Controls}
 use Rattle.call_fs.specs.Apply.{Fits}
 use Rattle.call_fs.specs.Disk.{Disk}
 use Rattle.call_fs.specs.Past.{IsRunBy}
@@ -67,10 +66,6 @@ use Rattle.settle_law.proofs.SenderRows.{comes, stands}
 
 -- What an attempt in flight has
 
-not_both : {A : Type 0} (b : Bool) → b ≡ true → b ≡ false → A
-not_both true t f = absurd (cc)
-not_both false t f = absurd (cc)
-
 more : (p : Option Attempt → Bool) (s : Option Attempt) (slots : List (Option Attempt)) → 1 ≤ count_by p slots → 1 ≤ count_by p (s ∷ slots)
 more p s slots h = let sum = counted_cons p s slots in omega (arith, sum, h)
 
@@ -104,11 +99,11 @@ none_flies q first ch n l tied none = by (is_in_flight n l) refl where
 
 -- A channel file that is there
 
-pub sorted : (controls : Controls) (w : About) → Phase controls w → IsSettledIn w → IsPreprocessed controls w
-sorted controls w (Free h) s = let none = h.unsorted Info refl in let there = s.info_there in absurd (cc)
-sorted controls w (Queued h) s = let none = s.no_todo in let there = h.todo_there in absurd (cc)
-sorted controls w (Sorted h) s = h
-sorted controls w (Finished h) s = let none = h.unsorted Info refl in let there = s.info_there in absurd (cc)
+pub sorted : (w : About) → Phase w → IsSettledIn w → IsPreprocessed w
+sorted w (Free h) s = let none = h.unsorted Info refl in let there = s.info_there in absurd (cc)
+sorted w (Queued h) s = let none = s.no_todo in let there = h.todo_there in absurd (cc)
+sorted w (Sorted h) s = h
+sorted w (Finished h) s = let none = h.unsorted Info refl in let there = s.info_there in absurd (cc)
 
 lane_named : (c : Channel) (n : ℕ) → name_of (file_of c n) ≡ Of (lane_part c) n
 lane_named Local n = refl
@@ -152,7 +147,7 @@ module _ (s : State) (a : List ℕ) (P : GotData → Type 0) (c : CallData) (wro
 
 -- An event of a sender
 
-module _ (controls : Controls) (s : State) (I : Inv controls s) (a : List ℕ) (own : Own) (wrote : ℕ) (may : MayDo s a own wrote) (start : ℕ) (is : may.actor.program ≡ Sender start) (well : came_well own.came ≡ true) where
+module _ (s : State) (I : Inv s) (a : List ℕ) (own : Own) (wrote : ℕ) (may : MayDo s a own wrote) (start : ℕ) (is : may.actor.program ≡ Sender start) (well : came_well own.came ≡ true) where
   abbrev q : Queue
   q = queue s I.role
 
@@ -162,11 +157,11 @@ module _ (controls : Controls) (s : State) (I : Inv controls s) (a : List ℕ) (
   abbrev row : Row
   row = row_now d own.read own.ready
 
-  pub at_row : (r : Row) → row ≡ r → StandsAt controls s.now q a r d
-  at_row r e = subst (λ (x : Row). StandsAt controls s.now q a x d) e (stands controls s I a own wrote may start is)
+  pub at_row : (r : Row) → row ≡ r → StandsAt s.now q a r d
+  at_row r e = subst (λ (x : Row). StandsAt s.now q a x d) e (stands s I a own wrote may start is)
 
   pub comes_at : (r : Row) → row ≡ r → ComesOf s a (due_at r d) own.came wrote
-  comes_at r e = subst (λ (x : Row). ComesOf s a (due_at x d) own.came wrote) e (comes controls s I a own wrote may start is)
+  comes_at r e = subst (λ (x : Row). ComesOf s a (due_at x d) own.came wrote) e (comes s I a own wrote may start is)
 
   pub there : (c : Channel) (n : ℕ) → Serves (about q n) c → (i : ℕ) × (s.disk.names (path (name_of (file_of c n))) ≡ Some i)
   there c n h = (h.file.number, ap (λ x. s.disk.names (path x)) (lane_named c n) ∙ (found q.disk.names q.disk.files (Of (lane_part c) n) h.file h.there).0)
@@ -181,17 +176,17 @@ module _ (controls : Controls) (s : State) (I : Inv controls s) (a : List ℕ) (
 
   whole : (c : Channel) (n begun : ℕ) (fd : Fd) → row ≡ at.ReadFile c n begun (Closing fd) → is_some (records_of d.book.read) ≡ true
   whole c n begun fd e = subst (λ (bytes : List ℕ). is_some (records_of bytes) ≡ true) (sym text.text)
-      (marked_records controls pre.taken.injection c I.control.no_nul pre.taken.valid pre.taken.spots text.file.file.bytes
-      (lane_there controls (about q n) pre.taken.injection c text.file text.there (pre.lanes c)).present)
+      (marked_records pre.taken.injection c pre.no_nul pre.taken.valid pre.taken.spots text.file.file.bytes
+      (lane_there (about q n) pre.taken.injection c text.file text.there (pre.lanes c)).present)
     where
-      st : StandsAt controls s.now q a (at.ReadFile c n begun (Closing fd)) d
+      st : StandsAt s.now q a (at.ReadFile c n begun (Closing fd)) d
       st = at_row (at.ReadFile c n begun (Closing fd)) e
 
       text : HasText q (lane_part c) n d.book.read
       text = st.rests.1.1.1.1
 
-      pre : IsPreprocessed controls (about q n)
-      pre = sorted controls (about q n) (I.sound.fine n) st.rests.1.1.0.sorted
+      pre : IsPreprocessed (about q n)
+      pre = sorted (about q n) (I.sound.fine n) st.rests.1.1.0.sorted
 
   alone : (c : Channel) (n begun : ℕ) (fd : Fd) → row ≡ at.ReadFile c n begun (Closing fd) → is_in_flight n (lane c d.slots) ≡ false
   alone c n begun fd e =
@@ -229,11 +224,11 @@ module _ (s : State) (a : List ℕ) (own : Own) (b : List ℕ) (program : Progra
 pub pasts_are_served : PastsAreServed
 pasts_are_served = record {
   served = all;
-  plain = λ controls d h g a x start is program c n.
-      served_are_plain None x.past (subst (λ (p : Program). IsRunBy (next_of p) x.past) program (have_run d h g.legal a x is)) (all controls d h g a x start is program) c n;
+  plain = λ d h g a x start is program c n.
+      served_are_plain None x.past (subst (λ (p : Program). IsRunBy (next_of p) x.past) program (have_run d h g.legal a x is)) (all d h g a x start is program) c n;
 } where
-  all : (controls : Controls) (d : Disk) (h : List Event) → GoesWell controls d h → (a : List ℕ) (x : Actor) (start : ℕ) → (after d h).actors a ≡ Some x → x.program ≡ Sender start → AreServed None x.past
-  all controls d h g a x start is program = sender_pasts controls goes_well (λ s. Unit {0}) (λ past. AreServed None past) tt
-      (λ s I w a own wrote may start is well ran held. (held, served controls s I a own wrote may start is well))
+  all : (d : Disk) (h : List Event) → GoesWell d h → (a : List ℕ) (x : Actor) (start : ℕ) → (after d h).actors a ≡ Some x → x.program ≡ Sender start → AreServed None x.past
+  all d h g a x start is program = sender_pasts goes_well (λ s. Unit {0}) (λ past. AreServed None past) tt
+      (λ s I w a own wrote may start is well ran held. (held, served s I a own wrote may start is well))
       (λ s I w a own b program may start is ran held. (held, child_served s a own b program may start is))
-      d g.are (λ h legal well. tt) h g.legal g.well a x is start program
+      d (λ h legal well. tt) h g.legal g.well a x is start program

@@ -1,14 +1,11 @@
 -- Where nothing fails each request of a sender has fields of at most 4,096 bytes.
-use Rattle.std.proofs.Common.{◌≡◌, ℕ, ◌+◌, ◌<◌, ◌≤◌, ◌^◌, List, [], ◌∷◌, length, true, false, Option, Some, None, refl, sym, ap, ◌∙◌, subst, arith, codes}
+use Rattle.std.proofs.Common.{◌≡◌, ℕ, ◌+◌, ◌<◌, ◌≤◌, ◌^◌, List, [], ◌∷◌, length, true, false, Option, Some, None, refl, sym, ap, subst, arith, codes}
 use Rattle.std.specs.Prelude.{Contains, is_some, slice_get}
 use Rattle.std.specs.List.{list_all}
 use Rattle.std.proofs.lemmas.List.Elements.{All-contains}
-use Rattle.address_rules.specs.declared.controls.Controls.{Controls}
 use Rattle.address_rules.specs.Names.{verp_of}
 use Rattle.call_fs.specs.Disk.{Disk}
-use Rattle.call_fs.specs.declared.past.NeedData.TheVariants as needs
 use Rattle.call_fs.specs.declared.past.Own.{Own}
-use Rattle.call_fs.specs.declared.program.Ready.{Ready}
 use Rattle.call_fs.specs.Past.{IsRunBy}
 use Rattle.envelope_records.specs.declared.channel.Record.{Record}
 use Rattle.mail_bytes.specs.Texts.{HasNoNul}
@@ -24,7 +21,6 @@ use Rattle.queue_states.specs.States.{is_there, state_of, is_in_intd, is_in_todo
 use Rattle.queue_states.specs.declared.state.State.TheVariants.{S5}
 use Rattle.program_law.specs.Post.Posts.{HasPlainFields}
 use Rattle.program_law.specs.Sender.Asking.{IsRequestFor}
-use Rattle.program_law.specs.Sender.Control.{AreControls}
 use Rattle.program_law.specs.Sender.Stands.{HasControls}
 use Rattle.program_law.specs.Sender.Views.{records_at}
 use Rattle.program_law.proofs.Channel.Counts.{at_head}
@@ -37,14 +33,12 @@ use Rattle.send_parts.specs.declared.row.Row.TheVariants as at
 use Rattle.send_core.specs.Papers.{papers}
 use Rattle.send_core.specs.Papers.Papers.{Told}
 use Rattle.send_core.specs.Senders.{IsSaid}
-use Rattle.send_core.specs.Table.{Next, arrive, due_at}
+use Rattle.send_core.specs.Table.{Next}
 use Rattle.send_core.proofs.Asked.{KnowsAt}
 use Rattle.send_core.proofs.Runs.{all_kept, facts}
 use Rattle.send_jobs.specs.declared.attempts.Attempt.{Attempt}
 use Rattle.send_known.specs.declared.channel.Channel.{Channel}
-use Rattle.send_parts.specs.Channels.{port_of}
 use Rattle.send_jobs.specs.Sending.{lane}
-use Rattle.send_parts.specs.declared.reading.Reading.TheVariants.{Opening, Going, Closing, Shutting}
 use Rattle.send_parts.specs.declared.rows.StartRow.TheVariants as start
 use Rattle.send_links.specs.Records.{records_of}
 use Rattle.spawn_protocol.specs.Request.{IsField, IsRequest, request_text}
@@ -83,8 +77,8 @@ none_there : (o : Option ℕ) → is_some o ≡ false → o ≡ None
 none_there None e = refl
 none_there (Some n) e = absurd (cc)
 
-module _ (controls : Controls) (d : Disk) (h : List Event) (has : AreControls controls d) (legal : Legal d h) (well : list_all goes_well h ≡ true) (x : Actor) (began : ℕ)
-    (is : (after d h).actors (codes "sender") ≡ Some x) (alive : x.life ≡ Alive) (sends : x.program ≡ Sender began) (low : AreShort controls) (role : ℕ → Role) (c : Channel) (text : List ℕ)
+module _ (d : Disk) (h : List Event) (legal : Legal d h) (well : list_all goes_well h ≡ true) (x : Actor) (began : ℕ)
+    (is : (after d h).actors (codes "sender") ≡ Some x) (alive : x.life ≡ Alive) (sends : x.program ≡ Sender began) (low : (n : ℕ) (i : Injection) → (after d h).books.living n ≡ Some i → AreShort i.ledger.routes) (role : ℕ → Role) (c : Channel) (text : List ℕ)
     (w : IsRequestFor (queue (after d h) role) c (desk_of x.past) text) where
   abbrev s : State
   s = after d h
@@ -94,7 +88,7 @@ module _ (controls : Controls) (d : Disk) (h : List Event) (has : AreControls co
 
   no_todo : in_todo (parts_of s.disk.names a.n) ≡ None
   no_todo =
-      let stays : state_of s.disk a.n ≡ S5 = ((hands_always_stand controls d h has legal (codes "sender") x is alive began sends).to_come c a (first_left (lane c (desk_of x.past).slots).left a w.next_is)).stays in
+      let stays : state_of s.disk a.n ≡ S5 = ((hands_always_stand d h legal (codes "sender") x is alive began sends).to_come c a (first_left (lane c (desk_of x.past).slots).left a w.next_is)).stays in
       none_there (in_todo (parts_of s.disk.names a.n))
       (in_s5 (is_there s.disk Mess a.n) (is_in_intd s.disk a.n) (is_in_todo s.disk a.n) (is_there s.disk Info a.n) (is_there s.disk LocalPart a.n) (is_there s.disk RemotePart a.n)
       (is_there s.disk Bounce a.n) stays).0
@@ -111,11 +105,11 @@ module _ (controls : Controls) (d : Disk) (h : List Event) (has : AreControls co
   address_low : length a.address ≤ 2404
   address_low =
       let here = found s.disk.names s.disk.files (Of (lane_part c) a.n) file.0 file.1 in
-      let routes = records_are_routed controls d h has legal a.n no_todo c file.0.number here.0 in
+      let routes = records_are_routed d h legal a.n no_todo c file.0.number here.0 in
       let i : Injection = routes.0 in
       let bytes : file.0.file.bytes ≡ (s.disk.files file.0.number).bytes = ap (λ (y : Entry). y.file.bytes) here.1 in
       let each = (routes.3.routed w.reads.records (subst (λ (b : List ℕ). records_of b ≡ Some w.reads.records) bytes file.2)).each it (among_of w.reads.records it w.reads.reads) in
-      subst (λ (l : List ℕ). length l ≤ 2404) (sym each.1.address_is) (route_short controls each.0.address low (recipient_address i.args each.0).short)
+      subst (λ (l : List ℕ). length l ≤ 2404) (sym each.1.address_is) (route_short i.ledger.routes each.0.address (low a.n i routes.1) (recipient_address i.args each.0).short)
 
   pub short_request : IsShort text
   short_request =
@@ -136,27 +130,10 @@ module _ (controls : Controls) (d : Disk) (h : List Event) (has : AreControls co
 
 -- A sender that gives has read its control files, of which none is bad
 
-gives_row : (row : Row) (d : Desk) (c : Channel) (text : List ℕ) → due_at row d ≡ needs.Give (port_of c) text → HasControls row
-gives_row (at.Start (start.Control file Opening)) d c text due = absurd (cc)
-gives_row (at.Start (start.Control file (Going fd))) d c text due = absurd (cc)
-gives_row (at.Start (start.Control file (Closing fd))) d c text due = absurd (cc)
-gives_row (at.Start (start.Control file (Shutting fd))) d c text due = absurd (cc)
-gives_row (at.Ended status) d c text due = absurd (cc)
-gives_row row d c text due = tt
-
-came_by : (row : Row) (d : Desk) (read : ℕ) (ready : Ready) (c : Channel) (text : List ℕ) → due_at (arrive row d read ready) d ≡ needs.Give (port_of c) text → HasControls row
-came_by (at.Turn p) d read ready c text due = tt
-came_by (at.Start row) d read ready c text due = gives_row (at.Start row) d c text due
-came_by (at.Ended status) d read ready c text due = gives_row (at.Ended status) d c text due
-came_by row d read ready c text due = tt
-
 told_at : (past : List Own) (row : Row) (d : Desk) → HasControls row → KnowsAt (IsSaid past) (facts past) row d → papers past ≡ Told d.book.controls
 told_at past (at.Start (start.Control name reading)) d has h = absurd has
 told_at past (at.Ended status) d has h = absurd has
 told_at past row d has h = h.0.3
-
-pub gives_has : (past : List Own) (own : Own) (c : Channel) (text : List ℕ) → IsRunBy (Next None) (own ∷ past) → own.due ≡ needs.Give (port_of c) text → HasControls (desk_of past).row
-gives_has past own c text run due = came_by (desk_of past).row (desk_of past) own.read own.ready c text (run.1.0 ∙ due)
 
 pub known_short : (past : List Own) → IsRunBy (Next None) past → HasControls (desk_of past).row → AreShort (desk_of past).book.controls
 known_short past run has = told_short past (desk_of past).book.controls (told_at past (desk_of past).row (desk_of past) has (all_kept None past run).1)

@@ -5,7 +5,6 @@ use Rattle.std.specs.Prelude.{Contains, is_some}
 use Rattle.std.proofs.lemmas.Bool.{and_parts, false≢true, le-leb}
 use Rattle.std.proofs.lemmas.List.Elements.{Contains-append_right}
 use Rattle.std.proofs.lemmas.Slice.Eq.{bytes_eq-Decides}
-use Rattle.address_rules.specs.declared.controls.Controls.{Controls}
 use Rattle.call_fs.specs.Apply.{Fits}
 use Rattle.call_fs.specs.Disk.{Disk}
 use Rattle.call_fs.specs.Maps.{put_at}
@@ -21,7 +20,6 @@ use Rattle.call_fs.specs.declared.past.Own.{Own}
 use Rattle.mail_bytes.specs.Decimal.{digits, value}
 use Rattle.mail_bytes.proofs.Digits.{number-digits, number_of_text, value-digits}
 use Rattle.program_law.specs.Delivery.Names.{IsDropName}
-use Rattle.program_law.specs.Sender.Control.{AreControls}
 use Rattle.queue_clean.specs.Table.{pid_path}
 use Rattle.queue_law.specs.Cleaners.{IsOnePart}
 use Rattle.queue_paths.specs.Names.{Name, path}
@@ -159,15 +157,15 @@ path_is : (n : ℕ) (part : List ℕ) → digits n ≡ part → path (Of Todo n)
 unfolding path
 path_is n part is = ap (λ (t : List ℕ). codes "todo/" ++ t) is
 
-module _ (controls : Controls) (d : Disk) (has : AreControls controls d) (empty : TodoIsEmpty d) where
+module _ (d : Disk) (empty : TodoIsEmpty d) where
   -- a text of digits there is the number of a message
   text_none : (h : List Event) → Legal d h → list_all goes_well h ≡ true → (part : List ℕ) → message_number part ≡ None → digits (value part) ≡ part → (after d h).disk.names (todo_name part) ≡ None
   text_none h legal well part none is = none_if ((after d h).disk.names (todo_name part)) (λ file there.
       let s = after d h in
-      let I = always controls d h has legal in
+      let I = always d h legal in
       let n = value part in
       let name : path (Of Todo n) ≡ todo_name part = path_is n part is in
-      let lives = living_by controls s n file I.role (I.sound.fine n) (todo_alone (parts_of s.disk.names n) ∙ ap s.disk.names name ∙ there) in
+      let lives = living_by s n file I.role (I.sound.fine n) (todo_alone (parts_of s.disk.names n) ∙ ap s.disk.names name ∙ there) in
       let low = numbers_are_small d h legal well n lives.0 lives.1 in
       no_number part n none (ap message_number (sym is) ∙ numbered n low.0 low.1))
 
@@ -180,7 +178,7 @@ module _ (controls : Controls) (d : Disk) (has : AreControls controls d) (empty 
       by : (b : Bool) → bytes_eq (digits (value part)) part ≡ b → (after d h).disk.names (todo_name part) ≡ None → goes_well e ≡ true → (after d (e ∷ h)).disk.names (todo_name part) ≡ None
       by true same before good = text_none (e ∷ h) legal well part none ((bytes_eq-Decides (digits (value part)) part).0 same)
       by false apart before good =
-          stays_none (doer (after d h) e) (after d h).disk (after d (e ∷ h)).disk (todo_name part) ((events_leave controls d e h has legal).outside (no_halt e good))
+          stays_none (doer (after d h) e) (after d h).disk (after d (e ∷ h)).disk (todo_name part) ((events_leave d e h legal).outside (no_halt e good))
           (not_queue part apart) (not_drop part one) before
 
 number_or : (o : Option ℕ) → (o ≡ None) ⊎ ((n : ℕ) × (o ≡ Some n))
@@ -188,9 +186,9 @@ number_or None = inl refl
 number_or (Some n) = inr (n, refl)
 
 pub todo_has_numbers : TodoHasNumbers
-todo_has_numbers controls d h well empty part file one there = ⊎_elim
+todo_has_numbers d h well empty part file one there = ⊎_elim
     (λ (none : message_number part ≡ None).
-    let both : ◌≡◌ {A = Option ℕ} None (Some file) = sym (none_there controls d well.are empty h well.legal well.well part one none) ∙ there in absurd (cc))
+    let both : ◌≡◌ {A = Option ℕ} None (Some file) = sym (none_there d empty h well.legal well.well part one none) ∙ there in absurd (cc))
     (λ (some : (n : ℕ) × (message_number part ≡ Some n)). some)
     (number_or (message_number part))
 
@@ -248,17 +246,17 @@ event_gave (Stop a) s none G may well = absurd (cc)
 event_gave (Moment m) s none G may well = G
 event_gave (Halt how contents) s none G may well = absurd (cc)
 
-gave_none : (controls : Controls) (d : Disk) (h : List Event) → AreControls controls d → TodoIsEmpty d → Legal d h → list_all goes_well h ≡ true → GaveNone (after d h).actors
-gave_none controls d [] has empty legal well = λ a x is. absurd (cc)
-gave_none controls d (e ∷ h) has empty legal well =
+gave_none : (d : Disk) (h : List Event) → TodoIsEmpty d → Legal d h → list_all goes_well h ≡ true → GaveNone (after d h).actors
+gave_none d [] empty legal well = λ a x is. absurd (cc)
+gave_none d (e ∷ h) empty legal well =
     let parts = and_parts (goes_well e) (list_all goes_well h) well in
-    event_gave e (after d h) (none_there controls d has empty h legal.0 parts.1) (gave_none controls d h has empty legal.0 parts.1) legal.1 parts.0
+    event_gave e (after d h) (none_there d empty h legal.0 parts.1) (gave_none d h empty legal.0 parts.1) legal.1 parts.0
 
 -- nor does the newest event
-pub none_given : (controls : Controls) (d : Disk) (own : Own) (wrote : ℕ) (h : List Event) → GoesWell controls d (Act (codes "sender") own wrote ∷ h) → TodoIsEmpty d → GivesStray own → ⊥
-none_given controls d own wrote h well empty g =
+pub none_given : (d : Disk) (own : Own) (wrote : ℕ) (h : List Event) → GoesWell d (Act (codes "sender") own wrote ∷ h) → TodoIsEmpty d → GivesStray own → ⊥
+none_given d own wrote h well empty g =
     let parts = and_parts (goes_well (Act (codes "sender") own wrote)) (list_all goes_well h) well.well in
-    gave_there (after d h) (none_there controls d well.are empty h well.legal.0 parts.1) (codes "sender") own wrote well.legal.1.came g
+    gave_there (after d h) (none_there d empty h well.legal.0 parts.1) (codes "sender") own wrote well.legal.1.came g
 
 -- So the sender began a turn
 
@@ -274,7 +272,7 @@ begins_on past run none given (at.FindTodo (search.AfterStray again)) is goes =
     absurd (before.1 w.3)
 begins_on past run none given row is goes = absurd goes
 
-module _ (controls : Controls) (d : Disk) (own : Own) (wrote : ℕ) (h : List Event) (well : GoesWell controls d (Act (codes "sender") own wrote ∷ h)) (empty : TodoIsEmpty d)
+module _ (d : Disk) (own : Own) (wrote : ℕ) (h : List Event) (well : GoesWell d (Act (codes "sender") own wrote ∷ h)) (empty : TodoIsEmpty d)
     (idle : idled_by ((after d h).actors (codes "sender")) own ≡ true) (x : Actor) (is : (after d h).actors (codes "sender") ≡ Some x) (none : NoneLeft None x.past) where
   pub begins : BeginsTurn (desk_of x.past).row
   begins =
@@ -284,5 +282,5 @@ module _ (controls : Controls) (d : Disk) (own : Own) (wrote : ℕ) (h : List Ev
       ⊎_elim
       (λ (so : BeginsTurn (desk_of x.past).row). so)
       (λ (goes : GoesOn (desk_of x.past).row (desk_of x.past).last_left).
-      begins_on x.past run none (gave_none controls d h well.are empty well.legal.0 parts.1 (codes "sender") x is) (desk_of x.past).row refl goes)
+      begins_on x.past run none (gave_none d h empty well.legal.0 parts.1 (codes "sender") x is) (desk_of x.past).row refl goes)
       (searches_begin x.past run own it.2)

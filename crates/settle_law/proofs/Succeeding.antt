@@ -1,15 +1,13 @@
 -- Where each report that a spawner gave is of a success, so is each that the sender took.
-use Rattle.std.proofs.Common.{◌≡◌, ◌≢◌, ◌<◌, ⊎_elim, ℕ, List, [], ◌∷◌, Bool, true, Option, Some, None, refl, sym, ap, ◌∙◌, subst, codes}
+use Rattle.std.proofs.Common.{◌≡◌, ◌≢◌, ⊎_elim, ℕ, List, [], ◌∷◌, Bool, true, Option, Some, None, refl, sym, ap, ◌∙◌, subst, codes}
 use Rattle.std.specs.Prelude.{◌&&◌, ◌||◌, All, not, option_map}
 use Rattle.std.specs.List.{list_all}
 use Rattle.std.proofs.lemmas.Bool.{and_from, and_parts}
-use Rattle.address_rules.specs.declared.controls.Controls.{Controls}
 use Rattle.call_fs.proofs.Maps.{put_at_cases}
 use Rattle.call_fs.specs.Disk.{Disk}
 use Rattle.call_fs.specs.Maps.{put_at}
 use Rattle.call_fs.specs.declared.past.NeedData.TheVariants as needs
 use Rattle.call_fs.specs.declared.past.Own.{Own}
-use Rattle.program_law.specs.Sender.Control.{AreControls}
 use Rattle.send_core.specs.Past.{account, news}
 use Rattle.send_known.specs.declared.channel.Channel.{Channel}
 use Rattle.send_known.specs.declared.channel.Channel.TheVariants.{Local, Remote}
@@ -112,23 +110,23 @@ abbrev AreNext : State → Type 0
 AreNext s = (x : Actor) (start : ℕ) → s.actors (codes "sender") ≡ Some x → x.program ≡ Sender start → x.life ≡ Alive → (c : Channel) (before bytes : List ℕ)
     → (account c x.past).heard ≡ Some before → IsTaken (told_of c s) bytes → All IsSuccess (news before bytes)
 
-module _ (controls : Controls) (d : Disk) (are : AreControls controls d) (local : 0 < controls.concurrency_local) (remote : 0 < controls.concurrency_remote) where
+module _ (d : Disk) where
   next_in : (h : List Event) → Legal d h → list_all both h ≡ true → AreNext (after d h)
   next_in h legal all x start is program alive c before bytes heard lies =
       let parts = both_parts h all in
       let s = after d h in
-      let well : GoesWell controls d h = record { are = are; local = local; remote = remote; legal = legal; well = parts.0 } in
-      let served = servants_live controls d h well (Spawns c) x is alive (subst IsSender (sym program) tt) in
+      let well : GoesWell d h = record { legal = legal; well = parts.0 } in
+      let served = servants_live d h well (Spawns c) x is alive (subst IsSender (sym program) tt) in
       let one : sends_past (s.actors (codes "sender")) ≡ Some x.past = ap sends_past is ∙ ap (λ (p : Program). sends_by p x.past) program in
       let two : spawns_past c (s.actors (spawner_name c)) ≡ Some served.actor.past = ap (spawns_past c) served.is ∙ spawned_is c served.actor.program served.serves served.actor.past in
       let told : Told c (Some x.past) (Some served.actor.past) (told_of c s) (asked_of c s) =
       subst (λ (o : Option (List Own)). Told c (Some x.past) o (told_of c s) (asked_of c s)) two
       (subst (λ (o : Option (List Own)). Told c o (spawns_past c (s.actors (spawner_name c))) (told_of c s) (asked_of c s)) one
-      (kept_always Told told_kept controls d h are legal parts.0 c)) in
+      (kept_always Told told_kept d h legal parts.0 c)) in
       next_reports c x.past served.actor.past (told_of c s) (asked_of c s) before bytes told (spawners_tell d h legal parts.1 (spawner_name c) served.actor served.is (named_so c)) heard lies
 
 pub reports_succeed : ReportsSucceed
-reports_succeed controls d h well all x start is program = sender_pasts controls both AreNext HearsSuccess tt
+reports_succeed d h well all x start is program = sender_pasts both AreNext HearsSuccess tt
     (λ s I next a own wrote may began sends fine ran held. (
       held,
       λ c before bytes heard due got.
@@ -140,4 +138,4 @@ reports_succeed controls d h well all x start is program = sender_pasts controls
       held,
       λ c before bytes heard due got. let bad : needs.Start may.asked ≡ needs.Take (port_of c) = sym may.starts ∙ due in absurd (cc),
     ))
-    d well.are (next_in controls d well.are well.local well.remote) h well.legal (both_all h well.well all) (codes "sender") x is start program
+    d (next_in d) h well.legal (both_all h well.well all) (codes "sender") x is start program

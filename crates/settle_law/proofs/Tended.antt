@@ -4,7 +4,6 @@ use Rattle.std.specs.List.{list_all}
 use Rattle.std.specs.Prelude.{Contains}
 use Rattle.std.proofs.lemmas.Bool.{and_parts, eq-eqb, false≢true}
 use Rattle.actor_names.specs.MailNames.{members}
-use Rattle.address_rules.specs.declared.controls.Controls.{Controls}
 use Rattle.call_fs.specs.Disk.{Disk}
 use Rattle.call_fs.specs.Maps.{put_at}
 use Rattle.call_fs.proofs.Maps.{put_at_cases, put_at_other, put_at_same}
@@ -31,7 +30,6 @@ use Rattle.local_spawn.specs.declared.place.Place.{Place as LocalPlace}
 use Rattle.local_spawn.specs.declared.row.Row.{Row as LocalRow}
 use Rattle.local_spawn.specs.declared.row.Row.TheVariants as local_at
 use Rattle.local_spawn.specs.Table.{act as local_act, due_at as local_due_at, due_by as local_due, due_from as local_due_from, place_after as local_after, program_of as local_program, served}
-use Rattle.program_law.specs.Sender.Control.{AreControls}
 use Rattle.spawner_parts.specs.declared.row.Row.{Row}
 use Rattle.spawner_parts.specs.declared.row.Row.TheVariants as at
 use Rattle.spawner_parts.specs.Table.{row_now}
@@ -355,8 +353,8 @@ unless_first false u x y e = refl
 pub put_left : (programs : List ℕ → ℕ → Option Tenant) (a : List ℕ) (d : ℕ) (t : Option Tenant) (e : List ℕ) (k : ℕ) → e ≢ a → put_program programs a d t e k ≡ programs e k
 put_left programs a d t e k apart = unless_first (bytes_eq e a) (k == d) t (programs e k) (other_text e a apart)
 
-module _ (controls : Controls) (s : State) (I : Inv controls s) (T : Tended s.actors s.pipework) (parent : List ℕ) (own : Own) (a : List ℕ) (program : Program) (may : MayBear s parent own a program)
-    (run : IsRunBy (next_of may.actor.program) (own ∷ may.actor.past)) (J : Inv controls (bears (acted s parent own 0 (Some may.actor)) parent own a program)) where
+module _ (s : State) (I : Inv s) (T : Tended s.actors s.pipework) (parent : List ℕ) (own : Own) (a : List ℕ) (program : Program) (may : MayBear s parent own a program)
+    (run : IsRunBy (next_of may.actor.program) (own ∷ may.actor.past)) (J : Inv (bears (acted s parent own 0 (Some may.actor)) parent own a program)) where
   abbrev bearer_then : Actor
   bearer_then = record { program = may.actor.program; past = own ∷ may.actor.past; life = may.actor.life }
 
@@ -384,9 +382,6 @@ module _ (controls : Controls) (s : State) (I : Inv controls s) (T : Tended s.ac
 
   no_parent : (b : List ℕ) (d : ℕ) → s.pipework.programs a d ≡ Some (Runs b) → ⊥
   no_parent b d runs = let t = I.tenants a d (Runs b) runs in no_actor t.bearer t.bearer_is
-
-  no_child : (e : List ℕ) (d : ℕ) → s.pipework.programs e d ≡ Some (Runs a) → ⊥
-  no_child e d runs = let t = I.tenants e d (Runs a) runs in no_actor t.actor t.is
 
   ran : (e b : List ℕ) (d : ℕ) → mid.pipework.programs e d ≡ Some (Runs b) → s.pipework.programs e d ≡ Some (Runs b)
   ran e b d runs = (output_stays s.pipework parent own.due own.came 0 e d (Runs b) tt runs).0
@@ -500,7 +495,7 @@ pub no_member : (t : Bool) (n : List ℕ) → is_member n ≡ t → (Contains me
 no_member true n is apart = absurd (apart (member_contained n is))
 no_member false n is apart = is
 
-module _ (controls : Controls) (s : State) (I : Inv controls s) (T : Tended s.actors s.pipework) (sender clean lspawn rspawn : Program) (J : Inv controls (happens s (Generation (sender ∷ clean ∷ lspawn ∷ rspawn ∷ [])))) where
+module _ (s : State) (I : Inv s) (T : Tended s.actors s.pipework) (sender clean lspawn rspawn : Program) (J : Inv (happens s (Generation (sender ∷ clean ∷ lspawn ∷ rspawn ∷ [])))) where
   abbrev begun : State
   begun = happens s (Generation (sender ∷ clean ∷ lspawn ∷ rspawn ∷ []))
 
@@ -542,7 +537,7 @@ if_told : (t : Bool) (o : Option Tenant) (b : List ℕ) → (if t then Some (Rem
 if_told true o b is = absurd (cc)
 if_told false o b is = (refl, is)
 
-module _ (controls : Controls) (s : State) (I : Inv controls s) (T : Tended s.actors s.pipework) (slot : ℕ) (output : List ℕ) where
+module _ (s : State) (I : Inv s) (T : Tended s.actors s.pipework) (slot : ℕ) (output : List ℕ) where
   abbrev reported : State
   reported = happens s (Report slot output)
 
@@ -618,9 +613,9 @@ module _ (s : State) (T : Tended s.actors s.pipework) (a : List ℕ) (x : Actor)
 
 -- A start alone
 
-start_tended : (controls : Controls) (s : State) → Inv controls s → Tended s.actors s.pipework → (a : List ℕ) (program : Program) → MayRun program → s.actors a ≡ None
+start_tended : (s : State) → Inv s → Tended s.actors s.pipework → (a : List ℕ) (program : Program) → MayRun program → s.actors a ≡ None
     → Tended (put_at s.actors a (Some (newborn program))) s.pipework
-start_tended controls s I T a program runs_alone new = record {
+start_tended s I T a program runs_alone new = record {
   fed = λ e b d z there apart runs. ⊎_elim
       (λ (c : (e ≡ a) × (put_at s.actors a (Some (newborn program)) e ≡ Some (newborn program))). let t = I.tenants e d (Runs b) runs in absurd (none t.bearer (ap s.actors (sym c.0) ∙ t.bearer_is)))
       (λ (c : (e ≢ a) × (put_at s.actors a (Some (newborn program)) e ≡ s.actors e)). T.fed e b d z (sym c.1 ∙ there) apart runs)
@@ -649,28 +644,28 @@ ends_by s T a life (Some x) is = end_tended s T a x is life
 abbrev TendedIn : State → Type 0
 TendedIn s = Tended s.actors s.pipework
 
-event_tended : (e : Event) (controls : Controls) (s : State) → Inv controls s → HaveRun s.actors → Inv controls (happens s e) → TendedIn s → Allowed s e → goes_well e ≡ true → TendedIn (happens s e)
-event_tended (Start a program) controls s I R J T may well = start_tended controls s I T a program may.runs may.new
-event_tended (Act a own wrote) controls s I R J T may well = subst (λ (o : Option Actor). TendedIn (acted s a own wrote o)) (sym may.reads.is) (acts_tended s T a own wrote may well)
-event_tended (Child parent own a program) controls s I R J T may well =
+event_tended : (e : Event) (s : State) → Inv s → HaveRun s.actors → Inv (happens s e) → TendedIn s → Allowed s e → goes_well e ≡ true → TendedIn (happens s e)
+event_tended (Start a program) s I R J T may well = start_tended s I T a program may.runs may.new
+event_tended (Act a own wrote) s I R J T may well = subst (λ (o : Option Actor). TendedIn (acted s a own wrote o)) (sym may.reads.is) (acts_tended s T a own wrote may well)
+event_tended (Child parent own a program) s I R J T may well =
     subst (λ (o : Option Actor). TendedIn (bears (acted s parent own 0 o) parent own a program)) (sym may.reads.is)
-    (child_tended controls s I T parent own a program may (R parent may.actor may.reads.is, (may.due, born_comes s parent own a program may))
-    (subst (λ (o : Option Actor). Inv controls (bears (acted s parent own 0 o) parent own a program)) may.reads.is J))
-event_tended (Generation (sender ∷ clean ∷ lspawn ∷ rspawn ∷ [])) controls s I R J T may well = generation_tended controls s I T sender clean lspawn rspawn J
-event_tended (Generation crew) controls s I R J T may well = absurd (are_four crew may.kinds)
-event_tended (Report slot output) controls s I R J T may well = report_tended controls s I T slot output
-event_tended (End a read ready status) controls s I R J T may well = ends_by s T a (Over status) (s.actors a) refl
-event_tended (Stop a) controls s I R J T may well = absurd (cc)
-event_tended (Moment m) controls s I R J T may well = T
-event_tended (Halt how contents) controls s I R J T may well = absurd (cc)
+    (child_tended s I T parent own a program may (R parent may.actor may.reads.is, (may.due, born_comes s parent own a program may))
+    (subst (λ (o : Option Actor). Inv (bears (acted s parent own 0 o) parent own a program)) may.reads.is J))
+event_tended (Generation (sender ∷ clean ∷ lspawn ∷ rspawn ∷ [])) s I R J T may well = generation_tended s I T sender clean lspawn rspawn J
+event_tended (Generation crew) s I R J T may well = absurd (are_four crew may.kinds)
+event_tended (Report slot output) s I R J T may well = report_tended s I T slot output
+event_tended (End a read ready status) s I R J T may well = ends_by s T a (Over status) (s.actors a) refl
+event_tended (Stop a) s I R J T may well = absurd (cc)
+event_tended (Moment m) s I R J T may well = T
+event_tended (Halt how contents) s I R J T may well = absurd (cc)
 
-pub tended_always : (controls : Controls) (d : Disk) (h : List Event) → AreControls controls d → Legal d h → list_all goes_well h ≡ true → let s = after d h in Tended s.actors s.pipework
-tended_always controls d [] has legal well = record {
+pub tended_always : (d : Disk) (h : List Event) → Legal d h → list_all goes_well h ≡ true → let s = after d h in Tended s.actors s.pipework
+tended_always d [] legal well = record {
   fed = λ a b d x there apart runs. absurd (cc);
   over = λ a b d z runs there dead. absurd (cc);
   told = λ a d runs. absurd (cc);
   awaits = λ a x start args there is. absurd (cc);
 }
-tended_always controls d (e ∷ h) has legal well =
+tended_always d (e ∷ h) legal well =
     let parts = and_parts (goes_well e) (list_all goes_well h) well in
-    event_tended e controls (after d h) (always controls d h has legal.0) (have_run d h legal.0) (always controls d (e ∷ h) has legal) (tended_always controls d h has legal.0 parts.1) legal.1 parts.0
+    event_tended e (after d h) (always d h legal.0) (have_run d h legal.0) (always d (e ∷ h) legal) (tended_always d h legal.0 parts.1) legal.1 parts.0

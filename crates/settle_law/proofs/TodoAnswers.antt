@@ -2,7 +2,6 @@
 use Rattle.std.proofs.Common.{◌≡◌, ◌≢◌, ◌⊎◌, inl, inr, ⊎_elim, ℕ, ◌≤◌, ◌<◌, ◌^◌, List, [], ◌∷◌, take, Bool, true, false, if◌then◌else◌, Option, Some, None, refl, sym, ap, ◌∙◌, subst, arith, bytes_eq, codes}
 use Rattle.std.specs.List.{list_all}
 use Rattle.std.proofs.lemmas.Bool.{and_parts, false≢true}
-use Rattle.address_rules.specs.declared.controls.Controls.{Controls}
 use Rattle.call_fs.specs.Apply.{Fits}
 use Rattle.call_fs.specs.Disk.{Disk}
 use Rattle.call_fs.specs.Maps.{put_at}
@@ -247,7 +246,7 @@ is_asking due = inl (λ other e. cc)
 
 -- An event of an actor; the start of a child is one of its parent
 
-module _ (controls : Controls) (s : State) (I : Inv controls s) (F : Fine s) (small : (n : ℕ) → (link_in s).awaits ≡ Answer (Todo n) → (1 ≤ n) × (n < 2 ^ 64))
+module _ (s : State) (I : Inv s) (F : Fine s) (small : (n : ℕ) → (link_in s).awaits ≡ Answer (Todo n) → (1 ≤ n) × (n < 2 ^ 64))
     (served : (x : Actor) → s.actors (codes "sender") ≡ Some x → x.life ≡ Alive → IsSender x.program → IsServed Cleans s) (a : List ℕ) (own : Own) (wrote : ℕ) (z : Actor) (is : s.actors a ≡ Some z)
     (alive : z.life ≡ Alive) (due : next_of z.program z.past own.read own.ready ≡ own.due) (comes : ComesOf s a own.due own.came wrote ⊎ ((asked : ChildData) × (own.due ≡ needs.Start asked)))
     (well : came_well own.came ≡ true) where
@@ -413,34 +412,34 @@ module _ (s : State) (F : Fine s) (a : List ℕ) (z : Actor) (is : s.actors a �
 
 -- The number of a message that is asked for
 
-asked_small : (controls : Controls) (s : State) (I : Inv controls s) → ((n : ℕ) (i : Injection) → s.books.living n ≡ Some i → (1 ≤ n) × (n < 2 ^ 64)) → (n : ℕ) → (link_in s).awaits ≡ Answer (Todo n)
+asked_small : (s : State) (I : Inv s) → ((n : ℕ) (i : Injection) → s.books.living n ≡ Some i → (1 ≤ n) × (n < 2 ^ 64)) → (n : ℕ) → (link_in s).awaits ≡ Answer (Todo n)
     → (1 ≤ n) × (n < 2 ^ 64)
-asked_small controls s I small n waits =
+asked_small s I small n waits =
     let asks = asks_by (s.actors (codes "sender")) n waits in
     let d : Desk = place_after None asks.past in
     let q : Queue = queue s I.role in
-    let fares : SenderFares controls s.now q (codes "sender") d = I.fares (codes "sender") (record { program = Sender asks.start; past = asks.past; life = Alive }) asks.is in
+    let fares : SenderFares s.now q (codes "sender") d = I.fares (codes "sender") (record { program = Sender asks.start; past = asks.past; life = Alive }) asks.is in
     let it = in_pass d.row d.pass n asks.awaits_it in
-    let stands : Stands controls s.now q (codes "sender") at.InTodo d.book d.slots (works d) = subst (λ (r : Row). Stands controls s.now q (codes "sender") r d.book d.slots (works d)) it.row_is fares.stands in
-    let expected : IsExpected (about q d.pass.n) (known_of d.pass) = subst (λ (r : PassRow). TodoStands controls s.now q (codes "sender") r d.pass) it.pass_is stands.rests.1.1 in
+    let stands : Stands s.now q (codes "sender") at.InTodo d.book d.slots (works d) = subst (λ (r : Row). Stands s.now q (codes "sender") r d.book d.slots (works d)) it.row_is fares.stands in
+    let expected : IsExpected (about q d.pass.n) (known_of d.pass) = subst (λ (r : PassRow). TodoStands d.book.controls s.now q (codes "sender") r d.pass) it.pass_is stands.rests.1.1 in
     subst (λ (m : ℕ). (1 ≤ m) × (m < 2 ^ 64)) it.number (small d.pass.n expected.injection expected.lives)
 
 -- Each event
 
-module _ (controls : Controls) (s : State) (I : Inv controls s) (F : Fine s) (small : (n : ℕ) → (link_in s).awaits ≡ Answer (Todo n) → (1 ≤ n) × (n < 2 ^ 64))
+module _ (s : State) (I : Inv s) (F : Fine s) (small : (n : ℕ) → (link_in s).awaits ≡ Answer (Todo n) → (1 ≤ n) × (n < 2 ^ 64))
     (served : (x : Actor) → s.actors (codes "sender") ≡ Some x → x.life ≡ Alive → IsSender x.program → IsServed Cleans s) where
   child_fine : (parent : List ℕ) (own : Own) (a : List ℕ) (program : Program) (may : MayBear s parent own a program) → Fine (bears (acted s parent own 0 (Some may.actor)) parent own a program)
   child_fine parent own a program may =
       let mid : State = acted s parent own 0 (Some may.actor) in
       started_fine mid (bears mid parent own a program) a program refl
       (ap (λ (pipe : Pipe). pipe.bytes) (away_same mid.pipework.pipes (Some (mouth parent (port.Program (slot_by own.due)))) (λ pipe. fresh) (codes "sender") port.Clean refl))
-      (acted_fine controls s I F small served parent own 0 may.actor may.reads.is may.reads.alive may.due (inr (may.asked, may.starts)) (ap came_well may.came))
+      (acted_fine s I F small served parent own 0 may.actor may.reads.is may.reads.alive may.due (inr (may.asked, may.starts)) (ap came_well may.came))
 
   event_fine : (e : Event) → Allowed s e → goes_well e ≡ true → Fine (happens s e)
   event_fine (Start a program) may well = started_fine s (happens s (Start a program)) a program refl refl F
   event_fine (Act a own wrote) may well =
       subst (λ (o : Option Actor). Fine (acted s a own wrote o)) (sym may.reads.is)
-      (acted_fine controls s I F small served a own wrote may.actor may.reads.is may.reads.alive may.due (inl may.came) well)
+      (acted_fine s I F small served a own wrote may.actor may.reads.is may.reads.alive may.due (inl may.came) well)
   event_fine (Child parent own a program) may well =
       subst (λ (o : Option Actor). Fine (bears (acted s parent own 0 o) parent own a program)) (sym may.reads.is) (child_fine parent own a program may)
   event_fine (Generation (sender ∷ clean ∷ lspawn ∷ rspawn ∷ [])) may well = λ n waits. absurd (newborn_waits sender n (sym (ap awaits_in (four_sender s.actors sender clean lspawn rspawn)) ∙ waits))
@@ -455,13 +454,13 @@ module _ (controls : Controls) (s : State) (I : Inv controls s) (F : Fine s) (sm
   event_fine (Halt how contents) may well = absurd (cc)
 
 pub todo_answers_are_well : TodoAnswersAreWell
-todo_answers_are_well controls d h g n waits = (all h g n waits).1
+todo_answers_are_well d h g n waits = (all h g n waits).1
   where
-    all : (h : List Event) → GoesWell controls d h → Fine (after d h)
+    all : (h : List Event) → GoesWell d h → Fine (after d h)
     all [] g = λ n waits. absurd (cc)
     all (e ∷ h) g =
         let parts = and_parts (goes_well e) (list_all goes_well h) g.well in
-        let before : GoesWell controls d h = record { are = g.are; local = g.local; remote = g.remote; legal = g.legal.0; well = parts.1 } in
+        let before : GoesWell d h = record { legal = g.legal.0; well = parts.1 } in
         let s : State = after d h in
-        let I = always controls d h g.are g.legal.0 in
-        event_fine controls s I (all h before) (asked_small controls s I (numbers_are_small d h g.legal.0 parts.1)) (servants_live controls d h before Cleans) e g.legal.1 parts.0
+        let I = always d h g.legal.0 in
+        event_fine s I (all h before) (asked_small s I (numbers_are_small d h g.legal.0 parts.1)) (servants_live d h before Cleans) e g.legal.1 parts.0

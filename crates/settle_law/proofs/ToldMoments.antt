@@ -57,7 +57,7 @@ all_true [] = refl
 all_true (e ∷ h) = all_true h
 
 pub pasts_tell_moments : PastsTellMoments
-pasts_tell_moments controls d h are legal a x start is program = sender_pasts controls (λ (e : Event). true) (λ s. Bounded s.disk s.now) Tells (All-nil TellsMoments, tt)
+pasts_tell_moments d h legal a x start is program = sender_pasts (λ (e : Event). true) (λ s. Bounded s.disk s.now) Tells (All-nil TellsMoments, tt)
     (λ s I w a own wrote may start is well ran held.
     let moment : IsMoment own.read = (let m = I.moment in let le = may.reads.no_later in omega (arith, m, le)) in (
       All-cons TellsMoments own may.actor.past (record { read = moment; came = came_told s I.moment w a own.due own.came wrote may.came }) held.0,
@@ -68,4 +68,4 @@ pasts_tell_moments controls d h are legal a x start is program = sender_pasts co
       All-cons TellsMoments own may.actor.past (record { read = moment; came = subst (λ (due : NeedData). IsMomentOf due own.came) (sym may.starts) tt }) held.0,
       (held.1, all_before start own.read may.actor.past held.1 (subst (λ (p : Program). latest p may.actor.past ≤ own.read) is may.reads.no_earlier)),
     ))
-    d are (λ h legal well. infos_bounded controls d are h legal) h legal (all_true h) a x is start program
+    d (λ h legal well. infos_bounded d h legal) h legal (all_true h) a x is start program

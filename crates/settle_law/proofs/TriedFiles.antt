@@ -2,7 +2,6 @@
 use Rattle.std.proofs.Common.{◌≡◌, ◌≢◌, ℕ, List, [], ◌∷◌, Bool, true, false, Option, Some, None, eq-eqb, refl, sym, ap, ◌∙◌, subst}
 use Rattle.std.specs.Prelude.{◌&&◌, ◌==◌, is_some, option_map}
 use Rattle.std.proofs.lemmas.Bool.{and_from, and_parts}
-use Rattle.address_rules.specs.declared.controls.Controls.{Controls}
 use Rattle.call_fs.proofs.Maps.{put_other}
 use Rattle.call_fs.specs.Apply.{Fits, changed, overwritten}
 use Rattle.call_fs.specs.Disk.{Disk, Open as OpenFile}
@@ -124,7 +123,7 @@ first_keeps K Local row first own is far Remote = far Remote (λ e. absurd (cc))
 first_keeps K Remote row first own is far Local = far Local (λ e. absurd (cc))
 first_keeps K Remote row first own is far Remote = subst (K Remote) (sym (is true refl)) own
 
-module _ (controls : Controls) (s : State) (I : Inv controls s) (a : List ℕ) (own : Own) (wrote : ℕ) (may : MayDo s a own wrote) (began : ℕ) (is : may.actor.program ≡ Sender began) (good : came_well own.came ≡ true)
+module _ (s : State) (I : Inv s) (a : List ℕ) (own : Own) (wrote : ℕ) (may : MayDo s a own wrote) (began : ℕ) (is : may.actor.program ≡ Sender began) (good : came_well own.came ≡ true)
     (run : IsRunBy (Next None) (own ∷ may.actor.past)) where
   abbrev q : Queue
   q = queue s I.role
@@ -144,11 +143,11 @@ module _ (controls : Controls) (s : State) (I : Inv controls s) (a : List ℕ) (
   abbrev later : Channel → ℕ → Bool
   later = known_tried (own ∷ past)
 
-  at_row : (r : Row) → row ≡ r → StandsAt controls s.now q a r d
-  at_row r e = subst (λ (x : Row). StandsAt controls s.now q a x d) e (stands controls s I a own wrote may began is)
+  at_row : (r : Row) → row ≡ r → StandsAt s.now q a r d
+  at_row r e = subst (λ (x : Row). StandsAt s.now q a x d) e (stands s I a own wrote may began is)
 
   comes_at : (r : Row) → row ≡ r → ComesOf s a (due_at r d) own.came wrote
-  comes_at r e = subst (λ (x : Row). ComesOf s a (due_at x d) own.came wrote) e (comes_there controls s I a own wrote may began is)
+  comes_at r e = subst (λ (x : Row). ComesOf s a (due_at x d) own.came wrote) e (comes_there s I a own wrote may began is)
 
   was_tried : (c : Channel) (n : ℕ) → job_of n (lane c d.slots).jobs ≡ None → later c n ≡ true → known_tried past c n ≡ true
   was_tried c n none t = known_tried_stay None past own run c n none t
@@ -162,7 +161,7 @@ module _ (controls : Controls) (s : State) (I : Inv controls s) (a : List ℕ) (
   -- Which files are as they were
 
   abbrev Leaves : Disk → Type 0
-  Leaves e = LeavesFiles controls s I a own wrote may began is e
+  Leaves e = LeavesFiles s I a own wrote may began is e
 
   apart_at : (r : Row) → row ≡ r → (c : Channel) (n : ℕ) → IsApart r c n → IsApart row c n
   apart_at r e c n far = subst (λ (x : Row). IsApart x c n) (sym e) far
@@ -194,13 +193,13 @@ module _ (controls : Controls) (s : State) (I : Inv controls s) (a : List ℕ) (
   is_unlinked c n p e = unlinks_row c n (has_unlinked past) (at.UnlinkFile c n p) d (cleared c n p e) ∙ and_from (is_same c c) (n == n) (same_channel c) (eq-eqb n n refl)
 
   fine : (c : Channel) (n : ℕ) (p : Point) → row ≡ at.UnlinkFile c n p → is_fine (said own.came).way ≡ true
-  fine c n p e = (served controls s I a own wrote may began is good).unlinked c n p e
+  fine c n p e = (served s I a own wrote may began is good).unlinked c n p e
 
   abbrev Has : Channel → ℕ → NeedData → GotData → Bool
   Has c n need got = has_by (known_by need got (births past).command n false) (drops c n (has_unlinked past) need got) (there_in c n (own ∷ past)) (has_in c n past)
 
   gone : (c : Channel) (n : ℕ) (p : Point) → row ≡ at.UnlinkFile c n p → later c n ≡ false
-  gone c n p e = untold (own ∷ past) c n (subst (λ (need : NeedData). Has c n need own.came ≡ false) (ap (λ (r : Row). due_at r d) (sym e) ∙ due controls s I a own wrote may began is)
+  gone c n p e = untold (own ∷ past) c n (subst (λ (need : NeedData). Has c n need own.came ≡ false) (ap (λ (r : Row). due_at r d) (sym e) ∙ due s I a own wrote may began is)
       (by_answer s a (λ g. is_fine (said g).way ≡ true → Has c n (due_at (at.UnlinkFile c n p) d) g ≡ false) (call.Unlink (path (name_of (file_of c n)))) wrote own.came (comes_at (at.UnlinkFile c n p) e)
       (λ answers bytes fits well.
       ap (λ (b : Bool). has_by false (b && is_done answers) (there_in c n (own ∷ past)) (has_in c n past)) (is_unlinked c n p e)
@@ -230,7 +229,7 @@ module _ (controls : Controls) (s : State) (I : Inv controls s) (a : List ℕ) (
   then_disk = disk_after s.disk own.read own.due own.came wrote
 
   leaves_then : Leaves then_disk
-  leaves_then = own_files controls s I a own wrote may began is
+  leaves_then = own_files s I a own wrote may began is
 
   files_then : (r : Row) → row ≡ r → NoWrite r → HoldsTried later before r d.slots → HoldsTried later (files_on then_disk) r d.slots
   files_then r is_r none h = (
@@ -280,14 +279,14 @@ module _ (controls : Controls) (s : State) (I : Inv controls s) (a : List ℕ) (
     abbrev c : Channel
     c = m.channel
 
-    here : StandsAt controls s.now q a at_write d
+    here : StandsAt s.now q a at_write d
     here = at_row at_write is_r
 
     abbrev it : Mark
     it = here.rests.0.first
 
     tied : IsTied (before c) Unwritten (lane c d.slots)
-    tied = (at_mark controls s.now q a (mark.Write fd) m d here).tied
+    tied = (at_mark s.now q a (mark.Write fd) m d here).tied
 
     reads : IsOpen (before c) it.attempt
     reads = first_all (λ (x : Mark). IsOpen (before c) x.attempt) (lane c d.slots).marks it tied.to_mark here.rests.0.there
@@ -331,7 +330,7 @@ module _ (controls : Controls) (s : State) (I : Inv controls s) (a : List ℕ) (
     Wrote got = To (disk_after s.disk own.read (needs.File writing) got wrote) at_write got
 
     wrote_leaves : (got : GotData) → ComesOf s a (needs.File writing) got wrote → Leaves (disk_after s.disk own.read (needs.File writing) got wrote)
-    wrote_leaves got comes = files_by controls s I a own wrote may began is (needs.File writing) got (ap (λ (r : Row). due_at r d) is_r) comes
+    wrote_leaves got comes = files_by s I a own wrote may began is (needs.File writing) got (ap (λ (r : Row). due_at r d) is_r) comes
 
     -- the disk with the mark, at this place of this open file
     abbrev at_place : ℕ → Option OpenFile → Disk
@@ -360,7 +359,7 @@ module _ (controls : Controls) (s : State) (I : Inv controls s) (a : List ℕ) (
     by_came got comes well = absurd comes
 
     write_to : To then_disk at_write own.came
-    write_to = subst (λ (need : NeedData). To (disk_after s.disk own.read need own.came wrote) at_write own.came) (ap (λ (r : Row). due_at r d) (sym is_r) ∙ due controls s I a own wrote may began is)
+    write_to = subst (λ (need : NeedData). To (disk_after s.disk own.read need own.came wrote) at_write own.came) (ap (λ (r : Row). due_at r d) (sym is_r) ∙ due s I a own wrote may began is)
         (by_came own.came (comes_at at_write is_r) good)
 
   by_any : (r : Row) → row ≡ r → HoldsTried later before r d.slots → To then_disk r own.came

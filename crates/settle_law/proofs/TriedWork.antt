@@ -3,7 +3,6 @@ use Rattle.std.proofs.Common.{◌≡◌, ℕ, List, [], ◌∷◌, length, Bool,
 use Rattle.std.specs.Prelude.{◌&&◌, ◌==◌, All, Contains, IsSome, is_some, not}
 use Rattle.std.proofs.lemmas.Bool.{and_parts, eq-eqb, false≢true}
 use Rattle.std.proofs.lemmas.List.Elements.{All-nil}
-use Rattle.address_rules.specs.declared.controls.Controls.{Controls}
 use Rattle.call_fs.specs.Apply.{Fits}
 use Rattle.call_fs.specs.Disk.{Disk}
 use Rattle.call_fs.specs.Past.{IsRunBy}
@@ -176,7 +175,7 @@ open_is false = refl
 abbrev Succeeds : (Channel → ℕ → Bool) → Desk → Type 0
 Succeeds tried d = IsFine d.row × Held tried d.slots
 
-module _ (controls : Controls) (s : State) (I : Inv controls s) (a : List ℕ) (own : Own) (wrote : ℕ) (may : MayDo s a own wrote) (start : ℕ) (is : may.actor.program ≡ Sender start) (well : came_well own.came ≡ true)
+module _ (s : State) (I : Inv s) (a : List ℕ) (own : Own) (wrote : ℕ) (may : MayDo s a own wrote) (start : ℕ) (is : may.actor.program ≡ Sender start) (well : came_well own.came ≡ true)
     (ran : IsRunBy (Next None) may.actor.past) (hears : HearsSuccess (own ∷ may.actor.past)) (held : Succeeds (tried_at may.actor.past) (place_after None may.actor.past)) where
   abbrev past : List Own
   past = may.actor.past
@@ -234,11 +233,11 @@ module _ (controls : Controls) (s : State) (I : Inv controls s) (a : List ℕ) (
 
   opened : (m : Marked) → row ≡ at.Mark mark.Open m → is_fine (said own.came).way ≡ true
   opened m e = by_answer s a (λ g. came_well g ≡ true → is_fine (said g).way ≡ true) (call.Open (path (name_of (file_of m.channel m.n))) how.Write) wrote own.came
-      (comes_at controls s I a own wrote may start is well (at.Mark mark.Open m) e)
+      (comes_at s I a own wrote may start is well (at.Mark mark.Open m) e)
       (λ told bytes fits well. opens_well s.disk (path (name_of (file_of m.channel m.n))) told bytes wrote found.0 fits found.1 well) well
     where
-      st : StandsAt controls s.now (queue s I.role) a (at.Mark mark.Open m) d
-      st = at_row controls s I a own wrote may start is well (at.Mark mark.Open m) e
+      st : StandsAt s.now (queue s I.role) a (at.Mark mark.Open m) d
+      st = at_row s I a own wrote may start is well (at.Mark mark.Open m) e
 
       serves : Serves (about (queue s I.role) st.rests.0.first.attempt.n) m.channel
       serves = mark_has_job (queue s I.role) (at.Mark mark.Open m) m.channel d.slots (st.lanes m.channel) st.rests.0.first
@@ -246,7 +245,7 @@ module _ (controls : Controls) (s : State) (I : Inv controls s) (a : List ℕ) (
           (first_in (lane m.channel d.slots).marks st.rests.0.first st.rests.0.there))
 
       found : (i : ℕ) × (s.disk.names (path (name_of (file_of m.channel m.n))) ≡ Some i)
-      found = there controls s I a own wrote may start is well m.channel m.n (subst (λ (n : ℕ). Serves (about (queue s I.role) n) m.channel) st.rests.0.number serves)
+      found = there s I a own wrote may start is well m.channel m.n (subst (λ (n : ℕ). Serves (about (queue s I.role) n) m.channel) st.rests.0.number serves)
 
   untried : (c : Channel) (n : ℕ) (p : Point) → row ≡ at.UnlinkFile c n p → is_fine (said own.came).way ≡ true → tried c n ≡ true → ⊥
   untried c n p e fine t = false≢true (sym gone ∙ (and_parts (is_some (tried_in c n (own ∷ past))) (has_in c n (own ∷ past)) t).1)
@@ -259,7 +258,7 @@ module _ (controls : Controls) (s : State) (I : Inv controls s) (a : List ℕ) (
       gone = has_none c n (has_unlinked past) (births past).command (there_in c n (own ∷ past)) (has_in c n past) own.due own.came unlinking comes fine
 
   asks_at : (r : Row) → row ≡ r → Asks tried r own.came d
-  asks_at (at.Start it) e = (at_row controls s I a own wrote may start is well (at.Start it) e).rests.1.0
+  asks_at (at.Start it) e = (at_row s I a own wrote may start is well (at.Start it) e).rests.1.0
   asks_at (at.Turn p) e = held.0
   asks_at (at.TakeLink c) e = takes c e
   asks_at (at.Mark mark.Note m) e = tt
@@ -267,8 +266,8 @@ module _ (controls : Controls) (s : State) (I : Inv controls s) (a : List ℕ) (
   asks_at (at.Mark mark.Open m) e = opened m e
   asks_at (at.Mark (mark.Write fd) m) e = writes_well (due_at (at.Mark (mark.Write fd) m) d) own.came tt (comes_so (at.Mark (mark.Write fd) m) e) well
   asks_at (at.Mark (mark.Close fd written) m) e = tt
-  asks_at (at.UnlinkFile c n p) e = let fine = (served controls s I a own wrote may start is well).unlinked c n p e in (fine, untried c n p e fine)
-  asks_at (at.ReadFile c n begun reading) e = (at_row controls s I a own wrote may start is well (at.ReadFile c n begun reading) e).rests.1.0
+  asks_at (at.UnlinkFile c n p) e = let fine = (served s I a own wrote may start is well).unlinked c n p e in (fine, untried c n p e fine)
+  asks_at (at.ReadFile c n begun reading) e = (at_row s I a own wrote may start is well (at.ReadFile c n begun reading) e).rests.1.0
   asks_at (at.Request c) e = tt
   asks_at (at.FindTodo from) e = tt
   asks_at at.InTodo e = tt
@@ -348,10 +347,10 @@ succeed_first = (tt, λ c. first c)
     first Remote = (λ n job e. absurd (cc), (All-nil (λ (m : Mark). m.note ≡ None), λ n t. absurd (cc)))
 
 pub tried_are_at_work : TriedAreAtWork
-tried_are_at_work controls d h g a x start is program hears c n t = ((all hears).1 c).1.1 n t
+tried_are_at_work d h g a x start is program hears c n t = ((all hears).1 c).1.1 n t
   where
     all : HearsSuccess x.past → Succeeds (tried_at x.past) (place_after None x.past)
-    all = sender_pasts controls goes_well (λ s. Unit {0}) (λ past. HearsSuccess past → Succeeds (tried_at past) (place_after None past)) (λ hears. succeed_first)
-        (λ s I w b own wrote may began sends well ran held hears. event_succeeds controls s I b own wrote may began sends well ran hears (held hears.0))
+    all = sender_pasts goes_well (λ s. Unit {0}) (λ past. HearsSuccess past → Succeeds (tried_at past) (place_after None past)) (λ hears. succeed_first)
+        (λ s I w b own wrote may began sends well ran held hears. event_succeeds s I b own wrote may began sends well ran hears (held hears.0))
         (λ s I w b own child program may began sends ran held hears. child_succeeds s b own child program may began sends ran (held hears.0))
-        d g.are (λ h legal well. tt) h g.legal g.well a x is start program
+        d (λ h legal well. tt) h g.legal g.well a x is start program

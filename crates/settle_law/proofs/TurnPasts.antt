@@ -3,7 +3,6 @@ use Rattle.std.proofs.Common.{◌≡◌, ℕ, List, [], ◌∷◌, ◌++◌, tru
 use Rattle.std.specs.List.{list_all}
 use Rattle.std.proofs.lemmas.Bool.{and_from, and_parts}
 use Rattle.std.proofs.lemmas.Slice.Eq.{bytes_eq-Decides}
-use Rattle.address_rules.specs.declared.controls.Controls.{Controls}
 use Rattle.call_fs.specs.Disk.{Disk}
 use Rattle.call_fs.specs.declared.past.Own.{Own}
 use Rattle.call_fs.proofs.Maps.{put_at_same}
@@ -37,13 +36,10 @@ searcher (LocalSpawner since) past own e = absurd (cc)
 searcher (RemoteSpawner since) past own e = absurd (cc)
 searcher (Delivery since args) past own e = absurd (cc)
 
-pub well_back : (controls : Controls) (d : Disk) (before : List Deed) (deed : Deed) → Searches d before deed → GoesWell controls d (history_of (deed ∷ before)) → GoesWell controls d (history_of before)
-well_back controls d before deed s well =
-    let one = subst (λ (e : Deed). GoesWell controls d (history_of (e ∷ before))) s.is well in
+pub well_back : (d : Disk) (before : List Deed) (deed : Deed) → Searches d before deed → GoesWell d (history_of (deed ∷ before)) → GoesWell d (history_of before)
+well_back d before deed s well =
+    let one = subst (λ (e : Deed). GoesWell d (history_of (e ∷ before))) s.is well in
     record {
-      are = one.are;
-      local = one.local;
-      remote = one.remote;
       legal = one.legal.0;
       well = (and_parts (goes_well (Act (codes "sender") s.own s.wrote)) (list_all goes_well (history_of before)) one.well).1;
     }
@@ -82,9 +78,9 @@ module _ (d : Disk) (base : List Deed) (x : Actor) (is : (after d base).actors (
   pub all_alike : (later : List Deed) → Each later → AreAlike (after d base) (after d (later ++ base))
   all_alike later all = searches_alike d base later (all_search later all)
 
-  pub all_well : (controls : Controls) (later : List Deed) → Each later → GoesWell controls d (history_of (later ++ base)) → GoesWell controls d (history_of base)
-  all_well controls [] all well = well
-  all_well controls (deed ∷ older) all well = all_well controls older all.0 (well_back controls d (older ++ base) deed all.1 well)
+  pub all_well : (later : List Deed) → Each later → GoesWell d (history_of (later ++ base)) → GoesWell d (history_of base)
+  all_well [] all well = well
+  all_well (deed ∷ older) all well = all_well older all.0 (well_back d (older ++ base) deed all.1 well)
 
   module _ (start : ℕ) (program : x.program ≡ Sender start) where
     pub searches_on : (later : List Deed) (all : Each later) → EachFollows (SearchesOn x.past (after d base).now) (owns later all)
@@ -157,17 +153,17 @@ module _ (d : Disk) (later : List Deed) (first : Deed) (before : List Deed) (tur
     ends = ends_by later turn.goes_on turn.ends;
   }
 
-  pub well_first : (controls : Controls) → GoesWell controls d (history_of (later ++ first ∷ before)) → GoesWell controls d (Act (codes "sender") own turn.searches.wrote ∷ history_of before)
-  well_first controls well =
-      subst (λ (e : Deed). GoesWell controls d (history_of (e ∷ before))) turn.searches.is
-      (all_well d (first ∷ before) one is_one controls later turn.goes_on well)
+  pub well_first : GoesWell d (history_of (later ++ first ∷ before)) → GoesWell d (Act (codes "sender") own turn.searches.wrote ∷ history_of before)
+  well_first well =
+      subst (λ (e : Deed). GoesWell d (history_of (e ∷ before))) turn.searches.is
+      (all_well d (first ∷ before) one is_one later turn.goes_on well)
 
-  pub well_before : (controls : Controls) → GoesWell controls d (history_of (later ++ first ∷ before)) → GoesWell controls d (history_of before)
-  well_before controls well =
-      well_back controls d before first turn.searches (all_well d (first ∷ before) one is_one controls later turn.goes_on well)
+  pub well_before : GoesWell d (history_of (later ++ first ∷ before)) → GoesWell d (history_of before)
+  well_before well =
+      well_back d before first turn.searches (all_well d (first ∷ before) one is_one later turn.goes_on well)
 
   -- it lives
-  pub alive : (controls : Controls) → GoesWell controls d (history_of (later ++ first ∷ before)) → x.life ≡ Alive
-  alive controls well =
-      let may = (well_first controls well).legal.1 in
+  pub alive : GoesWell d (history_of (later ++ first ∷ before)) → x.life ≡ Alive
+  alive well =
+      let may = (well_first well).legal.1 in
       ap (λ (z : Actor). z.life) (sym (some_actor may.actor x (sym may.reads.is ∙ turn.is))) ∙ may.reads.alive

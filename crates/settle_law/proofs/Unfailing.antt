@@ -2,7 +2,6 @@
 use Rattle.std.proofs.Common.{◌≡◌, ℕ, List, ◌∷◌, Bool, true, false, Option, Some, None, refl, sym, ap, ◌∙◌, subst}
 use Rattle.std.proofs.lemmas.List.Elements.{All-contains}
 use Rattle.std.specs.Prelude.{◌&&◌}
-use Rattle.address_rules.specs.declared.controls.Controls.{Controls}
 use Rattle.bounce_record.specs.Returning.{due_at as return_due_at}
 use Rattle.bounce_record.specs.declared.return_row.ReturnRow.{ReturnRow}
 use Rattle.bounce_record.specs.declared.return_row.ReturnRow.TheVariants as back
@@ -103,7 +102,7 @@ none_leaves row m n stays leaves = stays leaves.0
 
 -- An event of a sender
 
-module _ (controls : Controls) (s : State) (I : Inv controls s) (a : List ℕ) (own : Own) (wrote : ℕ) (may : MayDo s a own wrote) (start : ℕ) (is : may.actor.program ≡ Sender start) (well : came_well own.came ≡ true)
+module _ (s : State) (I : Inv s) (a : List ℕ) (own : Own) (wrote : ℕ) (may : MayDo s a own wrote) (start : ℕ) (is : may.actor.program ≡ Sender start) (well : came_well own.came ≡ true)
     (ran : IsRunBy (Next None) may.actor.past) (clear : has_misread may.actor.past ≡ false) (bounces : (slot : ℕ) → own.due ≡ needs.Take (port.Status slot) → own.came ≡ came.Ended 0) (n : ℕ) where
   abbrev q : Queue
   q = queue s I.role
@@ -135,18 +134,18 @@ module _ (controls : Controls) (s : State) (I : Inv controls s) (a : List ℕ) (
   searched_at : (r : Row) → row ≡ r → SearchedAt r d.pass searched
   searched_at r e = subst (λ (x : Row). SearchedAt x d.pass searched) e (searched_here None past own.read own.ready ran)
 
-  stands_at : (r : Row) → row ≡ r → StandsAt controls s.now q a r d
-  stands_at r e = at_row controls s I a own wrote may start is well r e
+  stands_at : (r : Row) → row ≡ r → StandsAt s.now q a r d
+  stands_at r e = at_row s I a own wrote may start is well r e
 
   coming_at : (r : Row) → row ≡ r → ComesOf s a (due_at r d) own.came wrote
-  coming_at r e = comes_at controls s I a own wrote may start is well r e
+  coming_at r e = comes_at s I a own wrote may start is well r e
 
   close_fine : (fd : Fd) (got : GotData) → Fine (needs.File (call.Close fd)) got
   close_fine fd (came.Answered told) = ap (λ (b : Bool). b && is_message n f) clear
   close_fine fd got = refl
 
   -- what a known message has that isn't left
-  settled : (r : Row) (k : ℕ) → StandsAt controls s.now q a r d → IsIdle k d.book.messages.known → ((m : ℕ) → IsLeaving r m → ⊥) → IsSettledIn (about q k)
+  settled : (r : Row) (k : ℕ) → StandsAt s.now q a r d → IsIdle k d.book.messages.known → ((m : ℕ) → IsLeaving r m → ⊥) → IsSettledIn (about q k)
   settled r k st idle stays = subst (λ (i : ℕ). IsSettledIn (about q i)) idle.number (by (All-contains (λ (y : Known). Knows r (about q y.n) y) d.book.messages.known idle.it st.knows.known idle.there)) where
     by : Knows r (about q idle.it.n) idle.it → IsSettledIn (about q idle.it.n)
     by (Stays known) = known.sorted
@@ -166,8 +165,8 @@ module _ (controls : Controls) (s : State) (I : Inv controls s) (a : List ℕ) (
   give_fine_at bytes came.Failed comes well = absurd (cc)
   give_fine_at bytes got comes well = absurd comes
 
-  return_fine : (r : ReturnRow) (k : ℕ) → d.bounce.n ≡ k → ComesOf s a (return_due_at r d.bounce) own.came wrote → own.due ≡ return_due_at r d.bounce → ReturnHolds controls q a r d.bounce k (sender_of k d.book.messages.known)
-      → IsPreprocessed controls (about q k) → Fine (return_due_at r d.bounce) own.came
+  return_fine : (r : ReturnRow) (k : ℕ) → d.bounce.n ≡ k → ComesOf s a (return_due_at r d.bounce) own.came wrote → own.due ≡ return_due_at r d.bounce → ReturnHolds d.book.controls q a r d.bounce k (sender_of k d.book.messages.known)
+      → IsPreprocessed (about q k) → Fine (return_due_at r d.bounce) own.came
   return_fine (back.ReadNotes fd) k same comes due holds pre = refl
   return_fine (back.CloseNotes fd) k same comes due holds pre = close_fine fd own.came
   return_fine back.OpenMessage k same comes due holds pre =
@@ -204,7 +203,7 @@ module _ (controls : Controls) (s : State) (I : Inv controls s) (a : List ℕ) (
       let st = stands_at (at.Finish finish.Return k) e in
       let back = st.rests.1 in
       return_fine d.bounce.row k back.number (coming_at (at.Finish finish.Return k) e) due back.holds
-      (sorted controls (about q k) (I.sound.fine k) (settled (at.Finish finish.Return k) k st back.idle (λ m leaves. none_leaves finish.Return k m (λ x. x) leaves)))
+      (sorted (about q k) (I.sound.fine k) (settled (at.Finish finish.Return k) k st back.idle (λ m leaves. none_leaves finish.Return k m (λ x. x) leaves)))
   finish_fine finish.UnlinkInfo k e due =
       let st = stands_at (at.Finish finish.UnlinkInfo k) e in
       let w = settled (at.Finish finish.UnlinkInfo k) k st st.rests.1.0 (λ m leaves. none_leaves finish.UnlinkInfo k m (λ x. x) leaves) in
@@ -239,11 +238,11 @@ module _ (controls : Controls) (s : State) (I : Inv controls s) (a : List ℕ) (
 abbrev Goes : List Own → Type 0
 Goes past = (has_misread past ≡ false) × (BouncesEnd past → (n : ℕ) → AreUnfailing n past)
 
-acts : (controls : Controls) (s : State) (I : Inv controls s) (a : List ℕ) (own : Own) (wrote : ℕ) (may : MayDo s a own wrote) (start : ℕ) → may.actor.program ≡ Sender start → came_well own.came ≡ true
+acts : (s : State) (I : Inv s) (a : List ℕ) (own : Own) (wrote : ℕ) (may : MayDo s a own wrote) (start : ℕ) → may.actor.program ≡ Sender start → came_well own.came ≡ true
     → IsRunBy (Next None) may.actor.past → Goes may.actor.past → Goes (own ∷ may.actor.past)
-acts controls s I a own wrote may start is well ran held = (
+acts s I a own wrote may start is well ran held = (
   none_misread own.due own.came (may_come s a own.due own.came wrote may.came) well,
-  λ bounces n. (held.1 bounces.0 n, λ known. unfailing controls s I a own wrote may start is well ran held.0 bounces.1 n),
+  λ bounces n. (held.1 bounces.0 n, λ known. unfailing s I a own wrote may start is well ran held.0 bounces.1 n),
 )
 
 bears : (s : State) (a : List ℕ) (own : Own) (b : List ℕ) (program : Program) (may : MayBear s a own b program) (start : ℕ) → may.actor.program ≡ Sender start
@@ -260,6 +259,6 @@ bears s a own b program may start is ran held =
     )
 
 pub known_finish_at_once : KnownFinishAtOnce
-known_finish_at_once controls d h g a x start is program k there =
-    let goes = sender_pasts controls goes_well (λ s. Unit {0}) Goes (refl, λ none n. tt) (λ s I w. acts controls s I) (λ s I w. bears s) d g.are (λ h legal well. tt) h g.legal g.well a x is start program in
-    finishes_at_once None x.past (subst (λ (p : Program). IsRunBy (next_of p) x.past) program (have_run d h g.legal a x is)) k there (goes.1 (bounces_end controls d h g a x start is program) k.n)
+known_finish_at_once d h g a x start is program k there =
+    let goes = sender_pasts goes_well (λ s. Unit {0}) Goes (refl, λ none n. tt) (λ s I w. acts s I) (λ s I w. bears s) d (λ h legal well. tt) h g.legal g.well a x is start program in
+    finishes_at_once None x.past (subst (λ (p : Program). IsRunBy (next_of p) x.past) program (have_run d h g.legal a x is)) k there (goes.1 (bounces_end d h g a x start is program) k.n)

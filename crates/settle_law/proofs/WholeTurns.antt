@@ -33,13 +33,10 @@ idle_by None own e = absurd (cc)
 idle_by (Some x) own e = idle_searches x.program x.past own e
 
 pub rests_begin : RestsBegin
-rests_begin controls d deed before well empty ends finds =
-    let whole = subst (λ (e : Deed). GoesWell controls d (history_of (e ∷ before))) ends.is well in
+rests_begin d deed before well empty ends finds =
+    let whole = subst (λ (e : Deed). GoesWell d (history_of (e ∷ before))) ends.is well in
     let may : MayDo (after d before) (codes "sender") ends.own ends.wrote = whole.legal.1 in
-    let was : GoesWell controls d (history_of before) = record {
-      are = whole.are;
-      local = whole.local;
-      remote = whole.remote;
+    let was : GoesWell d (history_of before) = record {
       legal = whole.legal.0;
       well = (and_parts (goes_well (Act (codes "sender") ends.own ends.wrote)) (list_all goes_well (history_of before)) whole.well).1;
     } in
@@ -47,8 +44,8 @@ rests_begin controls d deed before well empty ends finds =
     record {
       sender = may.actor;
       is = may.reads.is;
-      begins = begins controls d ends.own ends.wrote (history_of before) whole empty ends.idle may.actor may.reads.is
-          (passes_go_on controls d (history_of before) was (codes "sender") may.actor sends.0 may.reads.is sends.1);
+      begins = begins d ends.own ends.wrote (history_of before) whole empty ends.idle may.actor may.reads.is
+          (passes_go_on d (history_of before) was (codes "sender") may.actor sends.0 may.reads.is sends.1);
       searches = record { own = ends.own; wrote = ends.wrote; is = ends.is; search = ends.search; by = idle_by ((after d before).actors (codes "sender")) ends.own ends.idle; finds = finds };
       goes_on = tt;
       ends = ap (λ (e : Deed). idles (after d before) (event_in e)) ends.is ∙ ends.idle;

@@ -6,6 +6,7 @@ use Rattle.send_core.specs.Stands.{is_search}
 use Rattle.send_core.specs.Table.{row_now}
 use Rattle.world_events.specs.declared.event.Program.{Program}
 use Rattle.world_events.specs.declared.event.Program.TheVariants.{Sender}
+use Rattle.world_events.specs.Searches.{searcher_name}
 use Rattle.mail_world.specs.Generations.{idled_by}
 use Rattle.mail_world.specs.History.{Actor, State}
 use Rattle.mail_world.specs.Readiness.{found_in}
@@ -20,18 +21,18 @@ use Rattle.mail_world.specs.History.Event.{Act}
 use Rattle.settle_law.specs.Rests.{BeginsTurn}
 use Rattle.settle_law.specs.Suffices.{desk_of}
 
--- The newest deed, after these, is the sender's search of `todo` that ended an idle turn of it.
+-- The newest deed, after these, is the searcher's search that ended an idle turn of it.
 pub record EndsIdle (d : Disk) (deed : Deed) (before : List Deed) : Type 0 where
   pub own : Own
   pub wrote : ℕ
-  pub is : deed ≡ Came (Act (codes "sender") own wrote)
+  pub is : deed ≡ Came (Act searcher_name own wrote)
   pub search : is_search_call own.due ≡ true
-  pub idle : idled_by ((after d before).actors (codes "sender")) own ≡ true
+  pub idle : idled_by ((after d before).actors searcher_name) own ≡ true
 
--- The sender read the present moment then, and found all that was ready.
+-- The searcher read the present moment then, and found all that was ready.
 pub record FindsAll (s : State) (own : Own) : Type 0 where
   pub now : own.read ≡ s.now
-  pub found : own.ready ≡ found_in s (codes "sender")
+  pub found : own.ready ≡ found_in s searcher_name
 
 -- A whole idle turn
 
@@ -48,9 +49,9 @@ searches_by (Some x) own = searches_in x.program x.past own
 pub record Searches (d : Disk) (before : List Deed) (deed : Deed) : Type 0 where
   pub own : Own
   pub wrote : ℕ
-  pub is : deed ≡ Came (Act (codes "sender") own wrote)
+  pub is : deed ≡ Came (Act searcher_name own wrote)
   pub search : is_search_call own.due ≡ true
-  pub by : searches_by ((after d before).actors (codes "sender")) own ≡ true
+  pub by : searches_by ((after d before).actors searcher_name) own ≡ true
   pub finds : FindsAll (after d before) own
 
 -- the newest of these ended an idle turn of a sender
@@ -62,7 +63,7 @@ is_over d (newest ∷ older) first before = idles (after d (older ++ first ∷ b
 -- searches too, and the newest ended the turn.
 pub record IsIdleTurn (d : Disk) (later : List Deed) (first : Deed) (before : List Deed) : Type 0 where
   pub sender : Actor
-  pub is : (after d before).actors (codes "sender") ≡ Some sender
+  pub is : (after d before).actors searcher_name ≡ Some sender
   pub begins : BeginsTurn (desk_of sender.past).row
   pub searches : Searches d before first
   pub goes_on : EachFollows (λ older deed. Searches d (older ++ first ∷ before) deed) later

@@ -1,10 +1,8 @@
 -- What each `settle` line leads to of a script that is played.
-use Rattle.std.specs.Prelude.{◌≡◌, ℕ, ◌<◌, List, [], ◌∷◌, ◌++◌, Bool, true, false, not}
+use Rattle.std.specs.Prelude.{◌≡◌, ℕ, List, [], ◌∷◌, ◌++◌, Bool, true, false, not}
 use Rattle.std.specs.List.{list_all}
-use Rattle.address_rules.specs.declared.controls.Controls.{Controls}
 use Rattle.call_fs.specs.Disk.{Disk}
 use Rattle.call_fs.specs.Plan.{Plan, no_plan}
-use Rattle.program_law.specs.Sender.Control.{AreControls}
 use Rattle.mail_world.specs.History.{Event}
 use Rattle.mail_world.specs.History.Event.{Start, Act, Child, Generation, Report, End, Stop, Moment, Halt}
 use Rattle.script_words.specs.declared.letter.Letter.{Letter}
@@ -19,7 +17,7 @@ use Rattle.scenario.specs.Turns.{IsSettled, Round, events_in}
 use Rattle.scenario.specs.Working.{has_failed}
 use Rattle.settle_law.specs.Ends.{StopsSo}
 use Rattle.settle_law.specs.Settled.{AllGone, Settled}
-use Rattle.settle_law.specs.Well.{AllSucceed, is_well_ended}
+use Rattle.settle_law.specs.Well.{AllSucceed, MayDeliver, is_well_ended}
 
 -- Where nothing troubles a queue
 
@@ -35,12 +33,9 @@ is_untroubled (Stop a) = false
 is_untroubled (Moment m) = true
 is_untroubled (Halt how contents) = false
 
--- So it was all the while, and both channels may run a delivery by what the control files say.
+-- So it was all the while, and the sender may run a delivery on both channels by the controls that it has read.
 pub record IsUntroubled (d : Disk) (deeds : List Deed) : Type 0 where
-  pub controls : Controls
-  pub are : AreControls controls d
-  pub local : 0 < controls.concurrency_local
-  pub remote : 0 < controls.concurrency_remote
+  pub may : MayDeliver (after d deeds)
   pub well : list_all is_untroubled (history_of deeds) ≡ true
 
 -- The line

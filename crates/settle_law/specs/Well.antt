@@ -1,7 +1,6 @@
 -- Histories in which nothing fails, and in which each delivery succeeds; and disks without a name in `todo`.
-use Rattle.std.specs.Prelude.{◌≡◌, ◌<◌, ◌^◌, ℕ, List, ◌∷◌, ◌++◌, None, Bool, true, false, not, ◌&&◌, ◌||◌, ◌==◌, bytes_eq, codes, nat_lt}
+use Rattle.std.specs.Prelude.{◌≡◌, ◌<◌, ◌^◌, ℕ, List, ◌∷◌, ◌++◌, Some, None, Bool, true, false, not, ◌&&◌, ◌||◌, ◌==◌, bytes_eq, codes, nat_lt}
 use Rattle.std.specs.List.{list_all}
-use Rattle.address_rules.specs.declared.controls.Controls.{Controls}
 use Rattle.call_fs.specs.Disk.{Disk}
 use Rattle.call_fs.specs.declared.calls.Answer.{Answer}
 use Rattle.call_fs.specs.declared.calls.Answer.TheVariants.{Created, Refused}
@@ -12,10 +11,12 @@ use Rattle.call_fs.specs.declared.past.NeedData.{NeedData}
 use Rattle.call_fs.specs.declared.past.NeedData.TheVariants as needs
 use Rattle.call_fs.specs.declared.program.Port.TheVariants.{Output}
 use Rattle.queue_law.specs.Cleaners.{IsOnePart}
-use Rattle.program_law.specs.Sender.Control.{AreControls}
 use Rattle.world_events.specs.declared.event.Program.{Program}
 use Rattle.world_events.specs.declared.event.Program.TheVariants.{Injector}
-use Rattle.mail_world.specs.History.{Event, Legal}
+use Rattle.send_core.specs.Papers.{controls_told}
+use Rattle.send_known.specs.declared.channel.Channel.{Channel}
+use Rattle.send_runs.specs.Status.{allowed}
+use Rattle.mail_world.specs.History.{Actor, Event, Legal, State}
 use Rattle.mail_world.specs.History.Event.{Start, Act, Child, Generation, Report, End, Stop, Moment, Halt}
 
 -- Nothing fails
@@ -54,14 +55,14 @@ goes_well (Stop a) = false
 goes_well (Moment m) = true
 goes_well (Halt how contents) = false
 
--- No call fails, nothing is refused for memory, nothing is stopped, no injector ends so, and each has a system's numbers. The control files say
--- these, by which both channels may run a delivery.
-pub record GoesWell (controls : Controls) (d : Disk) (h : List Event) : Type 0 where
-  pub are : AreControls controls d
-  pub local : 0 < controls.concurrency_local
-  pub remote : 0 < controls.concurrency_remote
+-- No call fails, nothing is refused for memory, nothing is stopped, no injector ends so, and each has a system's numbers.
+pub record GoesWell (d : Disk) (h : List Event) : Type 0 where
   pub legal : Legal d h
   pub well : list_all goes_well h ≡ true
+
+-- The sender may run a delivery on each channel, by the controls that it has read.
+abbrev pub MayDeliver : State → Type 0
+MayDeliver s = (x : Actor) → s.actors (codes "sender") ≡ Some x → (c : Channel) → 0 < allowed c (controls_told x.past)
 
 -- Each delivery succeeds
 

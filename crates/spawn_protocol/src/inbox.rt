@@ -6,7 +6,7 @@ use mail_bytes::{ByteText, Memory};
 use std::alloc::Global;
 
 /// Whether a spawner takes more requests.
-#[derive(Clone, Copy, Debug, PartialEq, Eq)]
+#[derive(Clone, Copy, PartialEq, Eq)]
 pub enum Intake {
     /// It does.
     Open,

@@ -3,7 +3,7 @@
 use call_fs::Fd;
 
 /// Where a spawner stands: at what is named.
-#[derive(Clone, Copy, Debug, PartialEq, Eq)]
+#[derive(Clone, Copy, PartialEq, Eq)]
 pub enum Row {
     /// Tells how many programs it runs at once.
     Greet,

@@ -3,7 +3,7 @@
 use address_rules::Controls;
 
 /// What a todo pass is started with: the number of the message, and what the control files say.
-#[derive(Debug, Drop)]
+#[derive(Drop)]
 pub struct Arguments {
     /// The number of the message.
     pub n: u64,

@@ -24,7 +24,7 @@ use std::marker::Model;
 /// The preprocessing of one message, as a machine that is handed its controls at each step.
 ///
 /// One pass serves number after number: `begin` takes no memory and keeps the room of the pass before.
-#[derive(Debug, Drop)]
+#[derive(Drop)]
 pub struct Pass {
     n: u64,
     row: Row,

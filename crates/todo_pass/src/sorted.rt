@@ -8,7 +8,7 @@ use mail_bytes::{ByteText, Memory};
 use std::alloc::Global;
 
 /// What a todo text says, and the texts of the files that are made of it.
-#[derive(Debug, Drop)]
+#[derive(Drop)]
 pub struct Sorted {
     /// The user who injected the message.
     pub uid: u32,

@@ -16,7 +16,7 @@ use mail_bytes::Memory;
 use std::alloc::Global;
 
 /// What was sorted of the records of a todo text.
-#[derive(Debug, Drop)]
+#[derive(Drop)]
 pub struct Sorter {
     /// The reader that they are fed to.
     pub reader: EnvelopeReader,

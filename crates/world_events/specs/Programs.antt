@@ -1,5 +1,5 @@
 -- The programs that actors run.
-use Rattle.std.specs.Prelude.{ℕ, List, [], ◌∷◌, Option, Some, None}
+use Rattle.std.specs.Prelude.{ℕ, List, [], ◌∷◌, map, Option, Some, None}
 use Rattle.actor_names.specs.declared.member.Member.{Member}
 use Rattle.actor_names.specs.declared.member.Member.TheVariants as member
 use Rattle.queue_inject.specs.declared.injection.Arguments.{Arguments}
@@ -11,10 +11,11 @@ abbrev pub injection_of : Program → Option Arguments
 injection_of (Injector args) = Some args
 injection_of other = None
 
--- How a program is started: an injector alone, or by the actor whose child it is; a member with its generation; a delivery by the local
--- spawner. A program that starts alone and is no injector is a class more.
+-- How a program is started: an injector alone, or by the actor whose child it is; a lone program alone, with its whole input, and it gives
+-- to nobody; a member with its generation; a delivery by the local spawner. No program is a lone one yet.
 pub data Class : Type 0 where
   Injecting : Class
+  Lone : Class
   Seated : (member : Member) → Class
   Delivering : Class
 
@@ -29,6 +30,7 @@ class_of (Delivery start args) = Delivering
 -- it may start alone
 abbrev pub StartsAlone : Class → Type 0
 StartsAlone Injecting = Unit {0}
+StartsAlone Lone = Unit {0}
 StartsAlone other = ⊥
 
 -- it is no member of a generation
@@ -36,9 +38,17 @@ abbrev pub IsNoMember : Class → Type 0
 IsNoMember (Seated member) = ⊥
 IsNoMember other = Unit {0}
 
--- the members of a generation, in their order, and what they run if it starts at this moment
+-- the members of a generation, in their order: the one list of them, by which all others go
 abbrev pub generation : List Member
 generation = member.Sender ∷ member.Cleaner ∷ member.LocalSpawner ∷ member.RemoteSpawner ∷ []
 
+-- what a member runs that starts at this moment
+abbrev pub run_at : ℕ → Member → Program
+run_at start member.Sender = Sender start
+run_at start member.Cleaner = Cleaner start
+run_at start member.LocalSpawner = LocalSpawner start
+run_at start member.RemoteSpawner = RemoteSpawner start
+
+-- what a generation runs that starts at this moment
 abbrev pub crew_at : ℕ → List Program
-crew_at start = Sender start ∷ Cleaner start ∷ LocalSpawner start ∷ RemoteSpawner start ∷ []
+crew_at start = map (run_at start) generation

@@ -99,7 +99,7 @@ pub enum Event {
         /// The envelope that was given.
         envelope: ByteText,
     },
-    /// A generation was started: the sender, the cleaner and the two spawners, together.
+    /// A generation was started: all its members, together.
     Generation {
         /// The moment of its start.
         start: u64,

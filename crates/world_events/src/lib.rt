@@ -27,7 +27,8 @@
 //! - Any machine is asked what it does next, and its call is made: its event is the call that was due with what the
 //!   disk answered, by the plan of the disk if that tells: `ask` (by `due_by`, `IsStated`, `IsMade`,
 //!   `IsPlannedCame`), `own_at`.
-//! - Which events are searches for a message to preprocess, and which begin one: `is_search`, `is_first`.
+//! - Which events are searches for a message to preprocess, and which begin one: `is_search`, `is_first`. The members of
+//!   a generation, by one list: the law `members_are_listed`.
 //! - Of whoever can tell whether it lives, the next one in the order of starts, and whether the remote spawner of a
 //!   crew lives: `next_living` (by `IsNextStart`), `spawner_lives` (by `lasts`).
 #![tactic(auto)]
@@ -40,6 +41,7 @@ mod child;
 mod event;
 mod handed;
 mod keeping;
+mod laws;
 mod living;
 mod mail;
 mod places;
@@ -55,6 +57,7 @@ pub use child::{Born, child_event, child_of, counts_with, room_for_one};
 pub use event::{Event, History, Program, started_by};
 pub use handed::got_of;
 pub use keeping::{close_all, keep_open};
+pub use laws::members_are_listed;
 pub use living::{Living, next_living, spawner_lives};
 pub use mail::{MAIL_USER, mail_program, unfed};
 pub use places::{Places, child_at, place_among};

@@ -1,8 +1,8 @@
 // Who started, in the order of starts.
-ghost use Rattle.std.specs.Prelude.{◌≡◌, ◌∷◌, ◌++◌, ◌+◌, ◌-◌, ◌≤◌, ◌^◌, [], OnOk, length};
+ghost use Rattle.std.specs.Prelude.{◌≡◌, ◌∷◌, ◌++◌, ◌+◌, ◌-◌, ◌≤◌, ◌^◌, [], OnOk, length, map};
 ghost use Rattle.actor_names.specs.MailNames.{members};
 ghost use Rattle.actor_names.specs.Members.{seat_of};
-ghost use Rattle.actor_names.specs.declared.member.Member.TheVariants as member;
+ghost use Rattle.world_events.specs.Programs.{generation};
 ghost use Rattle.world_events.specs.Starts.{IsSameOrder, HasRoomFor, place_at};
 
 use actor_names::Member;
@@ -52,17 +52,13 @@ impl Starts {
     /// A generation starts. Takes no memory. The condition: there is room.
     pub fn add_members(&mut self)
         requires { HasRoomFor self.old (length members) }
-        ensures order { self.new.order.items ≡ self.old.order.items ++ seat_of member.Sender ∷ seat_of member.Cleaner ∷ seat_of member.LocalSpawner ∷ seat_of member.RemoteSpawner ∷ [] }
+        ensures order { self.new.order.items ≡ self.old.order.items ++ map seat_of generation }
         ensures newest { self.new.newest ≡ length self.old.order.items }
     {
         self.newest = self.order.len();
-        let seats = [
-            Member::Sender.seat(),
-            Member::Cleaner.seat(),
-            Member::LocalSpawner.seat(),
-            Member::RemoteSpawner.seat(),
-        ];
-        self.order.extend_from_slice(&seats).unwrap();
+        for seat in 0..Member::COUNT {
+            self.order.push(seat).unwrap();
+        }
     }
 
     /// How many starts there were.

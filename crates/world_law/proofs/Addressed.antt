@@ -2,7 +2,6 @@
 use Rattle.std.proofs.Common.{◌≡◌, ℕ, List, [], ◌∷◌, ◌++◌, Bool, true, false, Some, refl, sym, ap, ◌∙◌, subst, codes, if◌then◌else◌}
 use Rattle.std.proofs.lemmas.List.Elements.{All-append}
 use Rattle.mail_bytes.specs.Texts.{HasNoNul}
-use Rattle.address_rules.specs.declared.controls.Controls.{Controls}
 use Rattle.call_fs.specs.Disk.{Disk}
 use Rattle.call_fs.specs.declared.past.Own.{Own}
 use Rattle.local_deliver.specs.Carried.{AreDrops, IsCarried, IsInjected as HasOne}
@@ -16,7 +15,6 @@ use Rattle.queue_inject.specs.declared.injection.Arguments.{Arguments}
 use Rattle.queue_law.specs.Books.{Books, Injection, IsInjected, IsValid}
 use Rattle.world_events.specs.declared.event.Program.{Program}
 use Rattle.world_events.specs.declared.event.Program.TheVariants.{Delivery}
-use Rattle.program_law.specs.Sender.Control.{AreControls}
 use Rattle.mail_world.specs.History.{Actor, Event, Legal, after}
 use Rattle.mail_world.specs.History.Life.{Over}
 use Rattle.world_law.specs.Carried.{Carried, WereInjected}
@@ -98,10 +96,10 @@ module _ (b : Books) (valid : (q : Injection) → IsInjected b q → q.accepted 
       injected_each c.message (forwards c.reached) (forwards_plain args past c.lines _ c.reached c.told c.reaches) (one_of c.message c.reached c.injected) out.forwarded
 
 -- a delivery that ended with 0 has carried out its instructions
-module _ (controls : Controls) (d : Disk) (before : List Event) (has : AreControls controls d) (legal : Legal d before) (a : List ℕ) (x : Actor) (is : (after d before).actors a ≡ Some x)
+module _ (d : Disk) (before : List Event) (legal : Legal d before) (a : List ℕ) (x : Actor) (is : (after d before).actors a ≡ Some x)
     (start : ℕ) (args : LocalArgs) (program : x.program ≡ Delivery start args) (over : x.life ≡ Over 0) where
   pub carried_out : IsCarriedOut (after d before).books args x.past
-  carried_out = subst (λ (p : Program). EndsWell (after d before).books a p x.past) program ((safe_always controls d before has legal).ends a x is over)
+  carried_out = subst (λ (p : Program). EndsWell (after d before).books a p x.past) program ((safe_always d before legal).ends a x is over)
 
   plain_args : HasPlainArgs args
   plain_args = subst (λ (p : Program). IsPlainBy p) program (all_plain d before legal a x is)
@@ -109,7 +107,7 @@ module _ (controls : Controls) (d : Disk) (before : List Event) (has : AreContro
   carried_so : (message : List ℕ) × Carried d before a args x.past message
   carried_so =
       let c = carried_out.carried in
-      let L = links_are controls d has before legal a x is start args program in (
+      let L = links_are d before legal a x is start args program in (
         c.message,
         record {
           input = c.input;
@@ -121,15 +119,15 @@ module _ (controls : Controls) (d : Disk) (before : List Event) (has : AreContro
           reaches = c.reaches;
           drops = subst (AreDrops args c.host c.message c.reached) (sym L.pairs) c.drops;
           whole = λ it among. L.whole it among c.message c.input;
-          injected = all_injected (after d before).books (safe_always controls d before has legal).valid args x.past plain_args carried_out;
+          injected = all_injected (after d before).books (safe_always d before legal).valid args x.past plain_args carried_out;
         },
       )
 
-pub deliveries_are_carried : (controls : Controls) (d : Disk) (before : List Event) → AreControls controls d → Legal d before → (a : List ℕ) (x : Actor) → (after d before).actors a ≡ Some x
+pub deliveries_are_carried : (d : Disk) (before : List Event) → Legal d before → (a : List ℕ) (x : Actor) → (after d before).actors a ≡ Some x
     → (start : ℕ) (args : LocalArgs) → x.program ≡ Delivery start args → x.life ≡ Over 0 → (message : List ℕ) × Carried d before a args x.past message
-deliveries_are_carried controls d before has legal a x is start args program over = carried_so controls d before has legal a x is start args program over
+deliveries_are_carried d before legal a x is start args program over = carried_so d before legal a x is start args program over
 
 pub forwards_are_addressed : ForwardsAreAddressed
-forwards_are_addressed controls d before has legal a x is start args program over =
-    let out = carried_out controls d before has legal a x is start args program over in
-    (out.carried, forwarded_to (after d before).books (safe_always controls d before has legal).valid args x.past (plain_args controls d before has legal a x is start args program over) out)
+forwards_are_addressed d before legal a x is start args program over =
+    let out = carried_out d before legal a x is start args program over in
+    (out.carried, forwarded_to (after d before).books (safe_always d before legal).valid args x.past (plain_args d before legal a x is start args program over) out)

@@ -1,6 +1,5 @@
 -- Each attempt that a sender has in flight was asked for: its request stands in the history.
 use Rattle.std.proofs.Common.{◌≡◌, ◌≢◌, ◌⊎◌, inl, inr, ⊎_elim, ℕ, List, [], ◌∷◌, ◌++◌, Option, Some, None, option_map, refl, sym, ap, ◌∙◌, subst, codes, slice_get}
-use Rattle.address_rules.specs.declared.controls.Controls.{Controls}
 use Rattle.call_fs.proofs.Maps.{put_at_cases}
 use Rattle.call_fs.specs.Disk.{Disk}
 use Rattle.call_fs.specs.Maps.{put_at}
@@ -8,7 +7,6 @@ use Rattle.call_fs.specs.declared.past.GotData.TheVariants as got
 use Rattle.call_fs.specs.declared.past.NeedData.TheVariants as needs
 use Rattle.call_fs.specs.declared.past.Own.{Own}
 use Rattle.call_fs.specs.declared.program.Port.TheVariants as port
-use Rattle.program_law.specs.Sender.Control.{AreControls}
 use Rattle.send_core.specs.Past.{Task, account}
 use Rattle.send_core.specs.Past.Happening.{Gives}
 use Rattle.send_core.specs.Table.{port_of}
@@ -101,7 +99,7 @@ module _ (slot : ℕ) (t : Task) where
     given_then : Given (own ∷ past) → IsNewOrOld
     given_then w = by_later w.later w.event w.before w.rest w.all w.due w.came_is w.next w.left
 
-  module _ (controls : Controls) (d : Disk) (has : AreControls controls d) where
+  module _ (d : Disk) where
     abbrev Asked : List Event → Type 0
     Asked h = WasAsked d h slot t
 
@@ -165,7 +163,7 @@ module _ (slot : ℕ) (t : Task) where
           (given_then own (past_in s) (subst Given c.1 now)))
           (λ (c : (codes "sender" ≢ a) × (past_in (acted s a own wrote (Some x)) ≡ past_in s)).
           later_on (Act a own wrote) h
-          (others_stay x.program (λ sends. c.0 (sym (named_sender a x.program sends ((always controls d h has legal).crew a x may.reads.is)))) x.past own wrote a slot may.due)
+          (others_stay x.program (λ sends. c.0 (sym (named_sender a x.program sends ((always d h legal).crew a x may.reads.is)))) x.past own wrote a slot may.due)
           (before (subst Given c.1 now)))
           (acts_past s.actors a x own may.reads.is)
 

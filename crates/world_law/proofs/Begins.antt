@@ -1,6 +1,5 @@
 -- The invariant holds at the start.
 use Rattle.std.proofs.Common.{⊎_elim, None, refl, arith}
-use Rattle.address_rules.specs.declared.controls.Controls.{Controls}
 use Rattle.call_fs.specs.Disk.{Disk}
 use Rattle.queue_paths.specs.Names.Name.{Pid, Of}
 use Rattle.queue_law.proofs.Waits.{intd_bare, todo_bare}
@@ -8,7 +7,6 @@ use Rattle.queue_law.specs.Numbers.{NamesSuit, Sound}
 use Rattle.queue_law.specs.Numbers.Phase.{Free}
 use Rattle.queue_law.specs.Numbers.Role.{AsOld}
 use Rattle.queue_law.proofs.Looks.{find_none, found}
-use Rattle.send_parts.specs.Steps.{control_text}
 use Rattle.program_law.specs.Errand.Errands.{Errand, fresh}
 use Rattle.program_law.proofs.Errand.Links.{losses_keep}
 use Rattle.mail_world.specs.History.{Opening, opening}
@@ -19,12 +17,12 @@ use Rattle.world_law.specs.Laws.{InvBegins}
 pub none_asked : Errand None fresh
 none_asked = record { texts = refl; taken_up = omega arith; one = omega arith; whole = refl; errand = λ command h. absurd (cc) }
 
-module _ (controls : Controls) (d : Disk) (o : Opening d) where
+module _ (d : Disk) (o : Opening d) where
   suits : NamesSuit (queue (opening d) (λ _. AsOld))
   suits (Pid p t k) y h = (tt, tt)
   suits (Of part n) y h = let w = (found d.names d.files (Of part n) y h).0 in let v = o.empty part n in absurd (cc)
 
-  begins_sound : Sound controls (queue (opening d) (λ _. AsOld))
+  begins_sound : Sound (queue (opening d) (λ _. AsOld))
   begins_sound = record {
     suits = suits;
     fine = λ n. Free (record {
@@ -37,16 +35,14 @@ module _ (controls : Controls) (d : Disk) (o : Opening d) where
   }
 
 pub inv_begins : InvBegins
-inv_begins controls d has o = record {
+inv_begins d o = record {
   role = λ _. AsOld;
   moment = omega arith;
-  sound = begins_sound controls d o;
+  sound = begins_sound d o;
   bounces = λ i kept x h. ⊎_elim (λ w. let v = w.1 in absurd (cc)) (λ none. absurd none) kept;
   crew = λ a x h. absurd (cc);
   crewed = λ a x there. absurd (cc);
   fares = λ a x h. absurd (cc);
-  control = has;
-  old = λ f i there. (refl, o.settled (control_text f) i there);
   tenants = λ a d b h. absurd (cc);
   child = λ a x h. absurd (cc);
   errands = record {

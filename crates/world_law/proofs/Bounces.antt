@@ -1,6 +1,7 @@
 -- The bounces in ledgers, as the books change.
 use Rattle.std.proofs.Common.{◌≡◌, ◌≢◌, ◌⊎◌, inl, inr, ℕ, List, [], ◌∷◌, Bool, true, false, Option, Some, None, refl, sym, ap, ◌∙◌, subst, ⊎_elim, if◌then◌else◌}
 use Rattle.address_rules.specs.declared.controls.Controls.{Controls}
+use Rattle.address_rules.specs.Nuls.{HaveNoNul}
 use Rattle.bounce_record.specs.declared.note_row.NoteRow.{NoteRow}
 use Rattle.bounce_record.specs.declared.note_row.NoteRow.TheVariants as written
 use Rattle.bounce_record.specs.declared.return_row.ReturnRow.{ReturnRow}
@@ -12,10 +13,11 @@ use Rattle.call_fs.specs.declared.past.GotData.{GotData}
 use Rattle.call_fs.specs.declared.past.GotData.TheVariants as got
 use Rattle.call_fs.specs.Disk.{Among}
 use Rattle.queue_inject.specs.declared.injection.Arguments.{Arguments}
-use Rattle.queue_law.specs.Books.{Books, Child, HasQueued, Injection, IsInjected, IsLater, booked, booked_all, booked_on, entered_in, line_said, notes_read}
-use Rattle.queue_law.specs.Ledgers.{Bounced, Ledger, Line, line_in}
-use Rattle.queue_law.specs.Ledgers.Line.{Delivers, Drops, Fails, Notes, Reads, Returns}
-use Rattle.send_core.specs.Booked.{booked_at, if_done, if_ok, marked_at, noted_at, reported_all, reported_by, reported_if, reported_when, returned_at}
+use Rattle.queue_law.specs.Books.{Books, HasQueued, Injection, IsInjected, IsLater, booked, entered_in}
+use Rattle.queue_law.specs.Entered.{Child, booked_all, booked_on, line_said, named_by, notes_read}
+use Rattle.queue_law.specs.Ledgers.{Bounced, Ledger, Line, NotesRead, line_in}
+use Rattle.queue_law.specs.Ledgers.Line.{Delivers, Drops, Fails, Marks, Notes, Reads, Returns, Routes}
+use Rattle.send_core.specs.Booked.{booked_at, if_done, if_ok, marked_at, noted_at, reported_all, reported_by, reported_if, reported_when, returned_at, routed_at}
 use Rattle.send_core.specs.declared.desk.Desk.{Desk}
 use Rattle.send_parts.specs.declared.row.MarkRow.{MarkRow}
 use Rattle.send_parts.specs.declared.row.MarkRow.TheVariants as mark
@@ -24,7 +26,7 @@ use Rattle.send_parts.specs.declared.row.Row.{Row}
 use Rattle.send_parts.specs.declared.row.Row.TheVariants as at
 use Rattle.send_core.specs.Desk.{link, told, with_reader}
 use Rattle.send_jobs.specs.Bookings.{Booking}
-use Rattle.send_jobs.specs.Bookings.Booking.{Dropped, Noted, ReadNotes, Reported, Returned}
+use Rattle.send_jobs.specs.Bookings.Booking.{Dropped, Noted, Overwritten, ReadNotes, Reported, Returned, Routed}
 use Rattle.send_jobs.specs.declared.attempts.Attempt.{Attempt}
 use Rattle.send_known.specs.declared.channel.Channel.{Channel}
 use Rattle.send_jobs.specs.Failures.{is_final}
@@ -37,6 +39,8 @@ use Rattle.send_parts.specs.declared.rows.FinishRow.TheVariants as finish
 use Rattle.send_parts.specs.Replies.{said}
 use Rattle.spawn_protocol.specs.declared.report.Report.{Report}
 use Rattle.spawn_protocol.specs.Report.{counted, read_on}
+use Rattle.todo_pass.specs.declared.row.Row.{Row as PassRow}
+use Rattle.todo_pass.specs.declared.row.Row.TheVariants as todo
 use Rattle.std.proofs.lemmas.Bool.Decides.{eqb_tells}
 use Rattle.std.specs.Prelude.{◌==◌}
 use Rattle.world_law.specs.Bounces.{BouncesAreQueued, IsBounceOf, IsReturned}
@@ -58,18 +62,23 @@ queued_on b c keeps a args h =
     let w = keeps h.0 h.1 h.4 in
     (w.0, w.1, w.2.actor_is ∙ h.2, w.2.args_are ∙ h.3, w.2.accepted_is ∙ h.4)
 
--- what is known of a bounce of the books
-kept_returned : (controls : Controls) (b : Books) → BouncesAreQueued controls b → (of : Arguments) (x : Bounced) → HasBounce b of x → HasQueued b x.actor x.args × IsBounceOf controls of x.notes x.args
-kept_returned controls b B of x h =
-    let w = B h.0 h.1 x h.3 in (w.accepted, subst (λ (z : Arguments). IsBounceOf controls z x.notes x.args) h.2 w.carries)
+-- what is known of a bounce of the books, of a message with these arguments
+abbrev IsKnown : Books → Arguments → Bounced → Type 0
+IsKnown b of x = HasQueued b x.actor x.args × (HaveNoNul x.read.by × IsBounceOf x.read.by of x.read.notes x.args)
+
+known : (b : Books) (i : Injection) (x : Bounced) → IsReturned b i x → IsKnown b i.args x
+known b i x w = (w.accepted, (w.no_nul, w.carries))
+
+kept_returned : (b : Books) → BouncesAreQueued b → (of : Arguments) (x : Bounced) → HasBounce b of x → IsKnown b of x
+kept_returned b B of x h = subst (λ (z : Arguments). IsKnown b z x) h.2 (known b h.0 x (B h.0 h.1 x h.3))
 
 -- A call of an injector
 
-pub called_bounces : (controls : Controls) (b : Books) (a : List ℕ) (args : Arguments) (call : CallData) (answer : Answer) → KeepsAccepted b (booked b a args call answer)
-    → BouncesAreQueued controls b → BouncesAreQueued controls (booked b a args call answer)
-called_bounces controls b a args call answer keeps B i kept x h =
-    let w = kept_returned controls b B i.args x (call_has bounced_in (λ y none. none) b a args i.args call answer x (i, kept, refl, h)) in
-    record { accepted = queued_on b (booked b a args call answer) keeps x.actor x.args w.0; carries = w.1 }
+pub called_bounces : (b : Books) (a : List ℕ) (args : Arguments) (call : CallData) (answer : Answer) → KeepsAccepted b (booked b a args call answer)
+    → BouncesAreQueued b → BouncesAreQueued (booked b a args call answer)
+called_bounces b a args call answer keeps B i kept x h =
+    let w = kept_returned b B i.args x (call_has bounced_in (λ y none. none) b a args i.args call answer x (i, kept, refl, h)) in
+    record { accepted = queued_on b (booked b a args call answer) keeps x.actor x.args w.0; no_nul = w.1.0; carries = w.1.1 }
 
 -- What a sender enters
 
@@ -81,8 +90,10 @@ line_bounced : (line : Line) (l : Ledger) (x : Bounced) → Among x (line_in lin
 line_bounced (Returns y) l x h = ⊎_elim (λ (e : x ≡ y). inr e) (λ (w : Among x l.bounced). inl w) h
 line_bounced (Delivers s) l x h = inl h
 line_bounced (Fails s) l x h = inl h
-line_bounced (Notes s) l x h = inl h
-line_bounced (Reads bytes) l x h = inl h
+line_bounced (Notes it) l x h = inl h
+line_bounced (Reads it) l x h = inl h
+line_bounced (Marks it) l x h = inl h
+line_bounced (Routes by) l x h = inl h
 line_bounced Drops l x h = inl h
 
 -- the end of an injector of a bounce with 0 is among them
@@ -102,66 +113,68 @@ said_none : (delivered : Bool) (c : Channel) (place : ℕ) (x : Bounced) → IsL
 said_none true c place x h = h
 said_none false c place x h = h
 
-on_bounces : (child : Option Child) (e : Booking) (b : Books) (of : Arguments) (x : Bounced) → (IsReturn e → ⊥) → HasBounce (booked_on child e b) of x → HasBounce b of x
-on_bounces child (Reported delivered c n place) b of x none h =
+on_bounces : (child : Option Child) (by : Controls) (e : Booking) (b : Books) (of : Arguments) (x : Bounced) → (IsReturn e → ⊥) → HasBounce (booked_on child by e b) of x → HasBounce b of x
+on_bounces child by (Routed n) b of x none h = no_line b n (Routes by) of x (λ it. it) h
+on_bounces child by (Reported delivered c n place) b of x none h =
     no_line b n (line_said delivered (record { channel = c; place = place })) of x (said_none delivered c place x) h
-on_bounces child (Noted c n place) b of x none h = no_line b n (Notes (record { channel = c; place = place })) of x (λ it. it) h
-on_bounces child (ReadNotes n notes) b of x none h = no_line b n (Reads notes) of x (λ it. it) h
-on_bounces child (Dropped n) b of x none h = no_line b n Drops of x (λ it. it) h
-on_bounces child (Returned n) b of x none h = absurd (none tt)
+on_bounces child by (Noted c n place) b of x none h = no_line b n (Notes (named_by by c place)) of x (λ it. it) h
+on_bounces child by (Overwritten c n place) b of x none h = no_line b n (Marks (named_by by c place)) of x (λ it. it) h
+on_bounces child by (ReadNotes n notes) b of x none h = no_line b n (Reads (record { notes = notes; by = by })) of x (λ it. it) h
+on_bounces child by (Dropped n) b of x none h = no_line b n Drops of x (λ it. it) h
+on_bounces child by (Returned n) b of x none h = absurd (none tt)
 
-all_bounces : (child : Option Child) (es : List Booking) (b : Books) (of : Arguments) (x : Bounced) → (HasReturn es → ⊥) → HasBounce (booked_all child es b) of x → HasBounce b of x
-all_bounces child [] b of x none h = h
-all_bounces child (e ∷ es) b of x none h =
-    on_bounces child e b of x (λ it. none (inl it)) (all_bounces child es (booked_on child e b) of x (λ it. none (inr it)) h)
+all_bounces : (child : Option Child) (by : Controls) (es : List Booking) (b : Books) (of : Arguments) (x : Bounced) → (HasReturn es → ⊥) → HasBounce (booked_all child by es b) of x → HasBounce b of x
+all_bounces child by [] b of x none h = h
+all_bounces child by (e ∷ es) b of x none h =
+    on_bounces child by e b of x (λ it. none (inl it)) (all_bounces child by es (booked_on child by e b) of x (λ it. none (inr it)) h)
 
 -- The end of the child enters one.
 
-abbrev pub bounced : Child → List ℕ → Bounced
-bounced c notes = record { actor = c.actor; args = c.args; notes = notes }
+abbrev pub bounced : Child → NotesRead → Bounced
+bounced c read = record { actor = c.actor; args = c.args; read = read }
 
 abbrev IsOfChild : Option Child → Books → ℕ → Arguments → Bounced → Type 0
 IsOfChild child b n of x = (c : Child) × (child ≡ Some c) × IsLiving b n of × (x ≡ bounced c (notes_read (b.living n)))
 
-returned_bounces : (child : Option Child) (b : Books) (n : ℕ) (of : Arguments) (x : Bounced) → HasBounce (booked_all child (Returned n ∷ []) b) of x → HasBounce b of x ⊎ IsOfChild child b n of x
-returned_bounces None b n of x h = inl h
-returned_bounces (Some c) b n of x h = ⊎_elim
+returned_bounces : (child : Option Child) (by : Controls) (b : Books) (n : ℕ) (of : Arguments) (x : Bounced) → HasBounce (booked_all child by (Returned n ∷ []) b) of x → HasBounce b of x ⊎ IsOfChild child b n of x
+returned_bounces None by b n of x h = inl h
+returned_bounces (Some c) by b n of x h = ⊎_elim
     (λ (old : HasBounce b of x). inl old)
     (λ (it : (x ≡ bounced c (notes_read (b.living n))) × IsLiving b n of). inr (c, refl, it.1, it.0))
     (entered_has bounced_in IsLineOf line_bounced b n (Returns (bounced c (notes_read (b.living n)))) of x h)
 
 -- Of what a sender enters nothing is a bounce, or it is one bounce alone: that of its child, which has queued it, of the message of that number
 -- with the notes that were read last.
-abbrev pub MayBook : Controls → Option Child → List Booking → Books → Type 0
-MayBook controls child es b = (HasReturn es → ⊥)
-    ⊎ ((n : ℕ) × (es ≡ Returned n ∷ []) × ((c : Child) → child ≡ Some c → (i : Injection) → b.living n ≡ Some i → IsReturned controls b i (bounced c (notes_read (b.living n)))))
+abbrev pub MayBook : Option Child → List Booking → Books → Type 0
+MayBook child es b = (HasReturn es → ⊥)
+    ⊎ ((n : ℕ) × (es ≡ Returned n ∷ []) × ((c : Child) → child ≡ Some c → (i : Injection) → b.living n ≡ Some i → IsReturned b i (bounced c (notes_read (b.living n)))))
 
-pub booked_bounces : (controls : Controls) (child : Option Child) (es : List Booking) (b : Books) → KeepsAccepted b (booked_all child es b) → MayBook controls child es b
-    → BouncesAreQueued controls b → BouncesAreQueued controls (booked_all child es b)
-booked_bounces controls child es b keeps may B i kept x h =
-    let it : HasQueued b x.actor x.args × IsBounceOf controls i.args x.notes x.args = ⊎_elim none one may in
-    record { accepted = queued_on b (booked_all child es b) keeps x.actor x.args it.0; carries = it.1 }
+pub booked_bounces : (child : Option Child) (by : Controls) (es : List Booking) (b : Books) → KeepsAccepted b (booked_all child by es b) → MayBook child es b
+    → BouncesAreQueued b → BouncesAreQueued (booked_all child by es b)
+booked_bounces child by es b keeps may B i kept x h =
+    let it : IsKnown b i.args x = ⊎_elim none one may in
+    record { accepted = queued_on b (booked_all child by es b) keeps x.actor x.args it.0; no_nul = it.1.0; carries = it.1.1 }
   where
-    here : HasBounce (booked_all child es b) i.args x
+    here : HasBounce (booked_all child by es b) i.args x
     here = (i, kept, refl, h)
 
-    none : (HasReturn es → ⊥) → HasQueued b x.actor x.args × IsBounceOf controls i.args x.notes x.args
-    none without = kept_returned controls b B i.args x (all_bounces child es b i.args x without here)
+    none : (HasReturn es → ⊥) → IsKnown b i.args x
+    none without = kept_returned b B i.args x (all_bounces child by es b i.args x without here)
 
-    entered : (n : ℕ) → ((c : Child) → child ≡ Some c → (j : Injection) → b.living n ≡ Some j → IsReturned controls b j (bounced c (notes_read (b.living n))))
-        → IsOfChild child b n i.args x → HasQueued b x.actor x.args × IsBounceOf controls i.args x.notes x.args
+    entered : (n : ℕ) → ((c : Child) → child ≡ Some c → (j : Injection) → b.living n ≡ Some j → IsReturned b j (bounced c (notes_read (b.living n))))
+        → IsOfChild child b n i.args x → IsKnown b i.args x
     entered n returns w =
         let lives = w.2 in
-        let it = returns w.0 w.1 lives.0 lives.1 in
-        subst (λ (y : Bounced). HasQueued b y.actor y.args × IsBounceOf controls i.args y.notes y.args) (sym w.3)
-        (it.accepted, subst (λ (z : Arguments). IsBounceOf controls z (notes_read (b.living n)) w.0.args) lives.2 it.carries)
+        subst (λ (y : Bounced). IsKnown b i.args y) (sym w.3)
+        (subst (λ (z : Arguments). IsKnown b z (bounced w.0 (notes_read (b.living n)))) lives.2
+        (known b lives.0 (bounced w.0 (notes_read (b.living n))) (returns w.0 w.1 lives.0 lives.1)))
 
-    one : (n : ℕ) × (es ≡ Returned n ∷ []) × ((c : Child) → child ≡ Some c → (j : Injection) → b.living n ≡ Some j → IsReturned controls b j (bounced c (notes_read (b.living n))))
-        → HasQueued b x.actor x.args × IsBounceOf controls i.args x.notes x.args
+    one : (n : ℕ) × (es ≡ Returned n ∷ []) × ((c : Child) → child ≡ Some c → (j : Injection) → b.living n ≡ Some j → IsReturned b j (bounced c (notes_read (b.living n))))
+        → IsKnown b i.args x
     one w = ⊎_elim
-        (λ (old : HasBounce b i.args x). kept_returned controls b B i.args x old)
+        (λ (old : HasBounce b i.args x). kept_returned b B i.args x old)
         (λ (new : IsOfChild child b w.0 i.args x). entered w.0 w.2 new)
-        (returned_bounces child b w.0 i.args x (subst (λ (z : List Booking). HasBounce (booked_all child z b) i.args x) w.1 here))
+        (returned_bounces child by b w.0 i.args x (subst (λ (z : List Booking). HasBounce (booked_all child by z b) i.args x) w.1 here))
 
 -- It is entered only as that injector's end comes.
 
@@ -195,7 +208,12 @@ noted_none row m came h = h
 
 marked_none : (row : MarkRow) (m : Marked) (note : NoteRow) (came : GotData) → HasReturn (marked_at row m note came) → ⊥
 marked_none mark.Noting m note came h = noted_none note m came h
+marked_none (mark.Write fd) m note came h = ⊎_elim (λ (it : ⊥). it) (λ (it : ⊥). it) h
 marked_none row m note came h = h
+
+routed_none : (row : PassRow) (n : ℕ) → HasReturn (routed_at row n) → ⊥
+routed_none todo.Give n h = ⊎_elim (λ (it : ⊥). it) (λ (it : ⊥). it) h
+routed_none row n h = h
 
 -- the status is taken, and it is 0
 abbrev IsZero : ReturnRow → ℕ → List ℕ → GotData → Type 0
@@ -234,4 +252,5 @@ pub returns_alone : (row : Row) (came : GotData) (d : Desk) → (HasReturn (book
 returns_alone (at.TakeLink c) came d = inl (λ h. when_none (said came).way c (said came).bytes d h)
 returns_alone (at.Mark row m) came d = inl (λ h. marked_none row m d.note.row came h)
 returns_alone (at.Finish row n) came d = finished_alone row n came d
+returns_alone at.InTodo came d = inl (λ h. routed_none d.pass.row d.pass.n h)
 returns_alone row came d = inl (λ h. h)

@@ -1,7 +1,7 @@
 -- A sender opens a bounce file to return what it holds only where no channel file is left.
+use Rattle.address_rules.specs.declared.controls.Controls.{Controls}
 use Rattle.std.proofs.Common.{◌≡◌, ℕ, List, [], ◌++◌, false, None, ap, ◌∙◌, subst, codes, arith}
 use Rattle.std.proofs.lemmas.List.Elements.{All-contains}
-use Rattle.address_rules.specs.declared.controls.Controls.{Controls}
 use Rattle.address_rules.specs.Files.{name as file_name}
 use Rattle.bounce_record.specs.declared.note_row.NoteRow.{NoteRow}
 use Rattle.bounce_record.specs.declared.note_row.NoteRow.TheVariants as written
@@ -187,11 +187,11 @@ gone_by : (row : Row) (w : About) (k : Known) → (IsLeaving row k.n → ⊥) �
 gone_by row w k stays (Stays it) ch e = it.gone ch e
 gone_by row w k stays (Leaves it) ch e = absurd (stays it)
 
-module _ (controls : Controls) (now : ℕ) (q : Queue) (a : List ℕ) (d : Desk) (n : ℕ) where
+module _ (now : ℕ) (q : Queue) (a : List ℕ) (d : Desk) (n : ℕ) where
   abbrev AreGone : Type 0
   AreGone = (ch : Channel) → (about q n).parts (lane_part ch) ≡ None
 
-  finish_gone : (m : ℕ) → m ≡ n → StandsAt controls now q a (at.Finish finish.OpenBounce m) d → AreGone
+  finish_gone : (m : ℕ) → m ≡ n → StandsAt now q a (at.Finish finish.OpenBounce m) d → AreGone
   finish_gone m same h ch =
       let idle = h.rests.1 in
       let k = idle.it in
@@ -199,11 +199,11 @@ module _ (controls : Controls) (now : ℕ) (q : Queue) (a : List ℕ) (d : Desk)
       subst (λ (i : ℕ). (about q i).parts (lane_part ch) ≡ None) (idle.number ∙ same)
       (gone_by (at.Finish finish.OpenBounce m) (about q k.n) k (λ leaves. leaves.0) knows ch (idle.none ch))
 
-  row_gone : (row : Row) → StandsAt controls now q a row d → due_at row d ≡ opening n → AreGone
+  row_gone : (row : Row) → StandsAt now q a row d → due_at row d ≡ opening n → AreGone
   row_gone (at.Finish finish.OpenBounce m) h e =
       let is = step_is (step.Open (owned.Bounce m) how.Read) [] n e in
       let same : m ≡ n = cc in finish_gone m same h
-  row_gone (at.Finish finish.Return m) h e = absurd (return_none controls q a d.bounce.row d.bounce m n _ h.rests.1.holds e)
+  row_gone (at.Finish finish.Return m) h e = absurd (return_none d.book.controls q a d.bounce.row d.bounce m n _ h.rests.1.holds e)
   row_gone (at.Finish finish.UnlinkInfo m) h e = absurd (cc)
   row_gone (at.Finish finish.Give m) h e = absurd (cc)
   row_gone (at.Finish finish.Take m) h e = absurd (cc)
@@ -227,6 +227,6 @@ module _ (controls : Controls) (now : ℕ) (q : Queue) (a : List ℕ) (d : Desk)
   row_gone (at.Sweep row) h e = absurd (sweeps_none row n (step_is (sweep_step row) _ n e))
   row_gone (at.Ended status) h e = absurd (cc)
 
-pub channels_are_gone : (controls : Controls) (now : ℕ) (q : Queue) (a : List ℕ) (d : Desk) (n : ℕ) (row : Row) → StandsAt controls now q a row d → due_at row d ≡ opening n
+pub channels_are_gone : (now : ℕ) (q : Queue) (a : List ℕ) (d : Desk) (n : ℕ) (row : Row) → StandsAt now q a row d → due_at row d ≡ opening n
     → (ch : Channel) → (about q n).parts (lane_part ch) ≡ None
-channels_are_gone controls now q a d n row h e = row_gone controls now q a d n row h e
+channels_are_gone now q a d n row h e = row_gone now q a d n row h e

@@ -1,7 +1,6 @@
 -- The links that a delivery made in a history are those of its past, each of a file that just before was whole and on the disk.
 use Rattle.std.specs.Prelude.{◌≡◌, ◌≢◌, ℕ, List, [], ◌∷◌, ◌++◌, map, Bool, Option, Some, None, option_map, codes, if◌then◌else◌}
 use Rattle.std.proofs.Common.{◌⊎◌, inl, inr, ⊎_elim, refl, sym, ap, ◌∙◌, subst}
-use Rattle.address_rules.specs.declared.controls.Controls.{Controls}
 use Rattle.call_fs.specs.Disk.{Among, Disk, IsWhole}
 use Rattle.call_fs.specs.Maps.{put_at}
 use Rattle.call_fs.proofs.Maps.{put_at_cases}
@@ -34,7 +33,6 @@ use Rattle.maildir_drop.specs.declared.row.Row.TheVariants as drop
 use Rattle.maildir_drop.specs.declared.names.DropNames.{DropNames}
 use Rattle.maildir_drop.specs.Table.{due_at as drop_due}
 use Rattle.queue_law.proofs.Tests.{other_text, same_text}
-use Rattle.program_law.specs.Sender.Control.{AreControls}
 use Rattle.world_events.specs.declared.event.Program.{Program}
 use Rattle.world_events.specs.declared.event.Program.TheVariants.{Delivery}
 use Rattle.mail_world.proofs.Members.{are_four}
@@ -143,7 +141,7 @@ pub record LinksAre (d : Disk) (h : List Event) (a : List ℕ) (args : LocalArgs
 
 -- An event of its own
 
-module _ (controls : Controls) (d : Disk) (before : List Event) (has : AreControls controls d) (a : List ℕ) (own : Own) (wrote : ℕ) (legal : Legal d (Act a own wrote ∷ before))
+module _ (d : Disk) (before : List Event) (a : List ℕ) (own : Own) (wrote : ℕ) (legal : Legal d (Act a own wrote ∷ before))
     (x : Actor) (is : (after d before).actors a ≡ Some x) (start : ℕ) (args : LocalArgs) (program : x.program ≡ Delivery start args) (L : LinksAre d before a args x.past) where
   abbrev old : List Linked
   old = links_in d a before
@@ -154,14 +152,14 @@ module _ (controls : Controls) (d : Disk) (before : List Event) (has : AreContro
   may : MayDo (after d before) a own wrote
   may = legal.1
 
-  I : Inv controls (after d before)
-  I = always controls d before has legal.0
+  I : Inv (after d before)
+  I = always d before legal.0
 
   no_input : IsInput own.due → links x.past ≡ []
   no_input it =
       let same : may.actor ≡ x = some_actor may.actor x (sym may.reads.is ∙ is) in
       let alive : x.life ≡ Alive = ap (λ (y : Actor). y.life) (sym same) ∙ may.reads.alive in
-      let F = delivery_fares controls (after d before).now (queue (after d before) I.role) a x.program x.past x.life start args program alive (I.fares a x is) in
+      let F = delivery_fares (after d before).now (queue (after d before) I.role) a x.program x.past x.life start args program alive (I.fares a x is) in
       let due = delivery_due x.program x.past own.read own.ready start args own.due program
       (subst (λ (y : Actor). next_of y.program y.past own.read own.ready ≡ own.due) same may.due) in
       none_linked args x.past (place_after args x.past) (place_after args x.past).row (holds args x.past F.rests.run) (subst IsInput (sym due) it)
@@ -173,7 +171,7 @@ module _ (controls : Controls) (d : Disk) (before : List Event) (has : AreContro
       (λ (none : links x.past ≡ []). absurd (none_among old it (L.pairs ∙ none) older))
       (taken_cases args x.past own.due own.came no_input))
       (λ (new : IsNew (after d before).disk own.due it).
-      let w = drops_are_whole controls d a own wrote before has legal x is start args program it.from it.to new.0 in
+      let w = drops_are_whole d a own wrote before legal x is start args program it.from it.to new.0 in
       let same_input : taken_by (taken x.past) own.due own.came ≡ taken x.past = ap (λ (n : NeedData). taken_by (taken x.past) n own.came) new.0 in
       let message_is : w.0 ≡ message = one_message w.0 message (sym w.1 ∙ ap message_in (sym same_input) ∙ input) in
       subst (λ (e : Disk). IsWhole e it.from (maildir_text args message)) (sym new.1)
@@ -266,7 +264,7 @@ module _ (actors : List ℕ → Option Actor) (b : List ℕ) (y : Actor) (a : Li
       (λ (c : (a ≢ b) × (put_at actors b (Some y) a ≡ actors a)). inr (c.0, sym c.1 ∙ is))
       (put_at_cases actors b (Some y) a)
 
-module _ (controls : Controls) (d : Disk) (has : AreControls controls d) where
+module _ (d : Disk) where
   abbrev AtLast : List Event → Type 0
   AtLast h = (a : List ℕ) (x : Actor) → (after d h).actors a ≡ Some x → (start : ℕ) (args : LocalArgs) → x.program ≡ Delivery start args → LinksAre d h a args x.past
 
@@ -290,7 +288,7 @@ module _ (controls : Controls) (d : Disk) (has : AreControls controls d) where
       let program : y.program ≡ Delivery start args = ap (λ (w : Actor). w.program) (sym c.1) ∙ runs in
       subst (λ (n : List ℕ). LinksAre d (Act b own wrote ∷ before) n args x.past) (sym c.0)
       (subst (λ (p : List Own). LinksAre d (Act b own wrote ∷ before) b args p) (ap (λ (w : Actor). w.past) (sym c.1))
-      (own_links controls d before has b own wrote legal y legal.1.reads.is start args program (L b y legal.1.reads.is start args program))))
+      (own_links d before b own wrote legal y legal.1.reads.is start args program (L b y legal.1.reads.is start args program))))
       (λ (c : (a ≢ b) × (s.actors a ≡ Some x)).
       let old = L a x c.1 start args runs in
       let same = other_links d before a b own wrote (λ e. c.0 (sym e)) in

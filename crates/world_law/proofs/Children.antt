@@ -2,7 +2,6 @@
 -- other program starts an actor.
 use Rattle.std.specs.Prelude.{Contains}
 use Rattle.std.proofs.Common.{◌≡◌, ◌≢◌, inl, ℕ, ◌≤◌, ◌==◌, List, [], ◌∷◌, Bool, true, false, ◌&&◌, Option, Some, None, refl, sym, ap, ◌∙◌, subst, ⊎_elim, bytes_eq, codes, if◌then◌else◌}
-use Rattle.address_rules.specs.declared.controls.Controls.{Controls}
 use Rattle.call_fs.proofs.Maps.{put_at_other, put_at_same}
 use Rattle.call_fs.specs.Maps.{put_at}
 use Rattle.call_fs.specs.declared.calls.CallData.{CallData}
@@ -100,15 +99,15 @@ born_named a apart (LocalSpawner since) (Delivery start args) bears = apart
 born_named a apart (Delivery start words) (Injector args) bears = tt
 born_named a apart runs program bears = absurd bears
 
-born_fares : (controls : Controls) (now : ℕ) (q : Queue) (a : List ℕ) (runs program : Program) → Bears runs program → FaresBy controls now q a program [] Alive
-born_fares controls now q a (Sender since) (Injector args) bears = injector_start now q a args
-born_fares controls now q a (LocalSpawner since) (Delivery start args) bears = record { rests = deliveries_keep.begins q a args; forwards = tt; well = λ h. absurd (cc) }
-born_fares controls now q a (Delivery start words) (Injector args) bears = injector_start now q a args
-born_fares controls now q a runs program bears = absurd bears
+born_fares : (now : ℕ) (q : Queue) (a : List ℕ) (runs program : Program) → Bears runs program → FaresBy now q a program [] Alive
+born_fares now q a (Sender since) (Injector args) bears = injector_start now q a args
+born_fares now q a (LocalSpawner since) (Delivery start args) bears = record { rests = deliveries_keep.begins q a args; forwards = tt; well = λ h. absurd (cc) }
+born_fares now q a (Delivery start words) (Injector args) bears = injector_start now q a args
+born_fares now q a runs program bears = absurd bears
 
 -- An actor is started in a slot of another one.
 
-module _ (controls : Controls) (t : State) (J : Inv controls t) (parent : List ℕ) (x : Actor) (bearer_is : t.actors parent ≡ Some x) (slot : ℕ) (a : List ℕ) (new : t.actors a ≡ None)
+module _ (t : State) (J : Inv t) (parent : List ℕ) (x : Actor) (bearer_is : t.actors parent ≡ Some x) (slot : ℕ) (a : List ℕ) (new : t.actors a ≡ None)
     (program : Program) (may : Bears x.program program) (has : HasSlot x.program slot) where
   abbrev pipes_then : Pipework
   pipes_then = with_child t.pipework parent slot a
@@ -186,15 +185,15 @@ module _ (controls : Controls) (t : State) (J : Inv controls t) (parent : List �
   seen = subst (λ (o : Option Actor). IsSeenAs o (newborn program)) (sym new) (born_seen x.program program may)
 
   -- Its parent has given it nothing yet.
-  born : ChildBy born_state parent x.program x.past x.life → Inv controls born_state
-  born fed = put_one controls t J a (newborn program) pipes_then (born_named a apart x.program program may) (born_fares controls t.now (queue t J.role) a x.program program may) crewed_then
+  born : ChildBy born_state parent x.program x.past x.life → Inv born_state
+  born fed = put_one t J a (newborn program) pipes_then (born_named a apart x.program program may) (born_fares t.now (queue t J.role) a x.program program may) crewed_then
       (λ b e u told. in_slot (bytes_eq b parent && (e == slot)) b e u (λ both. (slot_named b parent (e == slot) both, slot_numbered b parent e slot both)) told)
       (each_put t.actors a (newborn program) (λ o z. ChildBy born_state o z.program z.past z.life) (new_child born_state a program) (λ o z other there. child_then fed o z there))
-      (put_errands controls t.now (queue t J.role) t.actors a (newborn program) t.pipework pipes_then seen same_link J.errands)
+      (put_errands t.now (queue t J.role) t.actors a (newborn program) t.pipework pipes_then seen same_link J.errands)
 
 -- By who starts it
 
-module _ (controls : Controls) (s : State) (I : Inv controls s) (parent : List ℕ) (own : Own) (a : List ℕ) (new : s.actors a ≡ None) (pid : ℕ) where
+module _ (s : State) (I : Inv s) (parent : List ℕ) (own : Own) (a : List ℕ) (new : s.actors a ≡ None) (pid : ℕ) where
   abbrev event : NeedData → Own
   event due = record { read = own.read; ready = own.ready; due = due; came = got.Started pid }
 
@@ -205,7 +204,7 @@ module _ (controls : Controls) (s : State) (I : Inv controls s) (parent : List �
   asking runs past due = acted s parent (event due) 0 (Some (record { program = runs; past = past; life = Alive }))
 
   abbrev Born : Program → List Own → NeedData → Program → Type 0
-  Born runs past due program = Inv controls (bears (asking runs past due) parent (event due) a program)
+  Born runs past due program = Inv (bears (asking runs past due) parent (event due) a program)
 
   module _ (runs : Program) (past : List Own) (is : s.actors parent ≡ Some (record { program = runs; past = past; life = Alive })) where
     far : a ≢ parent
@@ -219,34 +218,34 @@ module _ (controls : Controls) (s : State) (I : Inv controls s) (parent : List �
 
   -- a sender
   bounce_born : (began : ℕ) (past : List Own) (room : ℕ) (program : Program) → s.actors parent ≡ Some (record { program = Sender began; past = past; life = Alive })
-      → next_of (Sender began) past own.read own.ready ≡ needs.Start (child.Bounce room) → Inv controls (asking (Sender began) past (needs.Start (child.Bounce room)))
+      → next_of (Sender began) past own.read own.ready ≡ needs.Start (child.Bounce room) → Inv (asking (Sender began) past (needs.Start (child.Bounce room)))
       → IsProgramOf (child.Bounce room) pid program → Born (Sender began) past (needs.Start (child.Bounce room)) program
   bounce_born began past room (Injector args) is next went_on it =
       let due : NeedData = needs.Start (child.Bounce room) in
       let then_state : State = asking (Sender began) past due in
-      born controls then_state went_on parent (went (Sender began) past due) (parent_went (Sender began) past is due) 0 a (still_new (Sender began) past is due) (Injector args) it.0 refl
+      born then_state went_on parent (went (Sender began) past due) (parent_went (Sender began) past is due) 0 a (still_new (Sender began) past is due) (Injector args) it.0 refl
       (fed_none (with_one then_state a (newborn (Injector args)) (with_child then_state.pipework parent 0 a)) parent (next_of (Sender began) past own.read own.ready) (child.Bounce room) (got.Started pid) next)
   bounce_born began past room other is next went_on it = absurd it
 
   -- the local spawner
   delivery_born : (began : ℕ) (past : List Own) (slot : ℕ) (words : DeliveryWordsData) (uid : ℕ) (program : Program) → s.actors parent ≡ Some (record { program = LocalSpawner began; past = past; life = Alive })
-      → Inv controls (asking (LocalSpawner began) past (needs.Start (child.Local slot words uid))) → IsProgramOf (child.Local slot words uid) pid program
+      → Inv (asking (LocalSpawner began) past (needs.Start (child.Local slot words uid))) → IsProgramOf (child.Local slot words uid) pid program
       → Born (LocalSpawner began) past (needs.Start (child.Local slot words uid)) program
   delivery_born began past slot words uid (Delivery start args) is went_on it =
       let due : NeedData = needs.Start (child.Local slot words uid) in
-      born controls (asking (LocalSpawner began) past due) went_on parent (went (LocalSpawner began) past due) (parent_went (LocalSpawner began) past is due) slot a
+      born (asking (LocalSpawner began) past due) went_on parent (went (LocalSpawner began) past due) (parent_went (LocalSpawner began) past is due) slot a
       (still_new (LocalSpawner began) past is due) (Delivery start args) tt tt tt
   delivery_born began past slot words uid other is went_on it = absurd it
 
   -- a delivery
   forward_born : (start : ℕ) (args : LocalArgs) (past : List Own) (room : ℕ) (program : Program) → s.actors parent ≡ Some (record { program = Delivery start args; past = past; life = Alive })
       → next_of (Delivery start args) past own.read own.ready ≡ needs.Start (child.Forward args.uid room)
-      → Inv controls (asking (Delivery start args) past (needs.Start (child.Forward args.uid room))) → IsProgramOf (child.Forward args.uid room) pid program
+      → Inv (asking (Delivery start args) past (needs.Start (child.Forward args.uid room))) → IsProgramOf (child.Forward args.uid room) pid program
       → Born (Delivery start args) past (needs.Start (child.Forward args.uid room)) program
   forward_born start args past room (Injector words) is next went_on it =
       let due : NeedData = needs.Start (child.Forward args.uid room) in
       let then_state : State = asking (Delivery start args) past due in
-      born controls then_state went_on parent (went (Delivery start args) past due) (parent_went (Delivery start args) past is due) 0 a (still_new (Delivery start args) past is due) (Injector words)
+      born then_state went_on parent (went (Delivery start args) past due) (parent_went (Delivery start args) past is due) 0 a (still_new (Delivery start args) past is due) (Injector words)
       it.0 refl
       (fed_none (with_one then_state a (newborn (Injector words)) (with_child then_state.pipework parent 0 a)) parent (next_of (Delivery start args) past own.read own.ready)
       (child.Forward args.uid room) (got.Started pid) next)
@@ -254,10 +253,10 @@ module _ (controls : Controls) (s : State) (I : Inv controls s) (parent : List �
 
 -- No other program starts an actor.
 
-module _ (controls : Controls) (s : State) (I : Inv controls s) (parent : List ℕ) (own : Own) (a : List ℕ) (new : s.actors a ≡ None) (asked : ChildData) (pid : ℕ) (program : Program)
+module _ (s : State) (I : Inv s) (parent : List ℕ) (own : Own) (a : List ℕ) (new : s.actors a ≡ None) (asked : ChildData) (pid : ℕ) (program : Program)
     (starts : own.due ≡ needs.Start asked) (came : own.came ≡ got.Started pid) (it : IsProgramOf asked pid program) (soon : own.read ≤ s.now) where
   abbrev Then : Program → List Own → Life → Type 0
-  Then runs past life = Inv controls (bears (acted s parent own 0 (Some (record { program = runs; past = past; life = life }))) parent own a program)
+  Then runs past life = Inv (bears (acted s parent own 0 (Some (record { program = runs; past = past; life = life }))) parent own a program)
 
   none_born : (runs : Program) (past : List Own) (life : Life) (due : NeedData) → BearsNone due → due ≡ own.due → Then runs past life
   none_born runs past life due none is = absurd (subst BearsNone (is ∙ starts) none pid program it)
@@ -266,14 +265,14 @@ module _ (controls : Controls) (s : State) (I : Inv controls s) (parent : List �
   this due g = record { read = own.read; ready = own.ready; due = due; came = g }
 
   abbrev AsDue : Program → List Own → NeedData → GotData → Type 0
-  AsDue runs past due g = Inv controls (bears (acted s parent (this due g) 0 (Some (record { program = runs; past = past; life = Alive }))) parent (this due g) a program)
+  AsDue runs past due g = Inv (bears (acted s parent (this due g) 0 (Some (record { program = runs; past = past; life = Alive }))) parent (this due g) a program)
 
   -- as its parent's event has it
-  as_asked : (runs : Program) (past : List Own) (other : ChildData) → other ≡ asked → (IsProgramOf other pid program → Born controls s I parent own a new pid runs past (needs.Start other) program)
+  as_asked : (runs : Program) (past : List Own) (other : ChildData) → other ≡ asked → (IsProgramOf other pid program → Born s I parent own a new pid runs past (needs.Start other) program)
       → Then runs past Alive
   as_asked runs past other same go =
-      let born_so : Born controls s I parent own a new pid runs past (needs.Start asked) program =
-      subst (λ (z : ChildData). IsProgramOf z pid program → Born controls s I parent own a new pid runs past (needs.Start z) program) same go it in
+      let born_so : Born s I parent own a new pid runs past (needs.Start asked) program =
+      subst (λ (z : ChildData). IsProgramOf z pid program → Born s I parent own a new pid runs past (needs.Start z) program) same go it in
       subst (λ (z : NeedData). AsDue runs past z own.came) (sym starts) (subst (λ (g : GotData). AsDue runs past (needs.Start asked) g) (sym came) born_so)
 
   sender_bears : (began : ℕ) (past : List Own) → parent ≡ codes "sender" → s.actors parent ≡ Some (record { program = Sender began; past = past; life = Alive })
@@ -284,9 +283,9 @@ module _ (controls : Controls) (s : State) (I : Inv controls s) (parent : List �
       let w = starts_of d (row_now d own.read own.ready) asked next in
       let room : ℕ = d.bounce.room in
       as_asked (Sender began) past (child.Bounce room) (sym w.asked_is)
-      (λ program_is. bounce_born controls s I parent own a new pid began past room program is (next ∙ ap needs.Start w.asked_is)
-      (subst (λ (b : List ℕ). Inv controls (acted s b (event controls s I parent own a new pid (needs.Start (child.Bounce room))) 0 (Some (sender began past)))) (sym named)
-      (starting controls s I 0 began past own (subst (λ (b : List ℕ). s.actors b ≡ Some (sender began past)) named is) soon (child.Bounce room) (got.Started pid) (next ∙ ap needs.Start w.asked_is)
+      (λ program_is. bounce_born s I parent own a new pid began past room program is (next ∙ ap needs.Start w.asked_is)
+      (subst (λ (b : List ℕ). Inv (acted s b (event s I parent own a new pid (needs.Start (child.Bounce room))) 0 (Some (sender began past)))) (sym named)
+      (starting s I 0 began past own (subst (λ (b : List ℕ). s.actors b ≡ Some (sender began past)) named is) soon (child.Bounce room) (got.Started pid) (next ∙ ap needs.Start w.asked_is)
       (λ b e t there. there) (record { given = refl; answers = refl })))
       program_is)
 
@@ -294,22 +293,22 @@ module _ (controls : Controls) (s : State) (I : Inv controls s) (parent : List �
       → next_of (LocalSpawner began) past own.read own.ready ≡ own.due → Then (LocalSpawner began) past Alive
   local_bears began past named is due =
       let p : LocalPlace = local_after past in
-      let w = local_starts controls s I 0 began past own (subst (λ (b : List ℕ). s.actors b ≡ Some (record { program = LocalSpawner began; past = past; life = Alive })) named is) asked (got.Started pid) (due ∙ starts) in
+      let w = local_starts s I 0 began past own (subst (λ (b : List ℕ). s.actors b ≡ Some (record { program = LocalSpawner began; past = past; life = Alive })) named is) asked (got.Started pid) (due ∙ starts) in
       as_asked (LocalSpawner began) past (local_asks p) w.0
-      (delivery_born controls s I parent own a new pid began past p.work.request.slot p.delivery.words p.delivery.uid program is
-      (subst (λ (b : List ℕ). Inv controls (acted s b (event controls s I parent own a new pid (needs.Start (local_asks p))) 0 (Some (record { program = LocalSpawner began; past = past; life = Alive }))))
+      (delivery_born s I parent own a new pid began past p.work.request.slot p.delivery.words p.delivery.uid program is
+      (subst (λ (b : List ℕ). Inv (acted s b (event s I parent own a new pid (needs.Start (local_asks p))) 0 (Some (record { program = LocalSpawner began; past = past; life = Alive }))))
       (sym named) w.1))
 
   delivery_bears : (start : ℕ) (args : LocalArgs) (past : List Own) → s.actors parent ≡ Some (record { program = Delivery start args; past = past; life = Alive })
       → next_of (Delivery start args) past own.read own.ready ≡ own.due → Then (Delivery start args) past Alive
   delivery_bears start args past is due =
       let next : next_of (Delivery start args) past own.read own.ready ≡ needs.Start asked = due ∙ starts in
-      let w = starts_on s parent 0 start args past own controls I is asked next in
+      let w = starts_on s parent 0 start args past own I is asked next in
       let room : ℕ = w.0 in
       let forward : next_of (Delivery start args) past own.read own.ready ≡ needs.Start (child.Forward args.uid room) = next ∙ ap needs.Start w.1 in
       as_asked (Delivery start args) past (child.Forward args.uid room) (sym w.1)
-      (λ program_is. forward_born controls s I parent own a new pid start args past room program is forward
-      (started s parent 0 start args past own controls I is (child.Forward args.uid room) (got.Started pid) forward tt) program_is)
+      (λ program_is. forward_born s I parent own a new pid start args past room program is forward
+      (started s parent 0 start args past own I is (child.Forward args.uid room) (got.Started pid) forward tt) program_is)
 
   by_program : (runs : Program) (past : List Own) (life : Life) → IsNamed parent runs → life ≡ Alive → s.actors parent ≡ Some (record { program = runs; past = past; life = life })
       → next_of runs past own.read own.ready ≡ own.due → Then runs past life
@@ -328,8 +327,8 @@ module _ (controls : Controls) (s : State) (I : Inv controls s) (parent : List �
   by_program (Delivery start args) past life named alive is due = absurd (cc)
 
 pub children_keep : ChildrenKeep
-children_keep parent own a program controls s I may =
+children_keep parent own a program s I may =
     let x = may.actor in
-    subst (λ (o : Option Actor). Inv controls (bears (acted s parent own 0 o) parent own a program)) (sym may.reads.is)
-    (by_program controls s I parent own a may.new may.asked may.pid program may.starts may.came may.is may.reads.no_later
+    subst (λ (o : Option Actor). Inv (bears (acted s parent own 0 o) parent own a program)) (sym may.reads.is)
+    (by_program s I parent own a may.new may.asked may.pid program may.starts may.came may.is may.reads.no_later
     x.program x.past x.life (I.crew parent x may.reads.is) may.reads.alive may.reads.is may.due)

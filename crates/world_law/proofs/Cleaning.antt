@@ -1,6 +1,5 @@
 -- The events of the cleaner: it looks for old names in `pid`, takes commands, removes what they name, and answers.
 use Rattle.std.proofs.Common.{◌≡◌, ◌≢◌, ◌⊎◌, inl, inr, ℕ, ◌≤◌, List, ◌∷◌, Bool, true, false, Option, Some, None, refl, sym, ap, ◌∙◌, subst, ⊎_elim, arith, length, codes, if◌then◌else◌}
-use Rattle.address_rules.specs.declared.controls.Controls.{Controls}
 use Rattle.call_fs.specs.declared.calls.Answer.{Answer as Told}
 use Rattle.call_fs.specs.declared.calls.CallData.{CallData}
 use Rattle.call_fs.specs.declared.calls.CallData.TheVariants as call
@@ -50,7 +49,6 @@ use Rattle.program_law.specs.Sender.InTodo.{IsExpected}
 use Rattle.program_law.specs.Sender.LeftAlone.{LeavesPass, LeavesRow}
 use Rattle.program_law.specs.Sender.Points.{number_in}
 use Rattle.program_law.specs.Sender.Waits.{awaits_at, awaits_in as awaits_in_pass}
-use Rattle.program_law.proofs.Sender.ControlsStay.{controls_stay}
 use Rattle.program_law.proofs.Sender.Goes.{cleaners_go_on}
 use Rattle.program_law.proofs.Sender.Gone.{file_call}
 use Rattle.program_law.proofs.Sender.Known.{unlinks_leave_learned}
@@ -177,9 +175,9 @@ most_one Nothing = omega arith
 most_one (Answer command) = omega arith
 most_one Over = omega arith
 
-module _ (controls : Controls) (now : ℕ) (q r : Queue) (x : Link) (E : ErrandRests controls now q true x) (event : Own) (wrote : ℕ) (C : Cleans E.waits event wrote x)
+module _ (now : ℕ) (q r : Queue) (x : Link) (E : ErrandRests now q true x) (event : Own) (wrote : ℕ) (C : Cleans E.waits event wrote x)
     (S : Spares now (number_at x.place.row) q r) (closed : (n : ℕ) → x.awaits ≡ Answer (Todo n) → IsWork x.place.row → IsClosed now q n → IsClosed now r n)
-    (done : (n : ℕ) → x.place.row ≡ at.UnlinkSecond (Todo n) → (moved x.place event).row ≡ at.Answer Removed → RestsAs now r n (IsPreprocessed controls)) where
+    (done : (n : ℕ) → x.place.row ≡ at.UnlinkSecond (Todo n) → (moved x.place event).row ≡ at.Answer Removed → RestsAs now r n (IsPreprocessed)) where
   none_while : IsWork x.place.row → E.waits ≡ None
   none_while w =
       let one = w.one in
@@ -203,7 +201,7 @@ module _ (controls : Controls) (now : ℕ) (q r : Queue) (x : Link) (E : ErrandR
       none_at x.place.row (omega (arith, long, low, high)))
       well
 
-  cleaned_errands : ErrandRests controls now r true (cleans event wrote x)
+  cleaned_errands : ErrandRests now r true (cleans event wrote x)
   cleaned_errands = record {
     waits = C.still;
     errand = C.keeps;
@@ -213,7 +211,7 @@ module _ (controls : Controls) (now : ℕ) (q r : Queue) (x : Link) (E : ErrandR
         let n = message_of command in
         record {
           closed = S.closed n (waiting_apart command was) w.closed;
-          rest = subst (Needs controls command) (sym (S.abouts n (waiting_apart command was) w.closed)) w.rest;
+          rest = subst (Needs command) (sym (S.abouts n (waiting_apart command was) w.closed)) w.rest;
         };
     asked = λ n is. ⊎_elim
         (λ (none : number_at x.place.row ≡ None). S.closed n (none_apart x.place.row n none) (E.asked n is))
@@ -223,7 +221,7 @@ module _ (controls : Controls) (now : ℕ) (q r : Queue) (x : Link) (E : ErrandR
         (λ (before : SaysWell x).
         let w = E.told n is before in
         let far = none_apart x.place.row n (said_none n is before) in
-        record { closed = S.closed n far w.closed; rest = subst (IsPreprocessed controls) (sym (S.abouts n far w.closed)) w.rest })
+        record { closed = S.closed n far w.closed; rest = subst (IsPreprocessed) (sym (S.abouts n far w.closed)) w.rest })
         (λ (by : IsAnsweredBy event x). done n (by.row ∙ ap at.UnlinkSecond (by.only (Todo n) is)) by.next)
         (C.well well);
   }
@@ -253,7 +251,7 @@ offered : (pipe : Pipe) (came : GotData) → Yields pipe came → IsOffered pipe
 offered pipe (got.Took bytes) h = h.1
 offered pipe came h = tt
 
-module _ (controls : Controls) (s : State) (I : Inv controls s) (wrote : ℕ) (began : ℕ) (past : List Own) (own : Own) (is : s.actors (codes "clean") ≡ Some (cleaner began past)) where
+module _ (s : State) (I : Inv s) (wrote : ℕ) (began : ℕ) (past : List Own) (own : Own) (is : s.actors (codes "clean") ≡ Some (cleaner began past)) where
   abbrev name : List ℕ
   name = codes "clean"
 
@@ -272,10 +270,10 @@ module _ (controls : Controls) (s : State) (I : Inv controls s) (wrote : ℕ) (b
   abbrev x : Link
   x = link_by (s.actors (codes "sender")) (Some (cleaner began past)) s.pipework
 
-  errands : ErrandRests controls s.now q true x
-  errands = subst (λ (o : Option Actor). ErrandRests controls s.now q (lives_in o) (link_by (s.actors (codes "sender")) o s.pipework)) is I.errands
+  errands : ErrandRests s.now q true x
+  errands = subst (λ (o : Option Actor). ErrandRests s.now q (lives_in o) (link_by (s.actors (codes "sender")) o s.pipework)) is I.errands
 
-  stands : CleanerStands controls s.now q place
+  stands : CleanerStands s.now q place
   stands = I.fares name (cleaner began past) is
 
   goes : GoesOn (s.actors name) (Cleaner began)
@@ -284,12 +282,12 @@ module _ (controls : Controls) (s : State) (I : Inv controls s) (wrote : ℕ) (b
   abbrev actors_after : NeedData → GotData → List ℕ → Option Actor
   actors_after due came = put_at s.actors name (Some (cleaner began (event due came ∷ past)))
 
-  then_errands : (due : NeedData) (came : GotData) → IsCleaning due → (r : Queue) → ErrandRests controls s.now r true (cleans (event due came) wrote x)
-      → ErrandRests controls s.now r (lives_in (actors_after due came (codes "clean")))
+  then_errands : (due : NeedData) (came : GotData) → IsCleaning due → (r : Queue) → ErrandRests s.now r true (cleans (event due came) wrote x)
+      → ErrandRests s.now r (lives_in (actors_after due came (codes "clean")))
       (link_by (actors_after due came (codes "sender")) (actors_after due came (codes "clean")) (pipework_after s.pipework name due came wrote))
   unfolding put_at
   then_errands due came it r E =
-      subst (ErrandRests controls s.now r true) (sym (link_after s.pipework (s.actors (codes "sender")) began past own due came wrote it)) E
+      subst (ErrandRests s.now r true) (sym (link_after s.pipework (s.actors (codes "sender")) began past own due came wrote it)) E
 
   -- what is no file call
 
@@ -297,23 +295,23 @@ module _ (controls : Controls) (s : State) (I : Inv controls s) (wrote : ℕ) (b
   no_unlink due next uncalled n row = subst (λ (z : Row). IsNoCall (due_at z place.name own.read)) row (subst IsNoCall (sym next) uncalled)
 
   piped : (due : NeedData) (came : GotData) → IsCleaning due → IsNoCall due → due_by place own.read ≡ due → IsOffered x.given due came
-      → ErrandRests controls s.now q true (cleans (event due came) wrote x) × CleanerStands controls s.now q (place_after (event due came ∷ past))
+      → ErrandRests s.now q true (cleans (event due came) wrote x) × CleanerStands s.now q (place_after (event due came ∷ past))
   piped due came it uncalled next from = (
-    cleaned_errands controls s.now q q x errands (event due came) wrote (cleans_keep errands.waits (event due came) wrote x errands.errand (sym next) from)
+    cleaned_errands s.now q q x errands (event due came) wrote (cleans_keep errands.waits (event due came) wrote x errands.errand (sym next) from)
         (record { closed = λ n far h. h; abouts = λ n far h. refl }) (λ n waits w h. h) (λ n row answered. absurd (no_unlink due next uncalled n row)),
-    cleaners_go_on.goes_on controls s.now q errands.waits x (event due came) errands.errand (errands.rests refl) (sym next) uncalled from,
+    cleaners_go_on.goes_on s.now q errands.waits x (event due came) errands.errand (errands.rests refl) (sym next) uncalled from,
   )
 
-  taken : (came : GotData) → due_by place own.read ≡ needs.Take port.Input → Yields (s.pipework.pipes name port.Input) came → Inv controls (then_state (needs.Take port.Input) came)
+  taken : (came : GotData) → due_by place own.read ≡ needs.Take port.Input → Yields (s.pipework.pipes name port.Input) came → Inv (then_state (needs.Take port.Input) came)
   taken came next comes =
       let it = piped (needs.Take port.Input) came tt tt next (offered (s.pipework.pipes name port.Input) came comes) in
-      moved_by controls s I name (cleaner began (event (needs.Take port.Input) came ∷ past)) (pipework_after s.pipework name (needs.Take port.Input) came wrote) refl it.1 goes tt (λ b d t h. inl h) refl
+      moved_by s I name (cleaner began (event (needs.Take port.Input) came ∷ past)) (pipework_after s.pipework name (needs.Take port.Input) came wrote) refl it.1 goes tt (λ b d t h. inl h) refl
       (then_errands (needs.Take port.Input) came tt q it.0)
 
-  given : (bytes : List ℕ) (came : GotData) → due_by place own.read ≡ needs.Give port.Output bytes → Inv controls (then_state (needs.Give port.Output bytes) came)
+  given : (bytes : List ℕ) (came : GotData) → due_by place own.read ≡ needs.Give port.Output bytes → Inv (then_state (needs.Give port.Output bytes) came)
   given bytes came next =
       let it = piped (needs.Give port.Output bytes) came tt tt next tt in
-      moved_by controls s I name (cleaner began (event (needs.Give port.Output bytes) came ∷ past)) (pipework_after s.pipework name (needs.Give port.Output bytes) came wrote) refl it.1 goes tt (λ b d t h. inl h) refl
+      moved_by s I name (cleaner began (event (needs.Give port.Output bytes) came ∷ past)) (pipework_after s.pipework name (needs.Give port.Output bytes) came wrote) refl it.1 goes tt (λ b d t h. inl h) refl
       (then_errands (needs.Give port.Output bytes) came tt q it.0)
 
   -- a file call
@@ -325,8 +323,8 @@ module _ (controls : Controls) (s : State) (I : Inv controls s) (wrote : ℕ) (b
     abbrev this : Own
     this = event (needs.File c) (got.Answered told)
 
-    leads : CleanerLeads controls s.now name q r place.row (place_after (this ∷ past))
-    leads = calls_keep controls s.now q name past own.read own.ready c told wrote I.sound stands no_later next fits
+    leads : CleanerLeads s.now name q r place.row (place_after (this ∷ past))
+    leads = calls_keep s.now q name past own.read own.ready c told wrote I.sound stands no_later next fits
 
     -- while the sender waits for the answer to `todo/n`, what is at work is that
     removes : (n : ℕ) → x.awaits ≡ Answer (Todo n) → IsWork place.row → RemovesTodo n c
@@ -355,18 +353,18 @@ module _ (controls : Controls) (s : State) (I : Inv controls s) (wrote : ℕ) (b
         row_left q r x errands.waits errands.errand leads.abouts learned (sender_after None events).row (sender_after None events).pass
         (sym (ap awaits_in (ap s.actors (sym named) ∙ there)))
 
-    called : Inv controls (then_state (needs.File c) (got.Answered told))
+    called : Inv (then_state (needs.File c) (got.Answered told))
     called =
-        led_keeps controls s I name r leads.number (number_at place.row) leads.elsewhere leads.spares
-        (others_spare.cleaners controls s.now q name past own.read own.ready c told wrote I.sound stands no_later next fits)
-        (controls_stay.but_pid q r leads.outside leads.old I.old) (drops_stay.tmp name q r (drops_stay.but_pid name q r leads.outside leads.old)) leads.sound I.bounces
+        led_keeps s I name r leads.number (number_at place.row) leads.elsewhere leads.spares
+        (others_spare.cleaners s.now q name past own.read own.ready c told wrote I.sound stands no_later next fits)
+        (drops_stay.tmp name q r (drops_stay.but_pid name q r leads.outside leads.old)) leads.sound I.bounces
         (λ o other since events there h. absurd (other (I.crew o (cleaner since events) there)))
         (λ o other since events there h. sender_left o since events there)
         (cleaner began (this ∷ past)) refl goes tt leads.stands
         (then_errands (needs.File c) (got.Answered told) tt r
-        (cleaned_errands controls s.now q r x errands this wrote (cleans_keep errands.waits this wrote x errands.errand (sym next) tt) leads.spares still_closed leads.done))
+        (cleaned_errands s.now q r x errands this wrote (cleans_keep errands.waits this wrote x errands.errand (sym next) tt) leads.spares still_closed leads.done))
 
-  came_of : (c : CallData) (came : GotData) → due_by place own.read ≡ needs.File c → own.read ≤ s.now → ComesOf s name (needs.File c) came wrote → Inv controls (then_state (needs.File c) came)
+  came_of : (c : CallData) (came : GotData) → due_by place own.read ≡ needs.File c → own.read ≤ s.now → ComesOf s name (needs.File c) came wrote → Inv (then_state (needs.File c) came)
   came_of c (got.Answered told) next no_later comes = called c told next comes.0 no_later
   came_of c (got.Took bytes) next no_later comes = absurd comes
   came_of c got.End next no_later comes = absurd comes
@@ -377,28 +375,28 @@ module _ (controls : Controls) (s : State) (I : Inv controls s) (wrote : ℕ) (b
   came_of c got.Failed next no_later comes = absurd comes
   came_of c got.Memory next no_later comes = absurd comes
 
-  by_due : (due : NeedData) → IsCleaning due → due_by place own.read ≡ due → own.read ≤ s.now → ComesOf s name due own.came wrote → Inv controls (then_state due own.came)
+  by_due : (due : NeedData) → IsCleaning due → due_by place own.read ≡ due → own.read ≤ s.now → ComesOf s name due own.came wrote → Inv (then_state due own.came)
   by_due (needs.File c) it next no_later comes = came_of c own.came next no_later comes
   by_due (needs.Take port.Input) it next no_later comes = taken own.came next comes
   by_due (needs.Give port.Output bytes) it next no_later comes = given bytes own.came next
   by_due (needs.Ended status) it next no_later comes = absurd comes
   by_due other it next no_later comes = absurd it
 
-  cleaner_event : due_by place own.read ≡ own.due → own.read ≤ s.now → ComesOf s name own.due own.came wrote → Inv controls (then_state own.due own.came)
+  cleaner_event : due_by place own.read ≡ own.due → own.read ≤ s.now → ComesOf s name own.due own.came wrote → Inv (then_state own.due own.came)
   cleaner_event next no_later comes = by_due own.due (subst IsCleaning next (cleaner_due place.row place.name own.read)) next no_later comes
 
-by_program : (controls : Controls) (s : State) (I : Inv controls s) (a : List ℕ) (wrote : ℕ) (program : Program) (past : List Own) (life : Life) (own : Own) → IsCleaner program
+by_program : (s : State) (I : Inv s) (a : List ℕ) (wrote : ℕ) (program : Program) (past : List Own) (life : Life) (own : Own) → IsCleaner program
     → IsNamed a program → life ≡ Alive → s.actors a ≡ Some (record { program = program; past = past; life = life }) → next_of program past own.read own.ready ≡ own.due → own.read ≤ s.now
-    → ComesOf s a own.due own.came wrote → Inv controls (acted s a own wrote (Some (record { program = program; past = past; life = life })))
-by_program controls s I a wrote (Cleaner began) past Alive own it named alive is due no_later comes =
-    subst (λ (b : List ℕ). Inv controls (acted s b own wrote (Some (cleaner began past)))) (sym named)
-    (cleaner_event controls s I wrote began past own (subst (λ (b : List ℕ). s.actors b ≡ Some (cleaner began past)) named is) due no_later
+    → ComesOf s a own.due own.came wrote → Inv (acted s a own wrote (Some (record { program = program; past = past; life = life })))
+by_program s I a wrote (Cleaner began) past Alive own it named alive is due no_later comes =
+    subst (λ (b : List ℕ). Inv (acted s b own wrote (Some (cleaner began past)))) (sym named)
+    (cleaner_event s I wrote began past own (subst (λ (b : List ℕ). s.actors b ≡ Some (cleaner began past)) named is) due no_later
     (subst (λ (b : List ℕ). ComesOf s b own.due own.came wrote) named comes))
-by_program controls s I a wrote (Cleaner began) past life own it named alive is due no_later comes = absurd (cc)
-by_program controls s I a wrote other past life own it named alive is due no_later comes = absurd it
+by_program s I a wrote (Cleaner began) past life own it named alive is due no_later comes = absurd (cc)
+by_program s I a wrote other past life own it named alive is due no_later comes = absurd it
 
 pub cleaners_keep : CleanersKeep
-cleaners_keep a own wrote controls s I may it =
+cleaners_keep a own wrote s I may it =
     let x = may.actor in
-    subst (λ (o : Option Actor). Inv controls (acted s a own wrote o)) (sym may.reads.is)
-    (by_program controls s I a wrote x.program x.past x.life own it (I.crew a x may.reads.is) may.reads.alive may.reads.is may.due may.reads.no_later may.came)
+    subst (λ (o : Option Actor). Inv (acted s a own wrote o)) (sym may.reads.is)
+    (by_program s I a wrote x.program x.past x.life own it (I.crew a x may.reads.is) may.reads.alive may.reads.is may.due may.reads.no_later may.came)

@@ -1,20 +1,18 @@
 -- An attempt in flight is for the recipient whose record stands at its place.
-use Rattle.std.proofs.Common.{◌≡◌, ⊎_elim, ℕ, ◌+◌, ◌<◌, ◌≤◌, List, [], ◌∷◌, ◌++◌, length, false, Option, Some, None, refl, sym, ap, ◌∙◌, subst, arith}
-use Rattle.std.specs.Prelude.{Contains, IfSome, flat_map}
+use Rattle.std.proofs.Common.{◌≡◌, ⊎_elim, ℕ, ◌+◌, ◌<◌, ◌≤◌, List, [], ◌∷◌, length, false, Option, Some, None, sym, ap, ◌∙◌, subst, arith}
+use Rattle.std.specs.Prelude.{Contains, IfSome}
 use Rattle.std.proofs.lemmas.Bool.{cases_lt}
-use Rattle.std.proofs.lemmas.List.{get_or_default, get_or_past, length-append}
-use Rattle.address_rules.specs.declared.controls.Controls.{Controls}
-use Rattle.address_rules.specs.Nuls.{HaveNoNul}
+use Rattle.std.proofs.lemmas.List.{get_or_default, get_or_past}
 use Rattle.call_fs.specs.Disk.{Among}
 use Rattle.program_law.specs.Channel.Files.{IsOpen}
 use Rattle.program_law.specs.Channel.Tied.{in_hand, is_slot_at}
 use Rattle.program_law.proofs.Channel.Counts.{contained_counts}
 use Rattle.program_law.proofs.Channel.Ties.{at_itself}
 use Rattle.envelope_records.specs.declared.channel.Record.{Record}
-use Rattle.envelope_records.specs.Records.{text_of}
-use Rattle.queue_law.specs.Books.{Injection}
+use Rattle.program_law.proofs.Channel.Passes.{Rises, rises}
+use Rattle.queue_law.specs.Books.{Injection, routed_in, spot_in}
 use Rattle.queue_law.specs.Numbers.{IsPreprocessed, Queue, Sound, about}
-use Rattle.queue_law.specs.Routes.{Recipient, routed, spot_of}
+use Rattle.queue_law.specs.Routes.{Recipient}
 use Rattle.queue_law.specs.Senders.{HasLane}
 use Rattle.queue_law.proofs.Readings.{records_are}
 use Rattle.queue_law.proofs.Sends.{lane_there, sorted_of_lane}
@@ -33,30 +31,6 @@ use Rattle.program_law.proofs.Sender.Others.{the_job}
 use Rattle.program_law.proofs.Sender.Texts.{they_are}
 
 -- Records of one file are at places of their own
-
-abbrev Rises : ℕ → List Record → Type 0
-Rises k [] = Unit {0}
-Rises k (r ∷ rs) = (k ≤ r.place) × Rises (r.place + 1) rs
-
-rises_from : (j k : ℕ) (rs : List Record) → j ≤ k → Rises k rs → Rises j rs
-rises_from j k [] le h = tt
-rises_from j k (r ∷ rs) le h = let low = h.0 in (omega (arith, low, le), h.1)
-
-abbrev Placed : ℕ → List Record → Type 0
-Placed k rs = (before rest : List Record) (it : Record) → rs ≡ before ++ it ∷ rest → it.place ≡ k + length (flat_map text_of before)
-
-placed_tail : (k : ℕ) (r : Record) (rs : List Record) → Placed k (r ∷ rs) → Placed (k + length (text_of r)) rs
-placed_tail k r rs h before rest it e =
-    let w = h (r ∷ before) rest it (ap (λ t. r ∷ t) e) in
-    let sum = length-append (text_of r) (flat_map text_of before) in
-    omega arith
-
-rises : (k : ℕ) (rs : List Record) → Placed k rs → Rises k rs
-rises k [] h = tt
-rises k (r ∷ rs) h =
-    let here = h [] rs r refl in
-    let long : 1 ≤ length (text_of r) = omega (arith, length-append r.address (0 ∷ [])) in
-    (omega arith, rises_from (r.place + 1) (k + length (text_of r)) rs (omega arith) (rises (k + length (text_of r)) rs (placed_tail k r rs h)))
 
 above : (k : ℕ) (rs : List Record) (x : Record) → Rises k rs → Among x rs → k ≤ x.place
 above k [] x h among = absurd among
@@ -91,7 +65,7 @@ inside slots slot a there = ⊎_elim
 pub in_slot : (slots : List (Option Attempt)) (slot : ℕ) (a : Attempt) → attempt_in slots slot ≡ Some a → Contains slots (Some a)
 in_slot slots slot a there = (slot, inside slots slot a there, get_or_default slots slot (Some a) None (inside slots slot a there) ∙ there)
 
-module _ (controls : Controls) (q : Queue) (row : Row) (ch : Channel) (s : Slots) (none : HaveNoNul controls) (G : Sound controls q) (h : LaneStands q row ch s)
+module _ (q : Queue) (row : Row) (ch : Channel) (s : Slots) (G : Sound q) (h : LaneStands q row ch s)
     (slot : ℕ) (a : Attempt) (there : attempt_in (lane ch s).slots slot ≡ Some a) where
   pub flies : Serves (about q a.n) ch
   flies =
@@ -100,21 +74,21 @@ module _ (controls : Controls) (q : Queue) (row : Row) (ch : Channel) (s : Slots
       let job = the_job (job_of a.n (lane ch s).jobs) (h.tied.owned a.n a.place held) in
       h.jobs a.n job.0 job.1
 
-  pub routed_there : (i : Injection) → q.books.living a.n ≡ Some i → (r : Recipient i.args) → (spot_of controls i.args r).channel ≡ ch → (spot_of controls i.args r).place ≡ a.place
-      → a.address ≡ routed controls i.args r
+  pub routed_there : (i : Injection) → q.books.living a.n ≡ Some i → (r : Recipient i.args) → (spot_in i r).channel ≡ ch → (spot_in i r).place ≡ a.place
+      → a.address ≡ routed_in i r
   routed_there i lives r on same_place =
       let unmarked : IsOpen (files_of q ch) a = subst (λ o. IfSome o (IsOpen (files_of q ch))) there (h.tied.in_flight slot None (inside (lane ch s).slots slot a there)) in
       let filed : HasLane (about q a.n) ch = record { no_todo = flies.sorted.no_todo; file = flies.file; there = flies.there; injection = i; lives = lives } in
-      let pre : IsPreprocessed controls (about q a.n) = sorted_of_lane controls (about q a.n) ch (G.fine a.n) filed in
+      let pre : IsPreprocessed (about q a.n) = sorted_of_lane (about q a.n) ch (G.fine a.n) filed in
       let both : ◌≡◌ {A = Option Injection} (Some pre.taken.injection) (Some i) = sym pre.taken.lives ∙ lives in
       let same : pre.taken.injection ≡ i = cc in
-      let marked = lane_there controls (about q a.n) pre.taken.injection ch flies.file flies.there (pre.lanes ch) in
+      let marked = lane_there (about q a.n) pre.taken.injection ch flies.file flies.there (pre.lanes ch) in
       let read = sym (ap records_at flies.there) ∙ unmarked.there in
       let are = they_are flies.file.file.bytes unmarked.records read in
-      let of = records_are controls pre.taken.injection ch flies.file.file.bytes unmarked.records none pre.taken.valid pre.taken.spots marked.present are in
+      let of = records_are pre.taken.injection ch flies.file.file.bytes unmarked.records pre.no_nul pre.taken.valid pre.taken.spots marked.present are in
       let it : Record = record { done = false; place = a.place; address = a.address } in
-      let found : (z : Recipient pre.taken.injection.args) → (spot_of controls pre.taken.injection.args z).channel ≡ ch → (spot_of controls pre.taken.injection.args z).place ≡ a.place
-      → a.address ≡ routed controls pre.taken.injection.args z =
+      let found : (z : Recipient pre.taken.injection.args) → (spot_in pre.taken.injection z).channel ≡ ch → (spot_in pre.taken.injection z).place ≡ a.place
+      → a.address ≡ routed_in pre.taken.injection z =
       λ z at_channel at_place.
       let one = of.all z at_channel in
       let one_is : it ≡ one.0 =
@@ -122,5 +96,5 @@ module _ (controls : Controls) (q : Queue) (row : Row) (ch : Channel) (s : Slots
       (sym at_place ∙ sym one.2.place_is) in
       ap (λ (x : Record). x.address) one_is ∙ one.2.address_is in
       subst
-      (λ (j : Injection). (z : Recipient j.args) → (spot_of controls j.args z).channel ≡ ch → (spot_of controls j.args z).place ≡ a.place → a.address ≡ routed controls j.args z)
+      (λ (j : Injection). (z : Recipient j.args) → (spot_in j z).channel ≡ ch → (spot_in j z).place ≡ a.place → a.address ≡ routed_in j z)
       same found r on same_place

@@ -1,18 +1,15 @@
 -- Of each local recipient that is accounted for as delivered a delivery for its address has ended with 0, and took the message as entered.
-use Rattle.std.proofs.Common.{◌≡◌, ◌≢◌, ◌⊎◌, inl, inr, ⊎_elim, ℕ, List, [], ◌∷◌, ◌++◌, true, ◌&&◌, option_map, Option, Some, None, refl, sym, ap, ◌∙◌, subst, codes}
+use Rattle.std.proofs.Common.{◌≡◌, ◌≢◌, ◌⊎◌, inl, inr, ⊎_elim, ℕ, List, [], ◌∷◌, ◌++◌, true, ◌&&◌, option_map, Option, Some, None, refl, sym, ap, ◌∙◌, subst, codes, arith, ◌≤◌}
 use Rattle.std.specs.Prelude.{Contains}
 use Rattle.address_rules.specs.declared.controls.Controls.{Controls}
 use Rattle.call_fs.specs.Disk.{Among, Disk}
 use Rattle.call_fs.proofs.Maps.{put_at_other}
-use Rattle.call_fs.specs.declared.calls.CallData.{CallData}
-use Rattle.call_fs.specs.declared.calls.Told.{Told}
 use Rattle.call_fs.specs.declared.past.GotData.{GotData}
 use Rattle.call_fs.specs.declared.past.GotData.TheVariants as got
 use Rattle.call_fs.specs.declared.past.NeedData.{NeedData}
 use Rattle.call_fs.specs.declared.past.NeedData.TheVariants as needs
 use Rattle.call_fs.specs.declared.past.Own.{Own}
 use Rattle.call_fs.specs.declared.program.Port.TheVariants as port
-use Rattle.call_fs.specs.declared.program.Ready.{Ready}
 use Rattle.actor_names.specs.MailNames.{members}
 use Rattle.call_fs.specs.Past.{taken}
 use Rattle.local_parts.specs.Inputs.{message_in}
@@ -20,8 +17,8 @@ use Rattle.program_law.specs.Post.Posts.{Done, Task}
 use Rattle.program_law.specs.Post.Senders.{is_on}
 use Rattle.queue_inject.specs.declared.injection.Arguments.{Arguments}
 use Rattle.queue_inject.specs.Texts.{entered}
-use Rattle.queue_law.specs.Books.{Books, Child as Bouncer, Injection, IsInjected}
-use Rattle.queue_law.specs.Ledgers.{Spot}
+use Rattle.queue_law.specs.Books.{Injection, IsInjected, routed_in, spot_in}
+use Rattle.queue_law.specs.Ledgers.{Spot, Ledger}
 use Rattle.queue_law.specs.Numbers.{Queue}
 use Rattle.queue_law.specs.Routes.{Recipient, routed, spot_of}
 use Rattle.send_core.specs.declared.desk.Desk.{Desk}
@@ -30,7 +27,7 @@ use Rattle.send_parts.specs.declared.row.Row.TheVariants as at
 use Rattle.send_core.specs.Booked.{booked_at, reported_when}
 use Rattle.send_core.specs.Desk.{link, with_reader}
 use Rattle.send_core.specs.Table.{place_after as sender_after, due_at, row_now}
-use Rattle.send_jobs.specs.Bookings.Booking.{Reported}
+use Rattle.send_jobs.specs.Bookings.Booking.{Reported, Routed}
 use Rattle.send_known.specs.declared.channel.Channel.{Channel}
 use Rattle.send_known.specs.declared.channel.Channel.TheVariants.{Local}
 use Rattle.send_jobs.specs.Sending.{lane}
@@ -38,12 +35,13 @@ use Rattle.send_jobs.specs.Slots.{attempt_in}
 use Rattle.send_parts.specs.declared.reply.Way.{Way}
 use Rattle.send_parts.specs.declared.reply.Way.TheVariants as way
 use Rattle.send_parts.specs.Replies.{said}
-use Rattle.program_law.specs.Sender.Control.{AreControls}
 use Rattle.spawn_protocol.specs.Report.{read_on}
+use Rattle.program_law.specs.Sender.Rows.{RowStands, works}
+use Rattle.todo_pass.specs.declared.row.Row.{Row as PassRow}
 use Rattle.world_pipes.specs.Pipework.{Pipe, Yields}
 use Rattle.world_events.specs.declared.event.Program.{Program}
-use Rattle.world_events.specs.declared.event.Program.TheVariants.{Injector, Sender}
-use Rattle.mail_world.specs.History.{Actor, Allowed, ComesOf, Event, Legal, Life, MayDo, State, acted, after, bears, books_after, bouncer_of, cut_off, finished, happens, newborn, next_of, stopped, told_by}
+use Rattle.world_events.specs.declared.event.Program.TheVariants.{Sender}
+use Rattle.mail_world.specs.History.{Actor, Allowed, ComesOf, Event, Legal, Life, State, acted, after, bears, cut_off, finished, happens, newborn, next_of, stopped}
 use Rattle.mail_world.specs.History.Event.{Start, Act, Child, Generation, Report, End, Stop, Moment, Halt}
 use Rattle.mail_world.specs.History.Life.{Alive, Over, Stopped}
 use Rattle.mail_world.specs.Untouched.{queue}
@@ -54,9 +52,8 @@ use Rattle.world_law.specs.Deliveries.{IsCarriedOut}
 use Rattle.world_law.specs.Headline.{EndsWell}
 use Rattle.world_law.specs.inside.Posts.{IsDeliveryFor, PostsStand, WasDone, desk_in, sends_in}
 use Rattle.world_law.proofs.Born.{IsBorn}
-use Rattle.world_law.proofs.Columns.{IsLiving}
 use Rattle.world_law.proofs.Delivered.{routed_there}
-use Rattle.world_law.proofs.DeliveredBooks.{HasDelivered, IsAmongThem, IsSaid, all_channel, all_delivered, call_delivered, said_at, said_heard}
+use Rattle.world_law.proofs.DeliveredBooks.{IsSaid, all_channel, said_at, said_heard}
 use Rattle.world_law.proofs.Entered.{given_in, messages_always, took_entered}
 use Rattle.world_law.proofs.EnteredStands.{MessagesStand, sends_on}
 use Rattle.world_law.proofs.Histories.{always}
@@ -67,6 +64,15 @@ use Rattle.world_law.proofs.Tenants.{some_actor}
 use Rattle.mail_world.proofs.Members.{crew_other}
 use Rattle.call_fs.specs.Maps.{put_at}
 use Rattle.world_law.proofs.SendersPut.{sender}
+use Rattle.queue_law.specs.Ledgers.Line.{Delivers}
+use Rattle.program_law.specs.Sender.Stands.{StandsAt}
+use Rattle.todo_pass.specs.Disks.{HoldsTodo}
+use Rattle.program_law.specs.Sender.InTodo.{PassGoesOn, TodoStands}
+use Rattle.program_law.proofs.Sender.Arrive.{arrived}
+use Rattle.send_runs.proofs.Entries.{given_at}
+use Rattle.world_law.specs.Lives.{begun_in}
+use Rattle.world_law.proofs.Lives.{HasLine, IsNew, IsOf, KeepsRoutes, Was, controls_in, entries_by, entries_in, entries_of, event_goes}
+use Rattle.send_jobs.specs.Bookings.{Booking}
 
 -- Who has ended with 0 stays as it is
 
@@ -123,8 +129,8 @@ pub record IsDoneFor (s : State) (of : Arguments) (address : List ℕ) : Type 0 
   pub recipient : task.recipient ≡ address
   pub took : message_in (taken is_for.delivery.past) ≡ Some (entered of)
 
-done_keeps : (e : Event) (controls : Controls) (s : State) → Inv controls s → Allowed s e → (of : Arguments) (address : List ℕ) → IsDoneFor s of address → IsDoneFor (happens s e) of address
-done_keeps e controls s I may of address h = record {
+done_keeps : (e : Event) (s : State) → Inv s → Allowed s e → (of : Arguments) (address : List ℕ) → IsDoneFor s of address → IsDoneFor (happens s e) of address
+done_keeps e s I may of address h = record {
   task = h.task;
   is_for = record {
     delivery = h.is_for.delivery;
@@ -140,30 +146,6 @@ done_keeps e controls s I may of address h = record {
   recipient = h.recipient;
   took = h.took;
 }
-
--- What an event enters
-
--- a sender tells of it with this event
-abbrev pub IsSaidBy : Program → List Own → ℕ → Ready → GotData → Books → Arguments → Spot → Type 0
-IsSaidBy (Sender since) past read ready came b of x = let d = sender_after None past in IsAmongThem (booked_at (row_now d read ready) came d) b of x
-IsSaidBy program past read ready came b of x = ⊥
-
-taken_back : (child : Option Bouncer) (b : Books) (program : Program) (past : List Own) (read : ℕ) (ready : Ready) (came : GotData) (of : Arguments) (x : Spot)
-    → HasDelivered (told_by child b program past read ready came) of x → HasDelivered b of x ⊎ IsSaidBy program past read ready came b of x
-taken_back child b (Sender since) past read ready came of x h = let d = sender_after None past in all_delivered child (booked_at (row_now d read ready) came d) b of x h
-taken_back child b other past read ready came of x h = inl h
-
-called_back : (child : Option Bouncer) (b : Books) (a : List ℕ) (program : Program) (past : List Own) (read : ℕ) (ready : Ready) (call : CallData) (told : Told) (of : Arguments) (x : Spot)
-    → HasDelivered (books_after child b a program past read ready (needs.File call) (got.Answered told)) of x → HasDelivered b of x ⊎ IsSaidBy program past read ready (got.Answered told) b of x
-called_back child b a (Injector args) past read ready call told of x h = inl (call_delivered b a args of call told.answer x h)
-called_back child b a (Sender since) past read ready call told of x h = taken_back child b (Sender since) past read ready (got.Answered told) of x h
-called_back child b a other past read ready call told of x h = inl h
-
-pub books_back : (child : Option Bouncer) (b : Books) (a : List ℕ) (program : Program) (past : List Own) (read : ℕ) (ready : Ready) (due : NeedData) (came : GotData) (of : Arguments) (x : Spot)
-    → HasDelivered (books_after child b a program past read ready due came) of x → HasDelivered b of x ⊎ IsSaidBy program past read ready came b of x
-books_back child b a program past read ready (needs.File call) (got.Answered told) of x h = called_back child b a program past read ready call told of x h
-books_back child b a program past read ready (needs.Take from) came of x h = taken_back child b program past read ready came of x h
-books_back child b a program past read ready due came of x h = inl h
 
 -- A local recipient that is reported now
 
@@ -182,14 +164,14 @@ some_injection : (x y : Injection) → ◌≡◌ {A = Option Injection} (Some x)
 some_injection x y e = cc
 
 -- what a delivery took that ended with 0 is a message
-pub took_message : (controls : Controls) (s : State) → Inv controls s → (x : Done) (was : WasDone s x) → (m : List ℕ) × (message_in (taken was.is_for.delivery.past) ≡ Some m)
-took_message controls s I x was =
+pub took_message : (s : State) → Inv s → (x : Done) (was : WasDone s x) → (m : List ℕ) × (message_in (taken was.is_for.delivery.past) ≡ Some m)
+took_message s I x was =
     let it : EndsWell s.books x.task.name was.is_for.delivery.program was.is_for.delivery.past =
-    end_well controls s I x.task.name was.is_for.delivery was.is_for.is was.over in
+    end_well s I x.task.name was.is_for.delivery was.is_for.is was.over in
     let carried : IsCarriedOut s.books was.is_for.args was.is_for.delivery.past = subst (λ (z : Program). EndsWell s.books x.task.name z was.is_for.delivery.past) was.is_for.program it in
     (carried.carried.message, carried.carried.input)
 
-module _ (B : ℕ → List ℕ → Type 0) (controls : Controls) (s : State) (I : Inv controls s) (M : MessagesStand B s) (own : Own) (wrote began : ℕ) (past : List Own) (is : s.actors (codes "sender") ≡ Some (sender began past))
+module _ (B : ℕ → List ℕ → Type 0) (s : State) (I : Inv s) (M : MessagesStand B s) (own : Own) (wrote began : ℕ) (past : List Own) (is : s.actors (codes "sender") ≡ Some (sender began past)) (soon : own.read ≤ s.now)
     (due : due_at (row_now (sender_after None past) own.read own.ready) (sender_after None past) ≡ own.due) (comes : ComesOf s (codes "sender") own.due own.came wrote) where
   abbrev P : PostsStand s
   P = M.posts
@@ -203,47 +185,47 @@ module _ (B : ℕ → List ℕ → Type 0) (controls : Controls) (s : State) (I 
   abbrev q : Queue
   q = queue s I.role
 
-  module _ (of : Arguments) (r : Recipient of) (n : ℕ) (living : IsLiving s.books n of) where
+  module _ (i : Injection) (r : Recipient i.args) (n : ℕ) (lives : s.books.living n ≡ Some i) where
     abbrev spot : Spot
-    spot = spot_of controls of r
+    spot = spot_in i r
+
+    abbrev IsDone : Type 0
+    IsDone = IsDoneFor s i.args (routed_in i r)
 
     -- the slots that the state shows
     shown : (slot : ℕ) → attempt_in (lane Local (desk_in (s.actors (codes "sender"))).slots).slots slot ≡ attempt_in (lane Local d.slots).slots slot
     shown slot = ap (λ (o : Option Actor). attempt_in (lane Local (desk_in o).slots).slots slot) is
 
-    of_said : sends_on s ≡ true → spot.channel ≡ Local → IsSaid P.done (lane Local d.slots).slots n spot.place → IsDoneFor s of (routed controls of r)
+    of_said : sends_on s ≡ true → spot.channel ≡ Local → IsSaid P.done (lane Local d.slots).slots n spot.place → IsDone
     of_said on here z =
-        let number : s.books.living z.attempt.n ≡ Some living.0 = ap s.books.living (sym z.number_is) ∙ living.1 in
-        let there =
-        routed_there controls q d.row Local d.slots I.control.no_nul I.sound ((I.fares (codes "sender") (sender began past) is).stands.lanes Local) z.slot z.attempt z.flies living.0 number in
-        let address : z.attempt.address ≡ routed controls of r =
-        subst (λ (args : Arguments). (y : Recipient args) → (spot_of controls args y).channel ≡ Local → (spot_of controls args y).place ≡ z.attempt.place → z.attempt.address ≡ routed controls args y)
-        living.2 there r here z.place_is in
+        let number : s.books.living z.attempt.n ≡ Some i = ap s.books.living (sym z.number_is) ∙ lives in
+        let address : z.attempt.address ≡ routed_in i r =
+        routed_there q d.row Local d.slots I.sound ((I.fares (codes "sender") (sender began past) is).stands.lanes Local) z.slot z.attempt z.flies i number r here z.place_is in
         let was = P.was z.it z.among in
         let flies = shown z.it.slot ∙ ap (attempt_in (lane Local d.slots).slots) z.slot_is ∙ z.flies in
-        let given = given_in B controls s I M on z.it z.attempt flies ((M.done on).was z.it z.among) in
-        let w = took_message controls s I z.it was in
-        let it = took_entered B controls s I M on z.it was z.attempt.n given w.0 w.1 in
-        let same : it.injection ≡ living.0 = some_injection it.injection living.0 (sym it.lives ∙ number) in
+        let given = given_in B s I M on z.it z.attempt flies ((M.done on).was z.it z.among) in
+        let w = took_message s I z.it was in
+        let it = took_entered B s I M on z.it was z.attempt.n given w.0 w.1 in
+        let same : it.injection ≡ i = some_injection it.injection i (sym it.lives ∙ number) in
         record {
           task = z.it.task;
           is_for = was.is_for;
           over = was.over;
           recipient = z.recipient_is ∙ address;
-          took = w.1 ∙ ap Some (it.text ∙ ap entered (ap (λ (i : Injection). i.args) same ∙ living.2));
+          took = w.1 ∙ ap Some (it.text ∙ ap entered (ap (λ (y : Injection). y.args) same));
         }
 
     of_local : spot.channel ≡ Local → row ≡ at.TakeLink Local → Among (Reported true Local n spot.place) (reported_when (said own.came).way Local (said own.came).bytes d)
-        → IsDoneFor s of (routed controls of r)
+        → IsDone
     of_local here at_link h =
         let taking : needs.Take port.Lspawn ≡ own.due = ap (λ (z : Row). due_at z d) (sym at_link) ∙ due in
         let w = when_local own.came (s.pipework.pipes (codes "sender") port.Lspawn) d n spot.place (subst (λ (z : NeedData). ComesOf s (codes "sender") z own.came wrote) (sym taking) comes) h in
         let it = read_on (link Local d).reader w.0 in
-        let heard = link_hears controls s I P own began past is w.0 w.1 w.2 w.3 at_link in
+        let heard = link_hears s I P own began past is w.0 w.1 w.2 w.3 at_link in
         let on : sends_on s ≡ true = ap (λ (o : Option Actor). sends_in o && is_on (desk_in o).row) is ∙ link_on d.row d own.read own.ready at_link in
         of_said on here (said_heard P.done n spot.place it.0 (lane Local d.slots).slots (with_reader Local it.1 d) refl heard w.4)
 
-    said_now : spot.channel ≡ Local → Among (Reported true spot.channel n spot.place) (booked_at row own.came d) → IsDoneFor s of (routed controls of r)
+    said_now : spot.channel ≡ Local → Among (Reported true spot.channel n spot.place) (booked_at row own.came d) → IsDone
     said_now on h =
         let w = said_at row own.came d true spot.channel n spot.place h in
         let same : w.0 ≡ Local = sym (when_channel (said own.came).way w.0 (said own.came).bytes d spot.channel n spot.place w.2) ∙ on in
@@ -251,66 +233,121 @@ module _ (B : ℕ → List ℕ → Type 0) (controls : Controls) (s : State) (I 
         (subst (λ (c : Channel). Among (Reported true c n spot.place) (reported_when (said own.came).way Local (said own.came).bytes d)) on
         (subst (λ (e : Channel). Among (Reported true spot.channel n spot.place) (reported_when (said own.came).way e (said own.came).bytes d)) same w.2))
 
+  -- it isn't routed now if it was delivered to
+  not_routed : (i : Injection) (n : ℕ) (x : Spot) → s.books.living n ≡ Some i → Among (Routed n) (booked_at row own.came d)
+      → Among x i.ledger.delivered ⊎ Among (Reported true x.channel n x.place) (booked_at row own.came d) → ⊥
+  not_routed i n x lives routes has =
+      let g = given_at row own.came d n routes in
+      let here : StandsAt s.now q (codes "sender") row d =
+      arrived s.now own.read q (codes "sender") soon (let m = I.moment in omega (arith, m, soon)) d own.ready (I.fares (codes "sender") (sender began past) is).stands in
+      let goes : TodoStands d.book.controls s.now q (codes "sender") d.pass.row d.pass =
+      (subst (λ (z : Row). RowStands s.now q (codes "sender") z d.book d.slots (works d)) g.row_is here.rests).1.1 in
+      let pass : PassGoesOn d.book.controls s.now q (codes "sender") d.pass = subst (λ (z : PassRow). TodoStands d.book.controls s.now q (codes "sender") z d.pass) g.gives goes in
+      let queued = (pass.stands.rests (subst HoldsTodo (sym g.gives) tt)).rest in
+      let same : queued.taken.injection ≡ i = some_injection queued.taken.injection i (sym queued.taken.lives ∙ ap s.books.living (sym g.number_is) ∙ lives) in
+      let fresh : i.ledger.delivered ≡ [] = ap (λ (y : Injection). y.ledger.delivered) (sym same) ∙ ap (λ (l : Ledger). l.delivered) queued.fresh in
+      ⊎_elim
+      (λ (old : Among x i.ledger.delivered). subst (Among x) fresh old)
+      (λ (new : Among (Reported true x.channel n x.place) (booked_at row own.came d)).
+      let w = said_at row own.came d true x.channel n x.place new in let both : at.InTodo ≡ at.TakeLink w.0 = sym g.row_is ∙ w.1 in absurd (cc))
+      has
+
 -- The invariant: each local recipient that a ledger has as delivered has such a delivery.
-abbrev DeliveredStand : Controls → State → Type 0
-DeliveredStand controls s = (of : Arguments) (r : Recipient of) → (spot_of controls of r).channel ≡ Local → HasDelivered s.books of (spot_of controls of r) → IsDoneFor s of (routed controls of r)
+abbrev DeliveredStand : State → Type 0
+DeliveredStand s = (i : Injection) → IsKept s.books i → (r : Recipient i.args) → (spot_in i r).channel ≡ Local → Among (spot_in i r) i.ledger.delivered → IsDoneFor s i.args (routed_in i r)
 
--- by whom it is told
-said_by : (B : ℕ → List ℕ → Type 0) (controls : Controls) (s : State) (I : Inv controls s) → MessagesStand B s → (a : List ℕ) (own : Own) (wrote : ℕ) (program : Program) (past : List Own) (life : Life)
-    → life ≡ Alive → IsNamed a program → s.actors a ≡ Some (record { program = program; past = past; life = life })
+-- it is delivered to, or told of with this event
+abbrev HasOrSaid : Injection → List Booking → ℕ → Spot → Type 0
+HasOrSaid i es n x = Among x i.ledger.delivered ⊎ Among (Reported true x.channel n x.place) es
+
+-- so it is of each that is told of, and such a message isn't routed
+record IsTold (s : State) (es : List Booking) (i : Injection) (n : ℕ) : Type 0 where
+  said : (r : Recipient i.args) → (spot_in i r).channel ≡ Local → Among (Reported true (spot_in i r).channel n (spot_in i r).place) es → IsDoneFor s i.args (routed_in i r)
+  unrouted : (x : Spot) → Among (Routed n) es → HasOrSaid i es n x → ⊥
+
+told_none : (s : State) (i : Injection) (n : ℕ) → IsTold s [] i n
+told_none s i n = record { said = λ r on none. absurd none; unrouted = λ x none has. none }
+
+entered_by : (B : ℕ → List ℕ → Type 0) (s : State) (I : Inv s) → MessagesStand B s → (a : List ℕ) (own : Own) (wrote : ℕ) (program : Program) (past : List Own) (life : Life)
+    → life ≡ Alive → IsNamed a program → s.actors a ≡ Some (record { program = program; past = past; life = life }) → own.read ≤ s.now
     → next_of program past own.read own.ready ≡ own.due → ComesOf s a own.due own.came wrote
-    → (of : Arguments) (r : Recipient of) → (spot_of controls of r).channel ≡ Local → IsSaidBy program past own.read own.ready own.came s.books of (spot_of controls of r)
-    → IsDoneFor s of (routed controls of r)
-said_by B controls s I M a own wrote (Sender since) past Alive alive named is due comes of r on said =
-    said_now B controls s I M own wrote since past (subst (λ (b : List ℕ). s.actors b ≡ Some (sender since past)) named is) due
-    (subst (λ (b : List ℕ). ComesOf s b own.due own.came wrote) named comes) of r said.0 said.2 on said.1
-said_by B controls s I M a own wrote (Sender since) past life alive named is due comes of r on said = absurd (cc)
-said_by B controls s I M a own wrote program past life alive named is due comes of r on said = absurd said
+    → (i : Injection) (n : ℕ) → s.books.living n ≡ Some i → IsTold s (entries_by program past own.read own.ready own.came) i n
+entered_by B s I M a own wrote (Sender since) past Alive alive named is soon due comes i n lives =
+    let there = subst (λ (b : List ℕ). s.actors b ≡ Some (sender since past)) named is in
+    let came = subst (λ (b : List ℕ). ComesOf s b own.due own.came wrote) named comes in
+    record {
+      said = λ r on said. said_now B s I M own wrote since past there soon due came i r n lives on said;
+      unrouted = λ x routes has. not_routed B s I M own wrote since past there soon due came i n x lives routes has;
+    }
+entered_by B s I M a own wrote (Sender since) past life alive named is soon due comes i n lives = absurd (cc)
+entered_by B s I M a own wrote program past life alive named is soon due comes i n lives = told_none s i n
 
-act_done : (B : ℕ → List ℕ → Type 0) (controls : Controls) (s : State) (I : Inv controls s) → MessagesStand B s → DeliveredStand controls s → (a : List ℕ) (own : Own) (wrote : ℕ) (may : MayDo s a own wrote)
-    → (of : Arguments) (r : Recipient of) → (spot_of controls of r).channel ≡ Local
-    → HasDelivered (acted s a own wrote (Some may.actor)).books of (spot_of controls of r) → IsDoneFor s of (routed controls of r)
-act_done B controls s I M D a own wrote may of r on h =
+event_told : (B : ℕ → List ℕ → Type 0) (e : Event) (s : State) (I : Inv s) → MessagesStand B s → Allowed s e → (i : Injection) (n : ℕ) → s.books.living n ≡ Some i → IsTold s (entries_in s e) i n
+event_told B (Act a own wrote) s I M may i n lives =
     let x = may.actor in
-    ⊎_elim
-    (λ (old : HasDelivered s.books of (spot_of controls of r)). D of r on old)
-    (λ (new : IsSaidBy x.program x.past own.read own.ready own.came s.books of (spot_of controls of r)).
-    said_by B controls s I M a own wrote x.program x.past x.life may.reads.alive (I.crew a x may.reads.is) may.reads.is may.due may.came of r on new)
-    (books_back (bouncer_of s a) s.books a x.program x.past own.read own.ready own.due own.came of (spot_of controls of r) h)
+    subst (λ (o : Option Actor). IsTold s (entries_of o own) i n) (sym may.reads.is)
+    (entered_by B s I M a own wrote x.program x.past x.life may.reads.alive (I.crew a x may.reads.is) may.reads.is may.reads.no_later may.due may.came i n lives)
+event_told B e s I M may i n lives = told_none s i n
 
 -- what holds of the state before holds of the one after
-event_done : (B : ℕ → List ℕ → Type 0) (e : Event) (controls : Controls) (s : State) (I : Inv controls s) → MessagesStand B s → DeliveredStand controls s → Allowed s e → (of : Arguments) (r : Recipient of)
-    → (spot_of controls of r).channel ≡ Local → HasDelivered (happens s e).books of (spot_of controls of r) → IsDoneFor s of (routed controls of r)
-event_done B (Act a own wrote) controls s I M D may of r on h =
-    act_done B controls s I M D a own wrote may of r on (subst (λ (o : Option Actor). HasDelivered (acted s a own wrote o).books of (spot_of controls of r)) may.reads.is h)
-event_done B (Child parent own a program) controls s I M D may of r on h =
-    let x = may.actor in
-    let same : (acted s parent own 0 (Some x)).books ≡ s.books = λ i. books_after (bouncer_of s parent) s.books parent x.program x.past own.read own.ready (may.starts i) own.came in
-    let there = subst (λ (o : Option Actor). HasDelivered (acted s parent own 0 o).books of (spot_of controls of r)) may.reads.is h in
-    D of r on (subst (λ (b : Books). HasDelivered b of (spot_of controls of r)) same there)
-event_done B (Start a program) controls s I M D may of r on h = D of r on h
-event_done B (Generation crew) controls s I M D may of r on h = D of r on h
-event_done B (Report slot output) controls s I M D may of r on h = D of r on h
-event_done B (End a read ready status) controls s I M D may of r on h =
-    D of r on (subst (λ (o : Option Actor). HasDelivered (finished s a (Over status) o).books of (spot_of controls of r)) may.reads.is h)
-event_done B (Stop a) controls s I M D may of r on h = D of r on (subst (λ (o : Option Actor). HasDelivered (finished s a Stopped o).books of (spot_of controls of r)) may.is h)
-event_done B (Moment m) controls s I M D may of r on h = D of r on h
-event_done B (Halt how contents) controls s I M D may of r on h = D of r on h
+module _ (B : ℕ → List ℕ → Type 0) (e : Event) (s : State) (I : Inv s) (M : MessagesStand B s) (D : DeliveredStand s) (may : Allowed s e) where
+  abbrev es : List Booking
+  es = entries_in s e
 
-delivered_always : (controls : Controls) (d : Disk) (before : List Event) → AreControls controls d → Legal d before → DeliveredStand controls (after d before)
-delivered_always controls d [] has legal of r on h = ⊎_elim
-    (λ (w : (n : ℕ) × (◌≡◌ {A = Option Injection} None (Some h.0))). absurd (cc w.1))
+  -- of one whose life lasts, by what it was before
+  module _ (i j : Injection) (n : ℕ) (lives : s.books.living n ≡ Some i) (args_are : j.args ≡ i.args) where
+    T : IsTold s es i n
+    T = event_told B e s I M may i n lives
+
+    abbrev DoneBy : Controls → Arguments → Type 0
+    DoneBy routes args = (r : Recipient args) → (spot_of routes args r).channel ≡ Local → HasOrSaid i es n (spot_of routes args r) → IsDoneFor s args (routed routes args r)
+
+    before : DoneBy i.ledger.routes i.args
+    before r on has = ⊎_elim
+        (λ (old : Among (spot_in i r) i.ledger.delivered). D i (inl (n, lives)) r on old)
+        (λ (new : Among (Reported true (spot_in i r).channel n (spot_in i r).place) es). T.said r on new)
+        has
+
+    done_now : KeepsRoutes (controls_in s e) es n i j → (r : Recipient j.args) → (spot_in j r).channel ≡ Local → HasOrSaid i es n (spot_in j r) → IsDoneFor s j.args (routed_in j r)
+    done_now routes r on has = ⊎_elim
+        (λ (same : j.ledger.routes ≡ i.ledger.routes).
+        subst (λ (c : Controls). DoneBy c j.args) (sym same) (subst (DoneBy i.ledger.routes) (sym args_are) before) r on has)
+        (λ (routed : Among (Routed n) es × (j.ledger.routes ≡ controls_in s e)). absurd (T.unrouted (spot_in j r) routed.0 has))
+        routes
+
+  event_done : (j : Injection) → IsKept (happens s e).books j → (r : Recipient j.args) → (spot_in j r).channel ≡ Local → Among (spot_in j r) j.ledger.delivered → IsDoneFor s j.args (routed_in j r)
+  event_done j kept r on among =
+      let G = event_goes s e may in
+      ⊎_elim
+      (λ (living : (n : ℕ) × ((happens s e).books.living n ≡ Some j)). ⊎_elim
+      (λ (new : IsNew (begun_in s e) living.0 j). absurd (subst (λ (l : Ledger). Among (spot_in j r) l.delivered) new.2 among))
+      (λ (was : Was (controls_in s e) s.books (begun_in s e) es living.0 j).
+      let w = was.1 in
+      done_now w.0 j living.0 w.1 w.2.args_are w.4 r on (⊎_elim
+      (λ (old : HasLine (Delivers (spot_in j r)) w.0.ledger). inl old)
+      (λ (said : IsOf (controls_in s e) es living.0 (Delivers (spot_in j r))). inr said.0)
+      (w.3 (Delivers (spot_in j r)) among)))
+      (G.back living.0 j living.1))
+      (λ (over : Among j (happens s e).books.over). ⊎_elim
+      (λ (old : Among j s.books.over). D j (inr old) r on among)
+      (λ (ended : (n : ℕ) × (begun_in s e ≡ Some n) × (s.books.living n ≡ Some j)). D j (inl (ended.0, ended.2)) r on among)
+      (G.over j over))
+      kept
+
+delivered_always : (d : Disk) (before : List Event) → Legal d before → DeliveredStand (after d before)
+delivered_always d [] legal i kept r on among = ⊎_elim
+    (λ (w : (n : ℕ) × (◌≡◌ {A = Option Injection} None (Some i))). absurd (cc w.1))
     (λ (none : ⊥). absurd none)
-    h.1
-delivered_always controls d (e ∷ before) has legal of r on h =
+    kept
+delivered_always d (e ∷ before) legal i kept r on among =
     let s = after d before in
-    let I = always controls d before has legal.0 in
-    let w = event_done (IsBorn before) e controls s I (messages_always controls d before has legal.0) (delivered_always controls d before has legal.0) legal.1 of r on h in
-    done_keeps e controls s I legal.1 of (routed controls of r) w
+    let I = always d before legal.0 in
+    done_keeps e s I legal.1 i.args (routed_in i r)
+    (event_done (IsBorn before) e s I (messages_always d before legal.0) (delivered_always d before legal.0) legal.1 i kept r on among)
 
-pub done_for : (controls : Controls) (d : Disk) (before : List Event) → AreControls controls d → Legal d before → (i : Injection) → IsInjected (after d before).books i
-    → (r : Recipient i.args) → (spot_of controls i.args r).channel ≡ Local → Among (spot_of controls i.args r) i.ledger.delivered → IsDoneFor (after d before) i.args (routed controls i.args r)
-done_for controls d before has legal i here r on among =
+pub done_for : (d : Disk) (before : List Event) → Legal d before → (i : Injection) → IsInjected (after d before).books i
+    → (r : Recipient i.args) → (spot_in i r).channel ≡ Local → Among (spot_in i r) i.ledger.delivered → IsDoneFor (after d before) i.args (routed_in i r)
+done_for d before legal i here r on among =
     let s = after d before in
     let kept : IsKept s.books i = ⊎_elim (λ (lives : s.books.living i.number ≡ Some i). inl (i.number, lives)) (λ (over : Among i s.books.over). inr over) here in
-    delivered_always controls d before has legal i.args r on (i, kept, refl, among)
+    delivered_always d before legal i kept r on among

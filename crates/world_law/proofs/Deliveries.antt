@@ -1,7 +1,6 @@
 -- The events of a local delivery: its file calls, what it takes and gives, its commands, and the start of the injector of its forwards.
 use Rattle.std.specs.Prelude.{Contains, take}
 use Rattle.std.proofs.Common.{◌≡◌, inl, ⊎_elim, ℕ, ◌==◌, List, [], ◌∷◌, ◌&&◌, Option, Some, None, refl, sym, ◌∙◌, subst, bytes_eq, codes}
-use Rattle.address_rules.specs.declared.controls.Controls.{Controls}
 use Rattle.call_fs.specs.Past.{IsRunBy}
 use Rattle.call_fs.specs.Program.{MayCome}
 use Rattle.call_fs.specs.declared.calls.CallData.{CallData}
@@ -55,7 +54,6 @@ use Rattle.world_law.specs.Laws.{DeliveriesKeep}
 use Rattle.world_law.proofs.Moved.{IsSameLink, IsSeenAs, moved_keeps, with_one}
 use Rattle.world_law.proofs.Pipes.{input_same, own_same, printed_same}
 use Rattle.world_law.proofs.SendersChild.{ended_queued}
-use Rattle.world_law.proofs.ControlsLeft.{controls_left}
 use Rattle.world_law.proofs.Spawners.{answered}
 use Rattle.world_law.proofs.Stepped.{stepped, stepped_keeps}
 use Rattle.world_law.proofs.Tenants.{GoesOn, RunsNoMore, came_kept, one_keeps, slot_put, some_actor, tenant_other}
@@ -135,7 +133,7 @@ module _ (s : State) (a : List ℕ) (wrote : ℕ) (start : ℕ) (args : LocalArg
   acted_moves (needs.File call) came calm = absurd calm
   acted_moves due came calm = refl
 
-  module _ (controls : Controls) (I : Inv controls s) (is : s.actors a ≡ Some (delivery past)) where
+  module _ (I : Inv s) (is : s.actors a ≡ Some (delivery past)) where
     abbrev q : Queue
     q = queue s I.role
 
@@ -167,7 +165,7 @@ module _ (s : State) (a : List ℕ) (wrote : ℕ) (start : ℕ) (args : LocalArg
 
     -- A file call
 
-    called : (c : CallData) (told : Told) → IsNext (needs.File c) → ComesOf s a (needs.File c) (got.Answered told) wrote → Inv controls (then_state (needs.File c) (got.Answered told))
+    called : (c : CallData) (told : Told) → IsNext (needs.File c) → ComesOf s a (needs.File c) (got.Answered told) wrote → Inv (then_state (needs.File c) (got.Answered told))
     called c told next comes =
         let may = may_come s a (needs.File c) (got.Answered told) wrote comes in
         let l = rests_keep.calls q a args past own.read own.ready c told wrote I.sound.suits rests (next, may) comes.0 comes.1 in
@@ -176,7 +174,7 @@ module _ (s : State) (a : List ℕ) (wrote : ℕ) (start : ℕ) (args : LocalArg
         let E : Elsewhere s.now a None q r = foreign_elsewhere a q r w.foreign s.now in
         let spared = rest_is_kept.closed s.now a None q r E I.sound.suits (λ n h. absurd (cc)) in
         let event : Own = doing (needs.File c) (got.Answered told) in
-        stepped_keeps controls s I a r None E spared.0 spared.1 (others_spare.reads s.now a q r E) (controls_left a q r w.outside w.own I.old) (drops_stay.tmp a q r w.drops) (foreign_sound a q r w.foreign controls I.sound) I.bounces
+        stepped_keeps s I a r None E spared.0 spared.1 (others_spare.reads s.now a q r E) (drops_stay.tmp a q r w.drops) (foreign_sound a q r w.foreign I.sound) I.bounces
         (delivery (event ∷ past)) apart goes (seen (event ∷ past))
         (fed_when (stepped s a r (delivery (event ∷ past))) (needs.File c) (got.Answered told) next tt)
         (record { rests = w.rests; forwards = (fares.forwards, none_comes (needs.File c) (got.Answered told) tt); well = λ h. absurd (cc) })
@@ -184,11 +182,11 @@ module _ (s : State) (a : List ℕ) (wrote : ℕ) (start : ℕ) (args : LocalArg
     -- Any other
 
     moves : (due : NeedData) (came : GotData) → IsNoCall due → IsNext due → MayCome due came → IsSameLink s.pipework (pipes_then due came) → RunsNoMore s.pipework (pipes_then due came)
-        → FedBy (with_one s a (delivery (doing due came ∷ past)) (pipes_then due came)) a due came → Forwarded due came → Inv controls (then_state due came)
+        → FedBy (with_one s a (delivery (doing due came ∷ past)) (pipes_then due came)) a due came → Forwarded due came → Inv (then_state due came)
     moves due came calm next may link none fed forwarded =
         let event : Own = doing due came in
-        subst (λ (t : State). Inv controls t) (sym (acted_moves due came calm))
-        (moved_keeps controls s I a (delivery (event ∷ past)) (pipes_then due came) apart
+        subst (λ (t : State). Inv t) (sym (acted_moves due came calm))
+        (moved_keeps s I a (delivery (event ∷ past)) (pipes_then due came) apart
         (record { rests = rests_keep.rest q a args past event rests (next, may) calm; forwards = (fares.forwards, forwarded); well = λ h. absurd (cc) })
         (seen (event ∷ past)) link goes (fed_when (with_one s a (delivery (event ∷ past)) (pipes_then due came)) due came next fed) none refl)
 
@@ -210,7 +208,7 @@ module _ (s : State) (a : List ℕ) (wrote : ℕ) (start : ℕ) (args : LocalArg
     fed_of d bytes came comes = tt
 
     gave : (d : ℕ) (bytes : List ℕ) (came : GotData) → IsNext (needs.Give (port.Program d) bytes) → ComesOf s a (needs.Give (port.Program d) bytes) came wrote
-        → Inv controls (then_state (needs.Give (port.Program d) bytes) came)
+        → Inv (then_state (needs.Give (port.Program d) bytes) came)
     gave d bytes came next comes =
         let due : NeedData = needs.Give (port.Program d) bytes in
         let y : Actor = delivery (doing due came ∷ past) in
@@ -250,7 +248,7 @@ module _ (s : State) (a : List ℕ) (wrote : ℕ) (start : ℕ) (args : LocalArg
         record {
           actor = b;
           args = w.0;
-          accepted = ended_queued controls s I b w.0 x.program x.past x.life (I.fares b x ends.1) w.1 ends.2;
+          accepted = ended_queued s I b w.0 x.program x.past x.life (I.fares b x ends.1) w.1 ends.2;
           input_is = input.0;
           message_end = input.1;
           envelope_end = input.2;
@@ -274,7 +272,7 @@ module _ (s : State) (a : List ℕ) (wrote : ℕ) (start : ℕ) (args : LocalArg
               comes;
         }
 
-    took_status : (d : ℕ) (came : GotData) → IsNext (needs.Take (port.Status d)) → ComesOf s a (needs.Take (port.Status d)) came wrote → Inv controls (then_state (needs.Take (port.Status d)) came)
+    took_status : (d : ℕ) (came : GotData) → IsNext (needs.Take (port.Status d)) → ComesOf s a (needs.Take (port.Status d)) came wrote → Inv (then_state (needs.Take (port.Status d)) came)
     took_status d came next comes =
         moves (needs.Take (port.Status d)) came tt next (may_come s a (needs.Take (port.Status d)) came wrote comes) (takes_same (port.Status d) came) (takes_slots d came) tt
         (λ slot same ends. status_forwarded d next (subst (λ (z : GotData). ComesOf s a (needs.Take (port.Status d)) z wrote) ends comes))
@@ -282,7 +280,7 @@ module _ (s : State) (a : List ℕ) (wrote : ℕ) (start : ℕ) (args : LocalArg
     -- A start of the injector, or a failure of it
 
     forward_starts : (room : ℕ) (came : GotData) → IsNext (needs.Start (child.Forward args.uid room)) → MayCome (needs.Start (child.Forward args.uid room)) came
-        → Inv controls (then_state (needs.Start (child.Forward args.uid room)) came)
+        → Inv (then_state (needs.Start (child.Forward args.uid room)) came)
     forward_starts room came next may =
         let due : NeedData = needs.Start (child.Forward args.uid room) in
         moves due came tt next may (record { given = refl; answers = refl }) (λ b e t there. inl there) tt (none_comes due came tt)
@@ -290,17 +288,17 @@ module _ (s : State) (a : List ℕ) (wrote : ℕ) (start : ℕ) (args : LocalArg
     pub starts_on : (asked : ChildData) → IsNext (needs.Start asked) → (room : ℕ) × (asked ≡ child.Forward args.uid room)
     starts_on asked next = (single args past own.read own.ready asked rests.run next).0
 
-    pub started : (asked : ChildData) (came : GotData) → IsNext (needs.Start asked) → MayCome (needs.Start asked) came → Inv controls (then_state (needs.Start asked) came)
+    pub started : (asked : ChildData) (came : GotData) → IsNext (needs.Start asked) → MayCome (needs.Start asked) came → Inv (then_state (needs.Start asked) came)
     started asked came next may =
         let w = starts_on asked next in
-        subst (λ (x : ChildData). IsNext (needs.Start x) → MayCome (needs.Start x) came → Inv controls (then_state (needs.Start x) came)) (sym w.1)
+        subst (λ (x : ChildData). IsNext (needs.Start x) → MayCome (needs.Start x) came → Inv (then_state (needs.Start x) came)) (sym w.1)
         (forward_starts w.0 came) next may
 
     -- By what is due
 
-    by_due : (due : NeedData) → IsDelivering due → IsNext due → ComesOf s a due own.came wrote → Inv controls (then_state due own.came)
+    by_due : (due : NeedData) → IsDelivering due → IsNext due → ComesOf s a due own.came wrote → Inv (then_state due own.came)
     by_due (needs.File c) it next comes =
-        answered s a wrote (λ (g : GotData). Inv controls (then_state (needs.File c) g)) c own.came comes (λ told comes. called c told next comes)
+        answered s a wrote (λ (g : GotData). Inv (then_state (needs.File c) g)) c own.came comes (λ told comes. called c told next comes)
     by_due (needs.Take port.Input) it next comes =
         moves (needs.Take port.Input) own.came tt next (may_come s a (needs.Take port.Input) own.came wrote comes) (takes_same port.Input own.came) (λ b e t there. inl there) tt
         (none_comes (needs.Take port.Input) own.came tt)
@@ -317,20 +315,20 @@ module _ (s : State) (a : List ℕ) (wrote : ℕ) (start : ℕ) (args : LocalArg
     by_due (needs.Ended status) it next comes = absurd comes
     by_due other it next comes = absurd it
 
-    delivery_event : IsNext own.due → ComesOf s a own.due own.came wrote → Inv controls (then_state own.due own.came)
+    delivery_event : IsNext own.due → ComesOf s a own.due own.came wrote → Inv (then_state own.due own.came)
     delivery_event next comes =
         let p : Place = place_after args past in
         by_due own.due (subst IsDelivering next (row_delivers args p.row p)) next comes
 
-by_program : (controls : Controls) (s : State) (I : Inv controls s) (a : List ℕ) (wrote : ℕ) (program : Program) (past : List Own) (life : Life) (own : Own) → IsDelivery program → life ≡ Alive
+by_program : (s : State) (I : Inv s) (a : List ℕ) (wrote : ℕ) (program : Program) (past : List Own) (life : Life) (own : Own) → IsDelivery program → life ≡ Alive
     → s.actors a ≡ Some (record { program = program; past = past; life = life }) → next_of program past own.read own.ready ≡ own.due → ComesOf s a own.due own.came wrote
-    → Inv controls (acted s a own wrote (Some (record { program = program; past = past; life = life })))
-by_program controls s I a wrote (Delivery start args) past Alive own it alive is next comes = delivery_event s a wrote start args past own controls I is next comes
-by_program controls s I a wrote (Delivery start args) past life own it alive is next comes = absurd (cc)
-by_program controls s I a wrote other past life own it alive is next comes = absurd it
+    → Inv (acted s a own wrote (Some (record { program = program; past = past; life = life })))
+by_program s I a wrote (Delivery start args) past Alive own it alive is next comes = delivery_event s a wrote start args past own I is next comes
+by_program s I a wrote (Delivery start args) past life own it alive is next comes = absurd (cc)
+by_program s I a wrote other past life own it alive is next comes = absurd it
 
 pub deliveries_keep : DeliveriesKeep
-deliveries_keep a own wrote controls s I may it =
+deliveries_keep a own wrote s I may it =
     let x = may.actor in
-    subst (λ (o : Option Actor). Inv controls (acted s a own wrote o)) (sym may.reads.is)
-    (by_program controls s I a wrote x.program x.past x.life own it may.reads.alive may.reads.is may.due may.came)
+    subst (λ (o : Option Actor). Inv (acted s a own wrote o)) (sym may.reads.is)
+    (by_program s I a wrote x.program x.past x.life own it may.reads.alive may.reads.is may.due may.came)

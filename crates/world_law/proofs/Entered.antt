@@ -1,7 +1,6 @@
 -- The message that a local delivery took is the one that was entered.
 use Rattle.std.proofs.Common.{◌≡◌, ◌≢◌, ℕ, List, [], ◌∷◌, ◌++◌, Bool, true, false, ◌&&◌, option_map, Option, Some, None, refl, sym, ap, ◌∙◌, subst, codes}
 use Rattle.std.proofs.lemmas.List.{append-nil, append_assoc}
-use Rattle.address_rules.specs.declared.controls.Controls.{Controls}
 use Rattle.call_fs.specs.Disk.{Disk}
 use Rattle.call_fs.specs.declared.past.Own.{Own}
 use Rattle.call_fs.specs.declared.program.Port.TheVariants as port
@@ -18,7 +17,6 @@ use Rattle.send_known.specs.declared.channel.Channel.TheVariants.{Local}
 use Rattle.send_jobs.specs.Sending.{lane}
 use Rattle.send_jobs.specs.Slots.{attempt_in}
 use Rattle.spawn_protocol.specs.declared.request.Request.{Request}
-use Rattle.program_law.specs.Sender.Control.{AreControls}
 use Rattle.world_pipes.specs.Pipework.{Pipe, closed, given, mouth}
 use Rattle.call_fs.specs.Maps.{put_at}
 use Rattle.call_fs.proofs.Maps.{put_at_other}
@@ -79,7 +77,7 @@ given_to s name t (Some r) asks h = record {
   begins = h.begins;
 }
 
-module _ (B : ℕ → List ℕ → Type 0) (controls : Controls) (s : State) (I : Inv controls s) (M : MessagesStand B s) (on : sends_on s ≡ true) where
+module _ (B : ℕ → List ℕ → Type 0) (s : State) (I : Inv s) (M : MessagesStand B s) (on : sends_on s ≡ true) where
   abbrev P : PostsStand s
   P = M.posts
 
@@ -99,10 +97,10 @@ module _ (B : ℕ → List ℕ → Type 0) (controls : Controls) (s : State) (I 
 
 -- What is held and given stands after each legal history.
 
-opening_holds : (C : ℕ → List ℕ → Type 0) (controls : Controls) (d : Disk) → AreControls controls d → Legal d [] → MessagesStand C (opening d)
-opening_holds C controls d has legal = record {
-  posts = posts_always controls d [] has legal;
-  new = newcomers_always controls d [] has legal;
+opening_holds : (C : ℕ → List ℕ → Type 0) (d : Disk) → Legal d [] → MessagesStand C (opening d)
+opening_holds C d legal = record {
+  posts = posts_always d [] legal;
+  new = newcomers_always d [] legal;
   hold = λ on. absurd (cc);
   done = λ on. absurd (cc);
 }
@@ -111,27 +109,27 @@ none_runs : (k : Task) → ◌≡◌ {A = Option Task} None (Some k) → ⊥
 none_runs k e = cc
 
 -- a generation starts: nothing is at work, and nothing is remembered
-module _ (B C : ℕ → List ℕ → Type 0) (controls : Controls) (s : State) (I : Inv controls s) (M : MessagesStand B s) (first second third last : ℕ) where
-  abbrev begun_posts : PostsStand (four_begun controls s I M.posts first second third last)
+module _ (B C : ℕ → List ℕ → Type 0) (s : State) (I : Inv s) (M : MessagesStand B s) (first second third last : ℕ) where
+  abbrev begun_posts : PostsStand (four_begun s I M.posts first second third last)
   begun_posts = record {
     tasks = λ slot. None;
     last = M.posts.last;
     done = [];
-    posted = subst (λ (v : View). Posted (post_of v (λ slot. None) M.posts.last [])) (sym (seen_begun controls s I M.posts first second third last)) (starts_posted (λ slot. None) M.posts.last []).0;
-    first = subst (λ (v : View). IsFirst v.desk.row v.desk) (sym (seen_begun controls s I M.posts first second third last)) (senders_keep.begins None);
+    posted = subst (λ (v : View). Posted (post_of v (λ slot. None) M.posts.last [])) (sym (seen_begun s I M.posts first second third last)) (starts_posted (λ slot. None) M.posts.last []).0;
+    first = subst (λ (v : View). IsFirst v.desk.row v.desk) (sym (seen_begun s I M.posts first second third last)) (senders_keep.begins None);
     run = λ slot k h. absurd (none_runs k h);
     was = λ x among. absurd among;
   }
 
-  idle : has_message (place_in ((four_begun controls s I M.posts first second third last).actors (codes "lspawn"))).work.row ≡ true → ⊥
+  idle : has_message (place_in ((four_begun s I M.posts first second third last).actors (codes "lspawn"))).work.row ≡ true → ⊥
   idle has =
-      let none : false ≡ true = ap (λ (o : Option Actor). has_message (place_in o).work.row) (sym (lspawn_is controls s I M.posts first second third last)) ∙ has in
+      let none : false ≡ true = ap (λ (o : Option Actor). has_message (place_in o).work.row) (sym (lspawn_is s I M.posts first second third last)) ∙ has in
       absurd (cc)
 
-  greets : let work = (place_in ((four_begun controls s I M.posts first second third last).actors (codes "lspawn"))).work in FeedsLast M.posts.last work.row work
-  greets = subst (λ (o : Option Actor). FeedsLast M.posts.last (place_in o).work.row (place_in o).work) (sym (lspawn_is controls s I M.posts first second third last)) tt
+  greets : let work = (place_in ((four_begun s I M.posts first second third last).actors (codes "lspawn"))).work in FeedsLast M.posts.last work.row work
+  greets = subst (λ (o : Option Actor). FeedsLast M.posts.last (place_in o).work.row (place_in o).work) (sym (lspawn_is s I M.posts first second third last)) tt
 
-  generation_messages : NothingComes (four_begun controls s I M.posts first second third last) → MessagesStand C (four_begun controls s I M.posts first second third last)
+  generation_messages : NothingComes (four_begun s I M.posts first second third last) → MessagesStand C (four_begun s I M.posts first second third last)
   generation_messages N = record {
     posts = begun_posts;
     new = N;
@@ -140,26 +138,26 @@ module _ (B C : ℕ → List ℕ → Type 0) (controls : Controls) (s : State) (
   }
 
 -- an event of an actor, by its program
-act_messages : (B C : ℕ → List ℕ → Type 0) (controls : Controls) (s : State) → Inv controls s → MessagesStand B s → (a : List ℕ) (own : Own) (wrote : ℕ)
-    → ((slot : ℕ) (name : List ℕ) → Stays slot (Act a own wrote) → B slot name → C slot name) → MayDo s a own wrote → Inv controls (happens s (Act a own wrote))
+act_messages : (B C : ℕ → List ℕ → Type 0) (s : State) → Inv s → MessagesStand B s → (a : List ℕ) (own : Own) (wrote : ℕ)
+    → ((slot : ℕ) (name : List ℕ) → Stays slot (Act a own wrote) → B slot name → C slot name) → MayDo s a own wrote → Inv (happens s (Act a own wrote))
     → NothingComes (happens s (Act a own wrote)) → MessagesStand C (happens s (Act a own wrote))
-act_messages B C controls s I M a own wrote carry may =
-    subst (λ (o : Option Actor). Inv controls (acted s a own wrote o) → NothingComes (acted s a own wrote o) → MessagesStand C (acted s a own wrote o)) (sym may.reads.is)
+act_messages B C s I M a own wrote carry may =
+    subst (λ (o : Option Actor). Inv (acted s a own wrote o) → NothingComes (acted s a own wrote o) → MessagesStand C (acted s a own wrote o)) (sym may.reads.is)
     (by_kind may.actor.program refl)
   where
     carried : (IsSender may.actor.program → ⊥) → (slot : ℕ) (name : List ℕ) → B slot name → C slot name
     carried apart slot name = carry slot name (others_stay may.actor.program apart may.actor.past own wrote a slot may.due)
 
     neither : IsNeither may.actor.program → NothingComes (acted s a own wrote (Some may.actor)) → MessagesStand C (acted s a own wrote (Some may.actor))
-    neither it N = neither_messages B C (carried (neither_sends may.actor.program it)) controls s I M a own wrote may it N
+    neither it N = neither_messages B C (carried (neither_sends may.actor.program it)) s I M a own wrote may it N
 
-    by_kind : (program : Program) → may.actor.program ≡ program → Inv controls (acted s a own wrote (Some may.actor)) → NothingComes (acted s a own wrote (Some may.actor))
+    by_kind : (program : Program) → may.actor.program ≡ program → Inv (acted s a own wrote (Some may.actor)) → NothingComes (acted s a own wrote (Some may.actor))
         → MessagesStand C (acted s a own wrote (Some may.actor))
     by_kind (Sender began) e J N =
-        sender_messages B C controls s I a own wrote may.actor may.reads.is may.reads.alive (subst IsSender (sym e) tt) may.reads.no_later may.due may.came carry
-        (acts_held B controls s I M a own wrote may (λ same. names_apart (codes "lspawn") (codes "sender") refl (same ∙ subst (IsNamed a) e (I.crew a may.actor may.reads.is)))) M N
+        sender_messages B C s I a own wrote may.actor may.reads.is may.reads.alive (subst IsSender (sym e) tt) may.reads.no_later may.due may.came carry
+        (acts_held B s I M a own wrote may (λ same. names_apart (codes "lspawn") (codes "sender") refl (same ∙ subst (IsNamed a) e (I.crew a may.actor may.reads.is)))) M N
     by_kind (LocalSpawner began) e J N =
-        spawner_messages B C (carried (λ sends. subst IsSender e sends)) controls s I a own wrote may.actor may.reads.is may.reads.alive (subst IsLocalSpawner (sym e) tt) may.due may.came M J N
+        spawner_messages B C (carried (λ sends. subst IsSender e sends)) s I a own wrote may.actor may.reads.is may.reads.alive (subst IsLocalSpawner (sym e) tt) may.due may.came M J N
     by_kind other e J N = neither (subst IsNeither (sym e) tt) N
 
 -- whom the local spawner starts with an event
@@ -168,12 +166,12 @@ IsBegun C (Child parent own a program) = parent ≡ codes "lspawn" → C (slot_b
 IsBegun C e = Unit {0}
 
 messages_keep : (B C : ℕ → List ℕ → Type 0) (e : Event) → ((slot : ℕ) (name : List ℕ) → Stays slot e → B slot name → C slot name) → IsBegun C e
-    → (controls : Controls) (s : State) → HaveRun s.actors → Inv controls s → Inv controls (happens s e) → NothingComes (happens s e)
+    → (s : State) → HaveRun s.actors → Inv s → Inv (happens s e) → NothingComes (happens s e)
     → MessagesStand B s → Allowed s e → MessagesStand C (happens s e)
-messages_keep B C (Moment m) carry begun controls s R I J N M may = messages_left B C (λ slot name. carry slot name tt) s (happens s (Moment m)) (record { view = refl; keeps = λ a x is. (x, is, refl, λ h. h); homes = λ a x is. refl; slots = λ d. refl })
+messages_keep B C (Moment m) carry begun s R I J N M may = messages_left B C (λ slot name. carry slot name tt) s (happens s (Moment m)) (record { view = refl; keeps = λ a x is. (x, is, refl, λ h. h); homes = λ a x is. refl; slots = λ d. refl })
     (λ on n m flies h. record { injection = h.injection; lives = h.lives; accepted = h.accepted; text = h.text }) (λ goes fd how h. record { opened = h.opened; held = h.held })
     (λ k it y there. ap (λ (z : Actor). received s k.name z) (some_actor y it.delivery (sym there ∙ it.is))) M N
-messages_keep B C (Tells slot output) carry begun controls s R I J N M may =
+messages_keep B C (Tells slot output) carry begun s R I J N M may =
     messages_left B C (λ n name. carry n name tt) s (happens s (Tells slot output)) (record { view = refl; keeps = λ a x is. (x, is, refl, λ h. h); homes = λ a x is. refl; slots = λ d. refl })
     (λ on n m flies h. record { injection = h.injection; lives = h.lives; accepted = h.accepted; text = h.text }) (λ goes fd how h. record { opened = h.opened; held = h.held })
     (λ k it y there.
@@ -181,7 +179,7 @@ messages_keep B C (Tells slot output) carry begun controls s R I J N M may =
     ∙ ap (λ (p : Pipe). taken it.delivery.past ++ p.bytes)
     (away_same s.pipework.pipes (Some (mouth (codes "rspawn") (port.Program slot))) (λ pipe. closed (given output pipe)) k.name port.Input refl))
     M N
-messages_keep B C (Start a (Injector args)) carry begun controls s R I J N M may = messages_left B C (λ slot name. carry slot name tt) s (happens s (Start a (Injector args)))
+messages_keep B C (Start a (Injector args)) carry begun s R I J N M may = messages_left B C (λ slot name. carry slot name tt) s (happens s (Start a (Injector args)))
     (record {
       view = view_same s.actors (put_at s.actors a (Some (newborn (Injector args)))) s.pipework s.pipework (put_seen halves s.actors a (newborn (Injector args)) (codes "sender") seen)
           (put_seen halves s.actors a (newborn (Injector args)) (codes "lspawn") seen) refl refl;
@@ -200,8 +198,8 @@ messages_keep B C (Start a (Injector args)) carry begun controls s R I J N M may
 
     apart : (name : List ℕ) (x : Actor) → s.actors name ≡ Some x → name ≢ a
     apart name x is same = let both : ◌≡◌ {A = Option Actor} None (Some x) = sym may.new ∙ ap s.actors (sym same) ∙ is in absurd (cc)
-messages_keep B C (Start a program) carry begun controls s R I J N M may = absurd may.runs
-messages_keep B C (Halt how contents) carry begun controls s R I J N M may = record {
+messages_keep B C (Start a program) carry begun s R I J N M may = absurd may.runs
+messages_keep B C (Halt how contents) carry begun s R I J N M may = record {
   posts = halts_stand s M.posts how contents;
   new = N;
   hold = λ on. absurd (off on);
@@ -212,7 +210,7 @@ messages_keep B C (Halt how contents) carry begun controls s R I J N M may = rec
     off on =
         let none : true ≡ false = sym on ∙ ap (λ (b : Bool). b && is_on (desk_in (option_map stopped (s.actors (codes "sender")))).row) (sends_halted (s.actors (codes "sender"))) in
         absurd (cc)
-messages_keep B C (Generation (sender ∷ clean ∷ lspawn ∷ rspawn ∷ [])) carry begun controls s R I J N M may =
+messages_keep B C (Generation (sender ∷ clean ∷ lspawn ∷ rspawn ∷ [])) carry begun s R I J N M may =
     let one = is_sender sender may.kinds.0 in
     let two = is_cleaner clean may.kinds.1.0 in
     let three = is_local lspawn may.kinds.1.1.0 in
@@ -223,12 +221,12 @@ messages_keep B C (Generation (sender ∷ clean ∷ lspawn ∷ rspawn ∷ [])) c
     (sym three.1)
     (subst (λ (p : Program). NothingComes (happens s (Generation (Sender one.0 ∷ Cleaner two.0 ∷ LocalSpawner three.0 ∷ p ∷ [])))
     → MessagesStand C (happens s (Generation (Sender one.0 ∷ Cleaner two.0 ∷ LocalSpawner three.0 ∷ p ∷ [])))) (sym four.1)
-    (generation_messages B C controls s I M one.0 two.0 three.0 four.0)))) N
-messages_keep B C (Generation crew) carry begun controls s R I J N M may = absurd (are_four crew may.kinds)
-messages_keep B C (Act a own wrote) carry begun controls s R I J N M may = act_messages B C controls s I M a own wrote carry may J N
-messages_keep B C (End a read ready status) carry begun controls s R I J N M may = end_messages B C (λ slot name. carry slot name tt) controls s I M a read ready status may N
-messages_keep B C (Stop a) carry begun controls s R I J N M may = stop_messages B C (λ slot name. carry slot name tt) controls s I M a may N
-messages_keep B C (Child parent own a program) carry begun controls s R I J N M may = child_messages B C (λ slot name. carry slot name tt) controls s I M R parent own a program may begun J N
+    (generation_messages B C s I M one.0 two.0 three.0 four.0)))) N
+messages_keep B C (Generation crew) carry begun s R I J N M may = absurd (are_four crew may.kinds)
+messages_keep B C (Act a own wrote) carry begun s R I J N M may = act_messages B C s I M a own wrote carry may J N
+messages_keep B C (End a read ready status) carry begun s R I J N M may = end_messages B C (λ slot name. carry slot name tt) s I M a read ready status may N
+messages_keep B C (Stop a) carry begun s R I J N M may = stop_messages B C (λ slot name. carry slot name tt) s I M a may N
+messages_keep B C (Child parent own a program) carry begun s R I J N M may = child_messages B C (λ slot name. carry slot name tt) s I M R parent own a program may begun J N
 
 -- the newest event is the start of whom the local spawner starts with it
 begun_now : (before : List Event) (e : Event) → IsBegun (IsBorn (e ∷ before)) e
@@ -242,10 +240,10 @@ begun_now before (Stop a) = tt
 begun_now before (Moment m) = tt
 begun_now before (Halt how contents) = tt
 
-pub messages_always : (controls : Controls) (d : Disk) (before : List Event) → AreControls controls d → Legal d before → MessagesStand (IsBorn before) (after d before)
-messages_always controls d [] has legal = opening_holds (IsBorn []) controls d has legal
-messages_always controls d (e ∷ before) has legal =
+pub messages_always : (d : Disk) (before : List Event) → Legal d before → MessagesStand (IsBorn before) (after d before)
+messages_always d [] legal = opening_holds (IsBorn []) d legal
+messages_always d (e ∷ before) legal =
     messages_keep (IsBorn before) (IsBorn (e ∷ before)) e (λ slot name stays born. born_on before e slot name stays born) (begun_now before e)
-    controls (after d before) (have_run d before legal.0) (always controls d before has legal.0) (always controls d (e ∷ before) has legal)
-    (newcomers_always controls d (e ∷ before) has legal)
-    (messages_always controls d before has legal.0) legal.1
+    (after d before) (have_run d before legal.0) (always d before legal.0) (always d (e ∷ before) legal)
+    (newcomers_always d (e ∷ before) legal)
+    (messages_always d before legal.0) legal.1

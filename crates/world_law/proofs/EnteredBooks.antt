@@ -1,13 +1,15 @@
 -- What was entered stays so through what senders enter in ledgers.
+use Rattle.address_rules.specs.declared.controls.Controls.{Controls}
 use Rattle.std.proofs.Common.{◌≡◌, ◌≢◌, ⊎_elim, ℕ, List, [], ◌∷◌, true, Option, Some, None, option_map, sym, ap, ◌∙◌}
 use Rattle.call_fs.specs.Maps.{put}
 use Rattle.call_fs.proofs.Maps.{put_cases}
 use Rattle.queue_inject.specs.Texts.{entered}
-use Rattle.queue_law.specs.Books.{Books, Child, Injection, booked_all, booked_on, entered_in, line_said, notes_read, returned_in, with_line}
+use Rattle.queue_law.specs.Books.{Books, Injection, entered_in, with_line}
+use Rattle.queue_law.specs.Entered.{Child, booked_all, booked_on, line_said, named_by, notes_read, returned_in}
 use Rattle.queue_law.specs.Ledgers.{Line}
-use Rattle.queue_law.specs.Ledgers.Line.{Drops, Notes, Reads, Returns}
+use Rattle.queue_law.specs.Ledgers.Line.{Drops, Marks, Notes, Reads, Returns, Routes}
 use Rattle.send_jobs.specs.Bookings.{Booking}
-use Rattle.send_jobs.specs.Bookings.Booking.{Dropped, Noted, ReadNotes, Reported, Returned}
+use Rattle.send_jobs.specs.Bookings.Booking.{Dropped, Noted, Overwritten, ReadNotes, Reported, Returned, Routed}
 
 -- an accepted injection of this number, whose life lasts, entered this message, by the books
 pub record EnteredIn (b : Books) (n : ℕ) (message : List ℕ) : Type 0 where
@@ -35,15 +37,17 @@ module _ (n : ℕ) (message : List ℕ) where
 
   returned : (child : Option Child) (b : Books) (m : ℕ) → In b → In (returned_in child b m)
   returned None b m h = h
-  returned (Some child) b m h = lined b m (Returns (record { actor = child.actor; args = child.args; notes = notes_read (b.living m) })) h
+  returned (Some child) b m h = lined b m (Returns (record { actor = child.actor; args = child.args; read = notes_read (b.living m) })) h
 
-  booked : (child : Option Child) (e : Booking) (b : Books) → In b → In (booked_on child e b)
-  booked child (Reported delivered c m place) b h = lined b m (line_said delivered (record { channel = c; place = place })) h
-  booked child (Noted c m place) b h = lined b m (Notes (record { channel = c; place = place })) h
-  booked child (ReadNotes m notes) b h = lined b m (Reads notes) h
-  booked child (Returned m) b h = returned child b m h
-  booked child (Dropped m) b h = lined b m Drops h
+  booked : (child : Option Child) (by : Controls) (e : Booking) (b : Books) → In b → In (booked_on child by e b)
+  booked child by (Routed m) b h = lined b m (Routes by) h
+  booked child by (Reported delivered c m place) b h = lined b m (line_said delivered (record { channel = c; place = place })) h
+  booked child by (Noted c m place) b h = lined b m (Notes (named_by by c place)) h
+  booked child by (Overwritten c m place) b h = lined b m (Marks (named_by by c place)) h
+  booked child by (ReadNotes m notes) b h = lined b m (Reads (record { notes = notes; by = by })) h
+  booked child by (Returned m) b h = returned child b m h
+  booked child by (Dropped m) b h = lined b m Drops h
 
-  pub entered_stays : (child : Option Child) (es : List Booking) (b : Books) → In b → In (booked_all child es b)
-  entered_stays child [] b h = h
-  entered_stays child (e ∷ es) b h = entered_stays child es (booked_on child e b) (booked child e b h)
+  pub entered_stays : (child : Option Child) (by : Controls) (es : List Booking) (b : Books) → In b → In (booked_all child by es b)
+  entered_stays child by [] b h = h
+  entered_stays child by (e ∷ es) b h = entered_stays child by es (booked_on child by e b) (booked child by e b h)

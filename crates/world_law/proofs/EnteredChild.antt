@@ -3,7 +3,6 @@ use Rattle.std.specs.Prelude.{Contains}
 use Rattle.std.proofs.Common.{◌≡◌, ◌≢◌, ⊎_elim, ℕ, ◌==◌, List, [], ◌∷◌, Bool, true, false, ◌&&◌, Option, Some, None, refl, sym, ap, ◌∙◌, subst, codes}
 use Rattle.std.proofs.lemmas.List.{get_or-set_other}
 use Rattle.actor_names.specs.MailNames.{members}
-use Rattle.address_rules.specs.declared.controls.Controls.{Controls}
 use Rattle.call_fs.specs.Disk.{Among}
 use Rattle.call_fs.specs.Maps.{put}
 use Rattle.call_fs.specs.Past.{IsRunBy}
@@ -90,7 +89,7 @@ starts_now row w ready e = e
 -- The local spawner starts a delivery
 
 module _ (B C : ℕ → List ℕ → Type 0) (carry : (slot : ℕ) (name : List ℕ) → B slot name → C slot name)
-    (controls : Controls) (s : State) (I : Inv controls s) (M : MessagesStand B s) (own : Own) (began : ℕ) (past : List Own) (is : s.actors (codes "lspawn") ≡ Some (spawner began past))
+    (s : State) (I : Inv s) (M : MessagesStand B s) (own : Own) (began : ℕ) (past : List Own) (is : s.actors (codes "lspawn") ≡ Some (spawner began past))
     (due : due_by (place_after past) own.ready ≡ own.due) (slot : ℕ) (words : DeliveryWordsData) (uid pid : ℕ) (starts : own.due ≡ needs.Start (child.Local slot words uid)) (came : own.came ≡ got.Started pid)
     (a : List ℕ) (new : s.actors a ≡ None) (start : ℕ) (ran : IsRunBy (Next tt) past) (comes : MayCome own.due own.came)
     (born_now : C (slot_by own.due) a) where
@@ -116,7 +115,7 @@ module _ (B C : ℕ → List ℕ → Type 0) (carry : (slot : ℕ) (name : List 
   t = bears mid name own a (Delivery start (local_args words uid pid))
 
   abbrev posts : PostsStand t
-  posts = spawner_starts controls s I P own 0 began past is due slot words uid pid starts came a new start
+  posts = spawner_starts s I P own 0 began past is due slot words uid pid starts came a new start
 
   abbrev tasks : ℕ → Option Task
   tasks = put P.tasks slot (Some (task_of a words))
@@ -159,7 +158,7 @@ module _ (B C : ℕ → List ℕ → Type 0) (carry : (slot : ℕ) (name : List 
   }
 
   seen : view_of t.actors t.pipework ≡ afterwards
-  seen = seen_borne controls s I P own 0 began past is due slot words uid pid starts came a new start
+  seen = seen_borne s I P own 0 began past is due slot words uid pid starts came a new start
 
   desk_same : desk_in (t.actors (codes "sender")) ≡ desk_in (s.actors (codes "sender"))
   desk_same = ap (λ (v : View). v.desk) seen
@@ -185,13 +184,13 @@ module _ (B C : ℕ → List ℕ → Type 0) (carry : (slot : ℕ) (name : List 
   }
 
   unborn : mid.actors a ≡ None
-  unborn = gone controls s I P own 0 began past is due slot words uid pid starts came a new start
+  unborn = gone s I P own 0 began past is due slot words uid pid starts came a new start
 
   same_received : ReceivedSame s t
   same_received k it y there =
-      let w = for_kept s mid (keeps controls s I P own 0 began past is due) k it in
+      let w = for_kept s mid (keeps s I P own 0 began past is due) k it in
       received_bears mid name own a (Delivery start (local_args words uid pid)) unborn k w y there
-      ∙ received_acts controls s I name own 0 (spawner began past) is (λ k for. subst (IsNoFeed s.pipework name k.name) (sym starts) tt) (λ runs. absurd runs) k it w.delivery w.is
+      ∙ received_acts s I name own 0 (spawner began past) is (λ k for. subst (IsNoFeed s.pipework name k.name) (sym starts) tt) (λ runs. absurd runs) k it w.delivery w.is
 
   -- What the new one has received
 
@@ -204,7 +203,7 @@ module _ (B C : ℕ → List ℕ → Type 0) (carry : (slot : ℕ) (name : List 
       ∙ (λ i. (pipes_after s.pipework name (starts i) (came i) 0 a port.Input).bytes)
       ∙ M.new a new apart
 
-  none_received : Inv controls t → (y : Actor) → t.actors a ≡ Some y → received t a y ≡ []
+  none_received : Inv t → (y : Actor) → t.actors a ≡ Some y → received t a y ≡ []
   none_received J y there = ap (λ (z : Actor). received t a z) (some_actor y delivery (sym there ∙ born)) ∙ none_lies (J.crew a delivery born)
 
   abbrev flies : ℕ → Option Attempt
@@ -230,7 +229,7 @@ module _ (B C : ℕ → List ℕ → Type 0) (carry : (slot : ℕ) (name : List 
       let at_feed : KnownAt work_at.Feed fed counts.owed counts.dealt = subst (λ (w : Work). KnownAt w.row w counts.owed counts.dealt) moved_is counts.at in
       at_feed.1
 
-  module _ (J : Inv controls t) (h : MessagesHold B s P) where
+  module _ (J : Inv t) (h : MessagesHold B s P) where
     message : HoldsMessage s P.tasks p.work
     message = subst (λ (o : Option Actor). HoldsMessage s P.tasks (place_in o).work) is
         (h.work (ap (λ (o : Option Actor). has_message (place_in o).work.row) is ∙ ap has_message row_is))
@@ -309,13 +308,13 @@ module _ (B C : ℕ → List ℕ → Type 0) (carry : (slot : ℕ) (name : List 
   not_run : DoneHold B s P → (x : Done) → Among x P.done → (d : ℕ) → t.pipework.programs name d ≡ Some (Runs x.task.name) → (b : Bool) → (d == slot) ≡ b → ⊥
   not_run h x among d runs true e =
       let both : ◌≡◌ {A = Option Tenant} (Some (Runs a)) (Some (Runs x.task.name)) =
-      sym (runs_by controls s I P own 0 began past is due slot words uid pid starts came a new start d true e) ∙ runs in
+      sym (runs_by s I P own 0 began past is due slot words uid pid starts came a new start d true e) ∙ runs in
       let same : a ≡ x.task.name = cc in
       let none : ◌≡◌ {A = Option Actor} None (Some (P.was x among).is_for.delivery) = sym new ∙ ap s.actors same ∙ (P.was x among).is_for.is in
       absurd (cc)
   not_run h x among d runs false e =
       h.gone x among d
-      (sym (runs_by controls s I P own 0 began past is due slot words uid pid starts came a new start d false e ∙ beside_is controls s I P own 0 began past is due slot words uid pid starts came a new start d)
+      (sym (runs_by s I P own 0 began past is due slot words uid pid starts came a new start d false e ∙ beside_is s I P own 0 began past is due slot words uid pid starts came a new start d)
       ∙ runs)
 
   done_then : DoneHold B s P → DoneHold C t posts
@@ -326,7 +325,7 @@ module _ (B C : ℕ → List ℕ → Type 0) (carry : (slot : ℕ) (name : List 
     gone = λ x among d runs. not_run h x among d runs (d == slot) refl;
   }
 
-  delivery_starts : Inv controls t → NothingComes t → MessagesStand C t
+  delivery_starts : Inv t → NothingComes t → MessagesStand C t
   delivery_starts J N = record {
     posts = posts;
     new = N;
@@ -334,29 +333,29 @@ module _ (B C : ℕ → List ℕ → Type 0) (carry : (slot : ℕ) (name : List 
     done = λ on. done_then (M.done (on_before on));
   }
 
-by_local : (B C : ℕ → List ℕ → Type 0) → ((slot : ℕ) (name : List ℕ) → B slot name → C slot name) → (controls : Controls) (s : State) (I : Inv controls s) → MessagesStand B s → (parent : List ℕ) (program : Program) (past : List Own) (life : Life) (own : Own) → IsLocalSpawner program
+by_local : (B C : ℕ → List ℕ → Type 0) → ((slot : ℕ) (name : List ℕ) → B slot name → C slot name) → (s : State) (I : Inv s) → MessagesStand B s → (parent : List ℕ) (program : Program) (past : List Own) (life : Life) (own : Own) → IsLocalSpawner program
     → IsNamed parent program → life ≡ Alive → s.actors parent ≡ Some (record { program = program; past = past; life = life }) → next_of program past own.read own.ready ≡ own.due
     → IsRunBy (next_of program) past → MayCome own.due own.came → (asked : ChildData) → own.due ≡ needs.Start asked → (pid : ℕ) → own.came ≡ got.Started pid → (a : List ℕ) → s.actors a ≡ None
     → (borne : Program) → IsProgramOf asked pid borne → C (slot_by own.due) a
-    → let t = bears (acted s parent own 0 (Some (record { program = program; past = past; life = life }))) parent own a borne in Inv controls t → NothingComes t → MessagesStand C t
-by_local B C carry controls s I M parent (LocalSpawner began) past Alive own it named alive is due ran comes asked starts pid came a new borne runs born_now =
+    → let t = bears (acted s parent own 0 (Some (record { program = program; past = past; life = life }))) parent own a borne in Inv t → NothingComes t → MessagesStand C t
+by_local B C carry s I M parent (LocalSpawner began) past Alive own it named alive is due ran comes asked starts pid came a new borne runs born_now =
     let due_is : IsLocalDue (needs.Start asked) = subst IsLocalDue (due ∙ starts) (local_due (place_after past).row own.ready (place_after past)) in
     let w = local_asked asked due_is in
     let d = delivery_is w.0 w.1 w.2 pid borne (subst (λ (c : ChildData). IsProgramOf c pid borne) w.3 runs) in
-    subst (λ (b : List ℕ). Inv controls (bears (acted s b own 0 (Some (spawner began past))) b own a borne) → NothingComes (bears (acted s b own 0 (Some (spawner began past))) b own a borne)
+    subst (λ (b : List ℕ). Inv (bears (acted s b own 0 (Some (spawner began past))) b own a borne) → NothingComes (bears (acted s b own 0 (Some (spawner began past))) b own a borne)
     → MessagesStand C (bears (acted s b own 0 (Some (spawner began past))) b own a borne)) (sym named)
-    (subst (λ (z : Program). Inv controls (bears (acted s (codes "lspawn") own 0 (Some (spawner began past))) (codes "lspawn") own a z)
+    (subst (λ (z : Program). Inv (bears (acted s (codes "lspawn") own 0 (Some (spawner began past))) (codes "lspawn") own a z)
     → NothingComes (bears (acted s (codes "lspawn") own 0 (Some (spawner began past))) (codes "lspawn") own a z)
     → MessagesStand C (bears (acted s (codes "lspawn") own 0 (Some (spawner began past))) (codes "lspawn") own a z)) (sym d.1)
-    (delivery_starts B C carry controls s I M own began past (subst (λ (b : List ℕ). s.actors b ≡ Some (spawner began past)) named is) due
+    (delivery_starts B C carry s I M own began past (subst (λ (b : List ℕ). s.actors b ≡ Some (spawner began past)) named is) due
     w.0 w.1 w.2 pid (starts ∙ ap needs.Start w.3) came a new d.0 ran comes born_now))
-by_local B C carry controls s I M parent (LocalSpawner began) past life own it named alive is due ran comes asked starts pid came a new borne runs born_now = absurd (cc)
-by_local B C carry controls s I M parent other past life own it named alive is due ran comes asked starts pid came a new borne runs born_now = absurd it
+by_local B C carry s I M parent (LocalSpawner began) past life own it named alive is due ran comes asked starts pid came a new borne runs born_now = absurd (cc)
+by_local B C carry s I M parent other past life own it named alive is due ran comes asked starts pid came a new borne runs born_now = absurd it
 
 -- By the program that starts it
 
 module _ (B C : ℕ → List ℕ → Type 0) (carry : (slot : ℕ) (name : List ℕ) → B slot name → C slot name)
-    (controls : Controls) (s : State) (I : Inv controls s) (M : MessagesStand B s) (parent : List ℕ) (own : Own) (a : List ℕ) (program : Program) (may : MayBear s parent own a program) where
+    (s : State) (I : Inv s) (M : MessagesStand B s) (parent : List ℕ) (own : Own) (a : List ℕ) (program : Program) (may : MayBear s parent own a program) where
   abbrev x : Actor
   x = may.actor
 
@@ -376,11 +375,11 @@ module _ (B C : ℕ → List ℕ → Type 0) (carry : (slot : ℕ) (name : List 
   none_entered = entered_books s moved_state (ap (λ (z : NeedData). books_after (bouncer_of s parent) s.books parent x.program x.past own.read own.ready z own.came) may.starts)
 
   nothing_comes : NothingComes moved_state
-  nothing_comes = acts controls s I M.new parent own 0 x
+  nothing_comes = acts s I M.new parent own 0 x
 
   then_borne : MessagesStand C moved_state → parent ≢ codes "lspawn" → NothingComes borne_state → MessagesStand C borne_state
   then_borne Q apart N =
-      let unborn = still_new controls s I M.posts parent own a program may in
+      let unborn = still_new s I M.posts parent own a program may in
       messages_left C C (λ slot b born. born) moved_state borne_state (bears_leaves moved_state parent apart own a program (child_neither may.asked may.pid program may.is) unborn)
       (λ on n m flies h. record { injection = h.injection; lives = h.lives; accepted = h.accepted; text = h.text }) (λ goes fd how h. record { opened = h.opened; held = h.held })
       (received_bears moved_state parent own a program unborn) Q N
@@ -388,18 +387,18 @@ module _ (B C : ℕ → List ℕ → Type 0) (carry : (slot : ℕ) (name : List 
   by_neither : IsNeither x.program → parent ≢ codes "lspawn" → NothingComes borne_state → MessagesStand C borne_state
   by_neither it apart =
       then_borne
-      (neither_moves B C carry controls s I M parent own 0 x may.reads.is it may.due (λ on n m flies. none_entered n m) (λ off. none_held)
+      (neither_moves B C carry s I M parent own 0 x may.reads.is it may.due (λ on n m flies. none_entered n m) (λ off. none_held)
       (λ runs. subst (λ (n : NeedData). InputYields (s.pipework.pipes parent port.Input) n own.came) (sym may.starts) tt) nothing_comes)
       apart
 
-  bears_by : (z : Program) → x.program ≡ z → IsNamed parent z → HasRun x → (parent ≡ codes "lspawn" → C (slot_by own.due) a) → Inv controls borne_state → NothingComes borne_state → MessagesStand C borne_state
+  bears_by : (z : Program) → x.program ≡ z → IsNamed parent z → HasRun x → (parent ≡ codes "lspawn" → C (slot_by own.due) a) → Inv borne_state → NothingComes borne_state → MessagesStand C borne_state
   bears_by (Sender began) e named ran born J N =
       then_borne
-      (sender_moves_messages B C controls s I parent own 0 x may.reads.is may.reads.alive (subst IsSender (sym e) tt) may.reads.no_later may.due (born_comes s parent own a program may)
+      (sender_moves_messages B C s I parent own 0 x may.reads.is may.reads.alive (subst IsSender (sym e) tt) may.reads.no_later may.due (born_comes s parent own a program may)
       (λ taken. let both : needs.Start may.asked ≡ needs.Take port.Lspawn = sym may.starts ∙ taken in absurd (cc)) (λ slot b apart. carry slot b) none_held M nothing_comes)
       (λ same. names_apart (codes "sender") (codes "lspawn") refl (sym named ∙ same)) N
   bears_by (LocalSpawner began) e named ran born J N =
-      by_local B C carry controls s I M parent x.program x.past x.life own (subst IsLocalSpawner (sym e) tt) (subst (IsNamed parent) (sym e) named) may.reads.alive may.reads.is may.due ran
+      by_local B C carry s I M parent x.program x.past x.life own (subst IsLocalSpawner (sym e) tt) (subst (IsNamed parent) (sym e) named) may.reads.alive may.reads.is may.due ran
       (born_comes s parent own a program may) may.asked may.starts may.pid may.came a may.new program may.is (born named) J N
   bears_by (Injector args) e named ran born J N =
       let due : next_of (Injector args) x.past own.read own.ready ≡ needs.Start may.asked = subst (λ (p : Program). next_of p x.past own.read own.ready ≡ needs.Start may.asked) e (may.due ∙ may.starts) in
@@ -410,10 +409,10 @@ module _ (B C : ℕ → List ℕ → Type 0) (carry : (slot : ℕ) (name : List 
   bears_by (Delivery began args) e named ran born J N = by_neither (subst IsNeither (sym e) tt)
       (λ same. named (subst (λ (n : List ℕ). Contains members n) (sym same) (member_contained (codes "lspawn") refl))) N
 
-pub child_messages : (B C : ℕ → List ℕ → Type 0) → ((slot : ℕ) (name : List ℕ) → B slot name → C slot name) → (controls : Controls) (s : State) → Inv controls s → MessagesStand B s → HaveRun s.actors → (parent : List ℕ) (own : Own) (a : List ℕ) (program : Program) → MayBear s parent own a program
+pub child_messages : (B C : ℕ → List ℕ → Type 0) → ((slot : ℕ) (name : List ℕ) → B slot name → C slot name) → (s : State) → Inv s → MessagesStand B s → HaveRun s.actors → (parent : List ℕ) (own : Own) (a : List ℕ) (program : Program) → MayBear s parent own a program
     → (parent ≡ codes "lspawn" → C (slot_by own.due) a)
-    → Inv controls (happens s (Child parent own a program)) → NothingComes (happens s (Child parent own a program)) → MessagesStand C (happens s (Child parent own a program))
-child_messages B C carry controls s I M R parent own a program may born =
-    subst (λ (o : Option Actor). Inv controls (bears (acted s parent own 0 o) parent own a program) → NothingComes (bears (acted s parent own 0 o) parent own a program)
+    → Inv (happens s (Child parent own a program)) → NothingComes (happens s (Child parent own a program)) → MessagesStand C (happens s (Child parent own a program))
+child_messages B C carry s I M R parent own a program may born =
+    subst (λ (o : Option Actor). Inv (bears (acted s parent own 0 o) parent own a program) → NothingComes (bears (acted s parent own 0 o) parent own a program)
     → MessagesStand C (bears (acted s parent own 0 o) parent own a program)) (sym may.reads.is)
-    (bears_by B C carry controls s I M parent own a program may may.actor.program refl (I.crew parent may.actor may.reads.is) (R parent may.actor may.reads.is) born)
+    (bears_by B C carry s I M parent own a program may may.actor.program refl (I.crew parent may.actor may.reads.is) (R parent may.actor may.reads.is) born)

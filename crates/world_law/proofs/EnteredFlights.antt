@@ -1,7 +1,6 @@
 -- The messages that the local spawner holds and has given are of attempts in flight.
 use Rattle.std.proofs.Common.{◌≡◌, ℕ, List, ◌++◌, true, Option, Some, None, refl, sym, ap, ◌∙◌, subst, codes}
 use Rattle.std.proofs.lemmas.Bool.{and_parts}
-use Rattle.address_rules.specs.declared.controls.Controls.{Controls}
 use Rattle.call_fs.specs.declared.past.Own.{Own}
 use Rattle.program_law.specs.Post.Posts.{At, IsAskedFor, Post}
 use Rattle.program_law.specs.Post.Senders.{is_on}
@@ -58,11 +57,11 @@ sender_in None e = absurd (cc)
 sender_in (Some x) e = let w = sender_by x.program x.past x.life e in (w.0, x.past, w.1)
 
 -- so that a number in flight is in S5
-pub flying_stays : (controls : Controls) (s : State) → Inv controls s → sends_on s ≡ true → (n : ℕ) → IsFlying s n → state_of s.disk n ≡ S5
-flying_stays controls s I on n w =
+pub flying_stays : (s : State) → Inv s → sends_on s ≡ true → (n : ℕ) → IsFlying s n → state_of s.disk n ≡ S5
+flying_stays s I on n w =
     let sends = and_parts (sends_in (s.actors (codes "sender"))) (is_on (desk_in (s.actors (codes "sender"))).row) on in
     let it = sender_in (s.actors (codes "sender")) sends.0 in
-    let H : HandsStand s (sender_after None it.1) = hands_by controls s I (codes "sender") (Sender it.0) it.1 Alive refl it.0 refl (I.fares (codes "sender") (sender it.0 it.1) it.2) in
+    let H : HandsStand s (sender_after None it.1) = hands_by s I (codes "sender") (Sender it.0) it.1 Alive refl it.0 refl (I.fares (codes "sender") (sender it.0 it.1) it.2) in
     let flies : attempt_in (lane Local (sender_after None it.1).slots).slots w.slot ≡ Some w.attempt =
     ap (λ (o : Option Actor). attempt_in (lane Local (desk_in o).slots).slots w.slot) (sym it.2) ∙ w.flies in
     subst (λ (m : ℕ). state_of s.disk m ≡ S5) w.number (H.flies Local w.slot w.attempt flies).stays

@@ -1,7 +1,6 @@
 -- What is held and given of messages through events of others than the sender and the local spawner, through ends, and through the start of a child.
 use Rattle.std.proofs.Common.{◌≡◌, ◌≢◌, ℕ, List, Bool, true, false, ◌&&◌, Option, Some, is_some, refl, sym, ap, ◌∙◌, subst, codes}
 use Rattle.std.proofs.lemmas.Bool.{and_parts}
-use Rattle.address_rules.specs.declared.controls.Controls.{Controls}
 use Rattle.call_fs.proofs.Maps.{put_at_other, put_at_same}
 use Rattle.call_fs.specs.Disk.{Disk}
 use Rattle.call_fs.specs.declared.past.Own.{Own}
@@ -48,14 +47,14 @@ use Rattle.world_law.proofs.Received.{InputYields, WritesNone, books_same, fed_n
 sorted_in : (d : Disk) (n : ℕ) → state_of d n ≡ S5 → is_there d Info n ≡ true
 sorted_in d n stays = (in_s5 (is_there d Mess n) (is_in_intd d n) (is_in_todo d n) (is_there d Info n) (is_there d LocalPart n) (is_there d Remote n) (is_there d Bounce n) stays).1
 
-module _ (controls : Controls) (s : State) (I : Inv controls s) where
+module _ (s : State) (I : Inv s) where
   flying_sorted : sends_on s ≡ true → (n : ℕ) → IsFlying s n → IsSorted (about_in s n)
   flying_sorted on n w = (
     Info,
     refl,
     λ none.
         let gone : is_there s.disk Info n ≡ false = ap is_some (not_found s.disk.names s.disk.files (Of Info n) none) in
-        let there : is_there s.disk Info n ≡ true = sorted_in s.disk n (flying_stays controls s I on n w) in
+        let there : is_there s.disk Info n ≡ true = sorted_in s.disk n (flying_stays s I on n w) in
         absurd (cc),
   )
 
@@ -86,7 +85,7 @@ neither_apart s a x is it goes same =
     absurd (cc)
 
 module _ (B C : ℕ → List ℕ → Type 0) (carry : (slot : ℕ) (name : List ℕ) → B slot name → C slot name)
-    (controls : Controls) (s : State) (I : Inv controls s) (M : MessagesStand B s) (a : List ℕ) (own : Own) (wrote : ℕ) (x : Actor) (is : s.actors a ≡ Some x) where
+    (s : State) (I : Inv s) (M : MessagesStand B s) (a : List ℕ) (own : Own) (wrote : ℕ) (x : Actor) (is : s.actors a ≡ Some x) where
   abbrev then_state : State
   then_state = acted s a own wrote (Some x)
 
@@ -95,8 +94,8 @@ module _ (B C : ℕ → List ℕ → Type 0) (carry : (slot : ℕ) (name : List 
       → (sends_on s ≡ true → (n : ℕ) (m : List ℕ) → IsFlying s n → IsEntered s n m → IsEntered then_state n m) → (codes "lspawn" ≢ a → KeepsHeld s then_state)
       → (IsDelivery x.program → InputYields (s.pipework.pipes a port.Input) own.due own.came) → NothingComes then_state → MessagesStand C then_state
   neither_moves it due entered held yields N =
-      messages_left B C carry s then_state (neither_leaves controls s I a own wrote x is it due) entered (λ goes. held (neither_apart s a x is it goes))
-      (received_acts controls s I a own wrote x is (λ k for. fed_not controls s I a x is (not_local x.program it) k for own.due) yields) M N
+      messages_left B C carry s then_state (neither_leaves s I a own wrote x is it due) entered (λ goes. held (neither_apart s a x is it goes))
+      (received_acts s I a own wrote x is (λ k for. fed_not s I a x is (not_local x.program it) k for own.due) yields) M N
 
   module _ (L : LeavesMost s (Act a own wrote)) where
     held_left : codes "lspawn" ≢ a → KeepsHeld s then_state
@@ -114,27 +113,27 @@ module _ (B C : ℕ → List ℕ → Type 0) (carry : (slot : ℕ) (name : List 
     -- an injector begins and accepts no injection of a number in flight
     entered_by : (program : Program) → x.program ≡ program → IsNeither program → sends_on s ≡ true → (n : ℕ) (m : List ℕ) → IsFlying s n → IsEntered s n m → IsEntered then_state n m
     entered_by (Injector args) e it on n m flies h =
-        entered_about s then_state n m (about_left (subst (λ (p : Program). IsSparing (Some p)) (sym e) tt) n (flying_sorted controls s I on n flies)) h
+        entered_about s then_state n m (about_left (subst (λ (p : Program). IsSparing (Some p)) (sym e) tt) n (flying_sorted s I on n flies)) h
     entered_by (Sender since) e it on n m flies h = absurd it
     entered_by (LocalSpawner since) e it on n m flies h = absurd it
     entered_by program e it on n m flies h = unwritten (subst WritesNone (sym e) tt) n m h
 
-pub acts_held : (B : ℕ → List ℕ → Type 0) (controls : Controls) (s : State) → Inv controls s → MessagesStand B s → (a : List ℕ) (own : Own) (wrote : ℕ) (may : MayDo s a own wrote) → codes "lspawn" ≢ a
+pub acts_held : (B : ℕ → List ℕ → Type 0) (s : State) → Inv s → MessagesStand B s → (a : List ℕ) (own : Own) (wrote : ℕ) (may : MayDo s a own wrote) → codes "lspawn" ≢ a
     → KeepsHeld s (acted s a own wrote (Some may.actor))
-acts_held B controls s I M a own wrote may apart = held_left B B (λ slot name born. born) controls s I M a own wrote may.actor may.reads.is (leaves controls s I (Act a own wrote) may) apart
+acts_held B s I M a own wrote may apart = held_left B B (λ slot name born. born) s I M a own wrote may.actor may.reads.is (leaves s I (Act a own wrote) may) apart
 
-pub neither_messages : (B C : ℕ → List ℕ → Type 0) → ((slot : ℕ) (name : List ℕ) → B slot name → C slot name) → (controls : Controls) (s : State) → Inv controls s → MessagesStand B s → (a : List ℕ) (own : Own) (wrote : ℕ) (may : MayDo s a own wrote) → IsNeither may.actor.program
+pub neither_messages : (B C : ℕ → List ℕ → Type 0) → ((slot : ℕ) (name : List ℕ) → B slot name → C slot name) → (s : State) → Inv s → MessagesStand B s → (a : List ℕ) (own : Own) (wrote : ℕ) (may : MayDo s a own wrote) → IsNeither may.actor.program
     → NothingComes (acted s a own wrote (Some may.actor)) → MessagesStand C (acted s a own wrote (Some may.actor))
-neither_messages B C carry controls s I M a own wrote may it N =
+neither_messages B C carry s I M a own wrote may it N =
     let x = may.actor in
-    let L = leaves controls s I (Act a own wrote) may in
-    neither_moves B C carry controls s I M a own wrote x may.reads.is it may.due (entered_by B C carry controls s I M a own wrote x may.reads.is L x.program refl it)
-    (acts_held B controls s I M a own wrote may) (λ runs. input_yields s a own.due own.came wrote may.came) N
+    let L = leaves s I (Act a own wrote) may in
+    neither_moves B C carry s I M a own wrote x may.reads.is it may.due (entered_by B C carry s I M a own wrote x may.reads.is L x.program refl it)
+    (acts_held B s I M a own wrote may) (λ runs. input_yields s a own.due own.came wrote may.came) N
 
 -- An end or a stop
 
 module _ (B C : ℕ → List ℕ → Type 0) (carry : (slot : ℕ) (name : List ℕ) → B slot name → C slot name)
-    (controls : Controls) (s : State) (I : Inv controls s) (M : MessagesStand B s) (a : List ℕ) (x : Actor) (is : s.actors a ≡ Some x) (alive : x.life ≡ Alive) (life : Life) (dead : is_alive life ≡ false)
+    (s : State) (I : Inv s) (M : MessagesStand B s) (a : List ℕ) (x : Actor) (is : s.actors a ≡ Some x) (alive : x.life ≡ Alive) (life : Life) (dead : is_alive life ≡ false)
     (held : codes "lspawn" ≢ a → KeepsHeld s (finished s a life (Some x))) (N : NothingComes (finished s a life (Some x))) where
   abbrev gone : Actor
   gone = record { program = x.program; past = x.past; life = life }
@@ -202,23 +201,23 @@ module _ (B C : ℕ → List ℕ → Type 0) (carry : (slot : ℕ) (name : List 
   over_messages program runs name = neither_over (subst IsNeither (sym runs) tt)
 
 pub end_messages : (B C : ℕ → List ℕ → Type 0) → ((slot : ℕ) (name : List ℕ) → B slot name → C slot name)
-    → (controls : Controls) (s : State) → Inv controls s → MessagesStand B s → (a : List ℕ) (read : ℕ) (ready : Ready) (status : ℕ) → MayEnd s a read ready status
+    → (s : State) → Inv s → MessagesStand B s → (a : List ℕ) (read : ℕ) (ready : Ready) (status : ℕ) → MayEnd s a read ready status
     → NothingComes (happens s (End a read ready status)) → MessagesStand C (happens s (End a read ready status))
-end_messages B C carry controls s I M a read ready status may =
+end_messages B C carry s I M a read ready status may =
     let x = may.actor in
-    let L = leaves controls s I (End a read ready status) may in
+    let L = leaves s I (End a read ready status) may in
     subst (λ (o : Option Actor). NothingComes (finished s a (Over status) o) → MessagesStand C (finished s a (Over status) o)) (sym may.reads.is)
-    (λ N. over_messages B C carry controls s I M a x may.reads.is may.reads.alive (Over status) refl
+    (λ N. over_messages B C carry s I M a x may.reads.is may.reads.alive (Over status) refl
     (λ apart fd how h. subst (λ (o : Option Actor). IsHeld (finished s a (Over status) o).disk.opens (finished s a (Over status) o).holder (codes "lspawn") fd how) may.reads.is
     (L.opens (codes "lspawn") fd how apart h))
     N x.program refl (I.crew a x may.reads.is))
 
 pub stop_messages : (B C : ℕ → List ℕ → Type 0) → ((slot : ℕ) (name : List ℕ) → B slot name → C slot name)
-    → (controls : Controls) (s : State) → Inv controls s → MessagesStand B s → (a : List ℕ) → IsLiving s a → NothingComes (happens s (Stop a)) → MessagesStand C (happens s (Stop a))
-stop_messages B C carry controls s I M a may =
+    → (s : State) → Inv s → MessagesStand B s → (a : List ℕ) → IsLiving s a → NothingComes (happens s (Stop a)) → MessagesStand C (happens s (Stop a))
+stop_messages B C carry s I M a may =
     let x = may.actor in
-    let L = leaves controls s I (Stop a) may in
+    let L = leaves s I (Stop a) may in
     subst (λ (o : Option Actor). NothingComes (finished s a Stopped o) → MessagesStand C (finished s a Stopped o)) (sym may.is)
-    (λ N. over_messages B C carry controls s I M a x may.is may.alive Stopped refl
+    (λ N. over_messages B C carry s I M a x may.is may.alive Stopped refl
     (λ apart fd how h. subst (λ (o : Option Actor). IsHeld (finished s a Stopped o).disk.opens (finished s a Stopped o).holder (codes "lspawn") fd how) may.is (L.opens (codes "lspawn") fd how apart h))
     N x.program refl (I.crew a x may.is))

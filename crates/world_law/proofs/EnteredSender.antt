@@ -1,7 +1,6 @@
 -- An event of the sender keeps what is held and given of messages: what it gives is a request for the lowest free slot, of which nothing is in hand,
 -- and what it takes frees slots.
 use Rattle.std.proofs.Common.{◌≡◌, ◌≢◌, ⊎_elim, ℕ, ◌≤◌, List, [], ◌∷◌, true, ◌&&◌, Option, Some, None, refl, sym, ap, ◌∙◌, subst, codes}
-use Rattle.address_rules.specs.declared.controls.Controls.{Controls}
 use Rattle.call_fs.proofs.Maps.{put_at_other, put_at_same}
 use Rattle.call_fs.specs.Program.{MayCome}
 use Rattle.call_fs.specs.declared.past.GotData.{GotData}
@@ -14,7 +13,8 @@ use Rattle.call_fs.specs.declared.program.Ready.{Ready}
 use Rattle.local_spawn.specs.declared.place.Place.{Place as LocalPlace}
 use Rattle.program_law.specs.Post.Posts.{Post, Posted, Task, goes_at}
 use Rattle.program_law.specs.Post.Senders.{AsksFor, IsSome, Sends, is_on}
-use Rattle.queue_law.specs.Books.{Books, Child as Bouncer}
+use Rattle.queue_law.specs.Books.{Books}
+use Rattle.queue_law.specs.Entered.{Child as Bouncer}
 use Rattle.send_core.specs.Booked.{booked_at}
 use Rattle.send_core.specs.declared.desk.Desk.{Desk}
 use Rattle.send_core.specs.Past.{Happening}
@@ -58,8 +58,9 @@ module _ (child : Option Bouncer) (b : Books) (n : ℕ) (message : List ℕ) (h 
   keeps = sender_after None past
 
   entered_after : (due : NeedData) (came : GotData) → EnteredIn (books_after child b (codes "sender") (Sender began) past read ready due came) n message
-  entered_after (needs.File call) (got.Answered told) = entered_stays n message child (booked_at (row_now keeps read ready) (got.Answered told) keeps) b h
-  entered_after (needs.Take from) came = entered_stays n message child (booked_at (row_now keeps read ready) came keeps) b h
+  entered_after (needs.File call) (got.Answered told) = entered_stays n message child keeps.book.controls (booked_at (row_now keeps read ready) (got.Answered told) keeps) b h
+  entered_after (needs.Take from) came = entered_stays n message child keeps.book.controls (booked_at (row_now keeps read ready) came keeps) b h
+  entered_after (needs.Give to bytes) came = entered_stays n message child keeps.book.controls (booked_at (row_now keeps read ready) came keeps) b h
   entered_after due came = h
 
 -- What it gives is for the lowest free slot
@@ -82,7 +83,7 @@ gives_low d due came slot asks e = absurd (cc)
 
 -- An event
 
-module _ (B C : ℕ → List ℕ → Type 0) (controls : Controls) (s : State) (I : Inv controls s) (M : MessagesStand B s) (own : Own) (wrote began : ℕ) (past : List Own) (is : s.actors (codes "sender") ≡ Some (sender began past))
+module _ (B C : ℕ → List ℕ → Type 0) (s : State) (I : Inv s) (M : MessagesStand B s) (own : Own) (wrote began : ℕ) (past : List Own) (is : s.actors (codes "sender") ≡ Some (sender began past))
     (soon : own.read ≤ s.now) (due : due_at (row_now (sender_after None past) own.read own.ready) (sender_after None past) ≡ own.due)
     (may : MayCome own.due own.came) (takes : own.due ≡ needs.Take port.Lspawn → IsSome own.came (s.pipework.pipes (codes "sender") port.Lspawn).bytes)
     (carry : (slot : ℕ) (name : List ℕ) → (given_at own.due own.came Local ≢ Gives slot) → B slot name → C slot name) where
@@ -146,8 +147,8 @@ module _ (B C : ℕ → List ℕ → Type 0) (controls : Controls) (s : State) (
       record { injection = w.injection; lives = w.lives; accepted = w.accepted; text = w.text }
 
   received_then : ReceivedSame s then_state
-  received_then = received_acts controls s I (codes "sender") own wrote (sender began past) is
-      (λ k it. fed_not controls s I (codes "sender") (sender began past) is (λ h. h) k it own.due) (λ h. absurd h)
+  received_then = received_acts s I (codes "sender") own wrote (sender began past) is
+      (λ k it. fed_not s I (codes "sender") (sender began past) is (λ h. h) k it own.due) (λ h. absurd h)
 
   -- What is forgotten: the deliveries that ended in the lowest free slot
 
@@ -172,10 +173,10 @@ module _ (B C : ℕ → List ℕ → Type 0) (controls : Controls) (s : State) (
   }
 
   abbrev then_posts : PostsStand then_state
-  then_posts = sender_event controls s I left own wrote began past is soon due may takes
+  then_posts = sender_event s I left own wrote began past is soon due may takes
 
   abbrev sends : Sends Local d own wrote (sender_post s left began past is)
-  sends = sent controls s I left own wrote began past is soon due may takes
+  sends = sent s I left own wrote began past is soon due may takes
 
   -- Another slot has the same last request, and what is in flight there was so before
 
@@ -185,7 +186,7 @@ module _ (B C : ℕ → List ℕ → Type 0) (controls : Controls) (s : State) (
   -- a delivery that was started in one stays so
   carry_on : (slot : ℕ) (name : List ℕ) → (low ≡ Some slot → ⊥) → B slot name → C slot name
   carry_on slot name apart born =
-      carry slot name (λ given. apart (gives_low d own.due own.came slot (gives controls s I left own wrote began past is soon due may takes) given)) born
+      carry slot name (λ given. apart (gives_low d own.due own.came slot (gives s I left own wrote began past is soon due may takes) given)) born
 
   feeds_by : (row : SpawnRow) (p : Place) → ((slot : ℕ) → runs_in p.running slot ≡ true → low ≡ Some slot → ⊥) → FeedsLast P.last row p → FeedsLast sends.last row p
   feeds_by spawn.Feed p apart h = (h.0, same_last p.request.slot (apart p.request.slot h.0) ∙ h.1)
@@ -257,35 +258,35 @@ module _ (B C : ℕ → List ℕ → Type 0) (controls : Controls) (s : State) (
     done = λ on. done_then (on_then on) held (M.done on_before);
   }
 
-by_program : (B C : ℕ → List ℕ → Type 0) (controls : Controls) (s : State) → Inv controls s → (a : List ℕ) (wrote : ℕ) (program : Program) (past : List Own) (life : Life) (own : Own) → IsSender program → IsNamed a program
+by_program : (B C : ℕ → List ℕ → Type 0) (s : State) → Inv s → (a : List ℕ) (wrote : ℕ) (program : Program) (past : List Own) (life : Life) (own : Own) → IsSender program → IsNamed a program
     → life ≡ Alive → s.actors a ≡ Some (record { program = program; past = past; life = life }) → own.read ≤ s.now → next_of program past own.read own.ready ≡ own.due → MayCome own.due own.came
     → (own.due ≡ needs.Take port.Lspawn → IsSome own.came (s.pipework.pipes a port.Lspawn).bytes)
     → ((slot : ℕ) (name : List ℕ) → (given_at own.due own.came Local ≢ Gives slot) → B slot name → C slot name)
     → KeepsHeld s (acted s a own wrote (Some (record { program = program; past = past; life = life }))) → MessagesStand B s
     → NothingComes (acted s a own wrote (Some (record { program = program; past = past; life = life })))
     → MessagesStand C (acted s a own wrote (Some (record { program = program; past = past; life = life })))
-by_program B C controls s I a wrote (Sender began) past Alive own it named alive is soon due may takes carry held M N =
+by_program B C s I a wrote (Sender began) past Alive own it named alive is soon due may takes carry held M N =
     let x : Actor = sender began past in
     subst (λ (b : List ℕ). s.actors b ≡ Some x → (own.due ≡ needs.Take port.Lspawn → IsSome own.came (s.pipework.pipes b port.Lspawn).bytes) → KeepsHeld s (acted s b own wrote (Some x))
     → NothingComes (acted s b own wrote (Some x)) → MessagesStand C (acted s b own wrote (Some x))) (sym named)
-    (λ is takes held N. event_messages B C controls s I M own wrote began past is soon due may takes carry held N) is takes held N
-by_program B C controls s I a wrote (Sender began) past life own it named alive is soon due may takes carry held M N = absurd (cc)
-by_program B C controls s I a wrote other past life own it named alive is soon due may takes carry held M N = absurd it
+    (λ is takes held N. event_messages B C s I M own wrote began past is soon due may takes carry held N) is takes held N
+by_program B C s I a wrote (Sender began) past life own it named alive is soon due may takes carry held M N = absurd (cc)
+by_program B C s I a wrote other past life own it named alive is soon due may takes carry held M N = absurd it
 
 -- whatever comes of what is due, also the start of a child
-pub sender_moves_messages : (B C : ℕ → List ℕ → Type 0) (controls : Controls) (s : State) → Inv controls s → (a : List ℕ) (own : Own) (wrote : ℕ) (x : Actor) → s.actors a ≡ Some x → x.life ≡ Alive → IsSender x.program
+pub sender_moves_messages : (B C : ℕ → List ℕ → Type 0) (s : State) → Inv s → (a : List ℕ) (own : Own) (wrote : ℕ) (x : Actor) → s.actors a ≡ Some x → x.life ≡ Alive → IsSender x.program
     → own.read ≤ s.now → next_of x.program x.past own.read own.ready ≡ own.due → MayCome own.due own.came
     → (own.due ≡ needs.Take port.Lspawn → IsSome own.came (s.pipework.pipes a port.Lspawn).bytes)
     → ((slot : ℕ) (name : List ℕ) → (given_at own.due own.came Local ≢ Gives slot) → B slot name → C slot name)
     → KeepsHeld s (acted s a own wrote (Some x)) → MessagesStand B s
     → NothingComes (acted s a own wrote (Some x)) → MessagesStand C (acted s a own wrote (Some x))
-sender_moves_messages B C controls s I a own wrote x is alive it soon due may takes carry held M N =
-    by_program B C controls s I a wrote x.program x.past x.life own it (I.crew a x is) alive is soon due may takes carry held M N
+sender_moves_messages B C s I a own wrote x is alive it soon due may takes carry held M N =
+    by_program B C s I a wrote x.program x.past x.life own it (I.crew a x is) alive is soon due may takes carry held M N
 
-pub sender_messages : (B C : ℕ → List ℕ → Type 0) (controls : Controls) (s : State) → Inv controls s → (a : List ℕ) (own : Own) (wrote : ℕ) (x : Actor) → s.actors a ≡ Some x → x.life ≡ Alive → IsSender x.program
+pub sender_messages : (B C : ℕ → List ℕ → Type 0) (s : State) → Inv s → (a : List ℕ) (own : Own) (wrote : ℕ) (x : Actor) → s.actors a ≡ Some x → x.life ≡ Alive → IsSender x.program
     → own.read ≤ s.now → next_of x.program x.past own.read own.ready ≡ own.due → ComesOf s a own.due own.came wrote
     → ((slot : ℕ) (name : List ℕ) → (given_at own.due own.came Local ≢ Gives slot) → B slot name → C slot name)
     → KeepsHeld s (acted s a own wrote (Some x)) → MessagesStand B s
     → NothingComes (acted s a own wrote (Some x)) → MessagesStand C (acted s a own wrote (Some x))
-sender_messages B C controls s I a own wrote x is alive it soon due comes carry held M N = sender_moves_messages B C controls s I a own wrote x is alive it soon due (may_come s a own.due own.came wrote comes)
+sender_messages B C s I a own wrote x is alive it soon due comes carry held M N = sender_moves_messages B C s I a own wrote x is alive it soon due (may_come s a own.due own.came wrote comes)
     (λ e. some_of (s.pipework.pipes a port.Lspawn) own.came (subst (λ (n : NeedData). ComesOf s a n own.came wrote) e comes)) carry held M N

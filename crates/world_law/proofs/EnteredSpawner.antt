@@ -2,7 +2,6 @@
 -- delivery that runs or has ended with 0.
 use Rattle.std.proofs.Common.{◌≡◌, ◌≢◌, ◌⊎◌, inl, inr, ⊎_elim, ℕ, List, [], ◌∷◌, ◌++◌, take, Bool, true, ◌&&◌, if◌then◌else◌, Option, Some, None, refl, sym, ap, ◌∙◌, subst, codes}
 use Rattle.std.proofs.lemmas.Bool.{cases_eq, eq-eqb}
-use Rattle.address_rules.specs.declared.controls.Controls.{Controls}
 use Rattle.call_fs.specs.Disk.{Among}
 use Rattle.call_fs.proofs.Maps.{put_at_other, put_at_same}
 use Rattle.call_fs.specs.declared.past.GotData.{GotData}
@@ -56,7 +55,7 @@ same_request : (r k : Request) → ◌≡◌ {A = Option Request} (Some r) (Some
 same_request r k e = cc
 
 -- while both go on its message is in S5
-module _ (controls : Controls) (s : State) (I : Inv controls s) (P : PostsStand s) (on : sends_on s ≡ true) (goes : serves_on s ≡ true) where
+module _ (s : State) (I : Inv s) (P : PostsStand s) (on : sends_on s ≡ true) (goes : serves_on s ≡ true) where
   abbrev working : Place
   working = (place_in (s.actors (codes "lspawn"))).work
 
@@ -66,7 +65,7 @@ module _ (controls : Controls) (s : State) (I : Inv controls s) (P : PostsStand 
       record {
         n = w.attempt.n;
         mess = w.asks.1;
-        stays = flying_stays controls s I on w.attempt.n (record { slot = working.request.slot; attempt = w.attempt; flies = w.flies; number = refl });
+        stays = flying_stays s I on w.attempt.n (record { slot = working.request.slot; attempt = w.attempt; flies = w.flies; number = refl });
       }
 
 not_feeding : (last : ℕ → Option Request) (row : Row) (p : Place) → row ≢ at.Feed → FeedsLast last row p
@@ -76,7 +75,7 @@ not_feeding last row p apart = tt
 -- An event
 
 module _ (B C : ℕ → List ℕ → Type 0) (carry : (slot : ℕ) (name : List ℕ) → B slot name → C slot name)
-    (controls : Controls) (s : State) (I : Inv controls s) (M : MessagesStand B s) (own : Own) (wrote began : ℕ) (past : List Own) (is : s.actors (codes "lspawn") ≡ Some (spawner began past)) where
+    (s : State) (I : Inv s) (M : MessagesStand B s) (own : Own) (wrote began : ℕ) (past : List Own) (is : s.actors (codes "lspawn") ≡ Some (spawner began past)) where
   abbrev name : List ℕ
   name = codes "lspawn"
 
@@ -103,7 +102,7 @@ module _ (B C : ℕ → List ℕ → Type 0) (carry : (slot : ℕ) (name : List 
 
   module _ (k : Task) (it : IsDeliveryFor s k) where
     off : (m : List ℕ) → is_member m ≡ true → k.name ≢ m
-    off m member = no_member s.pipework k.name (task_apart controls s I k it) m member
+    off m member = no_member s.pipework k.name (task_apart s I k it) m member
 
     is_still : (due : NeedData) (came : GotData) (y : Actor) → (then_by due came).actors k.name ≡ Some y → y ≡ it.delivery
     is_still due came y there = some_actor y it.delivery
@@ -158,7 +157,7 @@ module _ (B C : ℕ → List ℕ → Type 0) (carry : (slot : ℕ) (name : List 
     then_state = then_by own.due own.came
 
     goes : goes_at true p.row ≡ true
-    goes = goes_before controls s I own wrote began past is due comes
+    goes = goes_before s I own wrote began past is due comes
 
     serving : serves_on s ≡ true
     serving = ap (λ (o : Option Actor). goes_at (serves_in o) (place_in o).work.row) is ∙ goes
@@ -204,13 +203,13 @@ module _ (B C : ℕ → List ℕ → Type 0) (carry : (slot : ℕ) (name : List 
       started_so slot k run running = hold.started slot k run (ap (λ (z : LocalPlace). runs_in z.work.running slot) (ap place_in is) ∙ running)
 
       asked : has_message p.row ≡ true → IsAsked s p.request
-      asked has = subst (λ (z : LocalPlace). has_message z.work.row ≡ true → FeedsLast P.last z.work.row z.work → IsAsked s z.work.request) (ap place_in is) (work_stays controls s I P on serving) has feeds
+      asked has = subst (λ (z : LocalPlace). has_message z.work.row ≡ true → FeedsLast P.last z.work.row z.work → IsAsked s z.work.request) (ap place_in is) (work_stays s I P on serving) has feeds
 
       -- The deliveries that run
 
       -- one in another slot is given nothing
       other_slot : (b : List ℕ) (slot : ℕ) → slot ≢ p.request.slot → s.pipework.programs name slot ≡ Some (Runs b) → IsNoFeed s.pipework name b (needs.Give (port.Program p.request.slot) p.message)
-      other_slot b slot apart runs = λ same. apart (one_slot controls s I name b slot p.request.slot runs same)
+      other_slot b slot apart runs = λ same. apart (one_slot s I name b slot p.request.slot runs same)
 
       -- and the one in its slot the message of the request at work
       module _ (feed : p.row ≡ at.Feed) (fed_is : own.due ≡ needs.Give (port.Program p.request.slot) p.message) (slot : ℕ) (same : slot ≡ p.request.slot) (k : Task) (run : P.tasks slot ≡ Some k) where
@@ -264,7 +263,7 @@ module _ (B C : ℕ → List ℕ → Type 0) (carry : (slot : ℕ) (name : List 
       -- one ran until its status was taken
       ran : (x : Done) → IsDoneNow own.due own.came P.tasks x → runs_in p.running x.slot ≡ true
       ran x now =
-          let F = (posted controls s I P own wrote began past is due).fares in
+          let F = (posted s I P own wrote began past is due).fares in
           subst (λ (row : Row). At channel.Local P.done P.last row p) (status_row here.row own.ready here x.slot (due ∙ now.due_is)) (F.stands goes)
 
       was_then : (x : Done) → Among x (done_by own.due own.came P.tasks P.done) → IsGivenFor then_state x.task.name (flies x.slot) (P.last x.slot)
@@ -293,27 +292,27 @@ module _ (B C : ℕ → List ℕ → Type 0) (carry : (slot : ℕ) (name : List 
           ⊎_elim
           (λ (older : Among x P.done). (M.done on).gone x older slot before)
           (λ (now : IsDoneNow own.due own.came P.tasks x).
-          let same : slot ≡ x.slot = one_slot controls s I name x.task.name slot x.slot before (P.run x.slot x.task now.ran).runs in
+          let same : slot ≡ x.slot = one_slot s I name x.task.name slot x.slot before (P.run x.slot x.task now.ran).runs in
           none_runs_in (Runs x.task.name) (sym (freed x now) ∙ ap (then_state.pipework.programs name) (sym same) ∙ runs))
           (done_cases own.due own.came P.tasks P.done x among)
 
     -- All of it
 
     abbrev posts_then : PostsStand then_state
-    posts_then = spawner_event controls s I P own wrote began past is due comes
+    posts_then = spawner_event s I P own wrote began past is due comes
 
-    module _ (J : Inv controls then_state) (N : NothingComes then_state) where
+    module _ (J : Inv then_state) (N : NothingComes then_state) where
       abbrev to : LocalPlace
       to = moved here own
 
       module _ (on : sends_on then_state ≡ true) where
         led : Leads then_state tasks_then p.running to.work
-        led = leads controls s I own wrote began past is P.tasks (work (on_before on)) (asked (on_before on)) due comes J
+        led = leads s I own wrote began past is P.tasks (work (on_before on)) (asked (on_before on)) due comes J
 
         asked_then : serves_on then_state ≡ true → has_message to.work.row ≡ true → IsAsked then_state to.work.request
         asked_then goes has =
             subst (λ (z : LocalPlace). has_message z.work.row ≡ true → FeedsLast posts_then.last z.work.row z.work → IsAsked then_state z.work.request) (ap place_in now_here)
-            (work_stays controls then_state J posts_then on goes) has (not_feeding posts_then.last to.work.row to.work led.unfed)
+            (work_stays then_state J posts_then on goes) has (not_feeding posts_then.last to.work.row to.work led.unfed)
 
         hold_then : serves_on then_state ≡ true → MessagesHold C then_state posts_then
         unfolding spawner_event
@@ -344,22 +343,22 @@ module _ (B C : ℕ → List ℕ → Type 0) (carry : (slot : ℕ) (name : List 
 
 -- By its program
 
-messages_by : (B C : ℕ → List ℕ → Type 0) → ((slot : ℕ) (name : List ℕ) → B slot name → C slot name) → (controls : Controls) (s : State) (I : Inv controls s) (a : List ℕ) (own : Own) (wrote : ℕ) (program : Program) (past : List Own) (life : Life) → IsLocalSpawner program
+messages_by : (B C : ℕ → List ℕ → Type 0) → ((slot : ℕ) (name : List ℕ) → B slot name → C slot name) → (s : State) (I : Inv s) (a : List ℕ) (own : Own) (wrote : ℕ) (program : Program) (past : List Own) (life : Life) → IsLocalSpawner program
     → IsNamed a program → life ≡ Alive → s.actors a ≡ Some (record { program = program; past = past; life = life }) → next_of program past own.read own.ready ≡ own.due
-    → ComesOf s a own.due own.came wrote → MessagesStand B s → Inv controls (acted s a own wrote (Some (record { program = program; past = past; life = life })))
+    → ComesOf s a own.due own.came wrote → MessagesStand B s → Inv (acted s a own wrote (Some (record { program = program; past = past; life = life })))
     → NothingComes (acted s a own wrote (Some (record { program = program; past = past; life = life })))
     → MessagesStand C (acted s a own wrote (Some (record { program = program; past = past; life = life })))
-messages_by B C carry controls s I a own wrote (LocalSpawner began) past Alive it named alive is due comes M J N =
+messages_by B C carry s I a own wrote (LocalSpawner began) past Alive it named alive is due comes M J N =
     subst (λ (b : List ℕ). MessagesStand C (acted s b own wrote (Some (spawner began past)))) (sym named)
-    (spawner_stands B C carry controls s I M own wrote began past (subst (λ (b : List ℕ). s.actors b ≡ Some (spawner began past)) named is) due
+    (spawner_stands B C carry s I M own wrote began past (subst (λ (b : List ℕ). s.actors b ≡ Some (spawner began past)) named is) due
     (subst (λ (b : List ℕ). ComesOf s b own.due own.came wrote) named comes)
-    (subst (λ (b : List ℕ). Inv controls (acted s b own wrote (Some (spawner began past)))) named J)
+    (subst (λ (b : List ℕ). Inv (acted s b own wrote (Some (spawner began past)))) named J)
     (subst (λ (b : List ℕ). NothingComes (acted s b own wrote (Some (spawner began past)))) named N))
-messages_by B C carry controls s I a own wrote (LocalSpawner began) past life it named alive is due comes M J N = absurd (cc)
-messages_by B C carry controls s I a own wrote other past life it named alive is due comes M J N = absurd it
+messages_by B C carry s I a own wrote (LocalSpawner began) past life it named alive is due comes M J N = absurd (cc)
+messages_by B C carry s I a own wrote other past life it named alive is due comes M J N = absurd it
 
-pub spawner_messages : (B C : ℕ → List ℕ → Type 0) → ((slot : ℕ) (name : List ℕ) → B slot name → C slot name) → (controls : Controls) (s : State) → Inv controls s → (a : List ℕ) (own : Own) (wrote : ℕ) (x : Actor) → s.actors a ≡ Some x → x.life ≡ Alive → IsLocalSpawner x.program
+pub spawner_messages : (B C : ℕ → List ℕ → Type 0) → ((slot : ℕ) (name : List ℕ) → B slot name → C slot name) → (s : State) → Inv s → (a : List ℕ) (own : Own) (wrote : ℕ) (x : Actor) → s.actors a ≡ Some x → x.life ≡ Alive → IsLocalSpawner x.program
     → next_of x.program x.past own.read own.ready ≡ own.due → ComesOf s a own.due own.came wrote → MessagesStand B s
-    → Inv controls (acted s a own wrote (Some x)) → NothingComes (acted s a own wrote (Some x)) → MessagesStand C (acted s a own wrote (Some x))
-spawner_messages B C carry controls s I a own wrote x is alive it due comes M J N =
-    messages_by B C carry controls s I a own wrote x.program x.past x.life it (I.crew a x is) alive is due comes M J N
+    → Inv (acted s a own wrote (Some x)) → NothingComes (acted s a own wrote (Some x)) → MessagesStand C (acted s a own wrote (Some x))
+spawner_messages B C carry s I a own wrote x is alive it due comes M J N =
+    messages_by B C carry s I a own wrote x.program x.past x.life it (I.crew a x is) alive is due comes M J N

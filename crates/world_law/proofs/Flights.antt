@@ -1,7 +1,6 @@
 -- What a sender had in flight stays preprocessed, also once it is gone.
 use Rattle.std.proofs.Common.{◌≡◌, ◌≢◌, ⊎_elim, ℕ, ◌≤◌, List, [], ◌∷◌, true, false, Option, Some, None, refl, sym, ap, ◌∙◌, subst, arith, codes}
 use Rattle.std.specs.Prelude.{Contains}
-use Rattle.address_rules.specs.declared.controls.Controls.{Controls}
 use Rattle.call_fs.specs.Disk.{Disk}
 use Rattle.call_fs.specs.Maps.{put_at}
 use Rattle.call_fs.proofs.Maps.{put_at_cases}
@@ -36,7 +35,6 @@ use Rattle.send_jobs.specs.declared.slots.Slots.{Slots}
 use Rattle.send_jobs.specs.Jobs.{job_of}
 use Rattle.send_jobs.specs.Sending.{lane}
 use Rattle.send_jobs.specs.Slots.{attempt_in}
-use Rattle.program_law.specs.Sender.Control.{AreControls}
 use Rattle.program_law.specs.Sender.Knows.{IsSettledIn, Serves}
 use Rattle.program_law.specs.Sender.Stands.{LaneStands}
 use Rattle.program_law.specs.Sender.Views.{first_at}
@@ -65,23 +63,23 @@ KeepsSettled s t = (n : ℕ) → IsSettledIn (about_in s n) → IsSettledIn (abo
 
 -- An event of the cleaner, whose number at work isn't
 
-needs_apart : (controls : Controls) (command : Command) (w : About) → Needs controls command w → IsSettledIn w → ⊥
-needs_apart controls (Foop n) w spent h = let none = spent.unsorted Info refl in let there = h.info_there in absurd (cc)
-needs_apart controls (Sort n) w ready h = let none = h.no_todo in let there = ready.queued.todo_there in absurd (cc)
+needs_apart : (command : Command) (w : About) → Needs command w → IsSettledIn w → ⊥
+needs_apart (Foop n) w spent h = let none = spent.unsorted Info refl in let there = h.info_there in absurd (cc)
+needs_apart (Sort n) w ready h = let none = h.no_todo in let there = ready.queued.todo_there in absurd (cc)
 
-row_apart : (controls : Controls) (now : ℕ) (q : Queue) (row : Row) (p : Place) (n : ℕ) → StandsAt controls now q row p → IsSettledIn (about q n) → number_at row ≢ Some n
-row_apart controls now q (at.UnlinkIntd command) p n rests h is =
+row_apart : (now : ℕ) (q : Queue) (row : Row) (p : Place) (n : ℕ) → StandsAt now q row p → IsSettledIn (about q n) → number_at row ≢ Some n
+row_apart now q (at.UnlinkIntd command) p n rests h is =
     let same : message_of command ≡ n = cc in
-    needs_apart controls command (about q (message_of command)) rests.rest (subst (λ (m : ℕ). IsSettledIn (about q m)) (sym same) h)
-row_apart controls now q (at.UnlinkSecond command) p n rests h is =
+    needs_apart command (about q (message_of command)) rests.rest (subst (λ (m : ℕ). IsSettledIn (about q m)) (sym same) h)
+row_apart now q (at.UnlinkSecond command) p n rests h is =
     let same : message_of command ≡ n = cc in
-    needs_apart controls command (about q (message_of command)) rests.rest.0 (subst (λ (m : ℕ). IsSettledIn (about q m)) (sym same) h)
-row_apart controls now q row p n rests h is = absurd (cc)
+    needs_apart command (about q (message_of command)) rests.rest.0 (subst (λ (m : ℕ). IsSettledIn (about q m)) (sym same) h)
+row_apart now q row p n rests h is = absurd (cc)
 
 abbrev cleaner : ℕ → List Own → Actor
 cleaner began past = record { program = Cleaner began; past = past; life = Alive }
 
-module _ (controls : Controls) (s : State) (I : Inv controls s) (a : List ℕ) (own : Own) (wrote began : ℕ) (past : List Own) (is : s.actors a ≡ Some (cleaner began past)) (soon : own.read ≤ s.now) where
+module _ (s : State) (I : Inv s) (a : List ℕ) (own : Own) (wrote began : ℕ) (past : List Own) (is : s.actors a ≡ Some (cleaner began past)) (soon : own.read ≤ s.now) where
   abbrev event : NeedData → GotData → Own
   event due came = record { read = own.read; ready = own.ready; due = due; came = came }
 
@@ -91,9 +89,9 @@ module _ (controls : Controls) (s : State) (I : Inv controls s) (a : List ℕ) (
   cleaner_kept : (due : NeedData) (came : GotData) → next_of (Cleaner began) past own.read own.ready ≡ due → ComesOf s a due came wrote
       → KeepsSettled s (acted s a (event due came) wrote (Some (cleaner began past)))
   cleaner_kept (needs.File c) (got.Answered told) next comes = λ n h.
-      let stands : CleanerStands controls s.now q (place_after past) = I.fares a (cleaner began past) is in
-      let leads = calls_keep controls s.now q a past own.read own.ready c told wrote I.sound stands soon next comes.0 in
-      subst IsSettledIn (sym (leads.abouts n (row_apart controls s.now q (place_after past).row (place_after past) n stands h))) h
+      let stands : CleanerStands s.now q (place_after past) = I.fares a (cleaner began past) is in
+      let leads = calls_keep s.now q a past own.read own.ready c told wrote I.sound stands soon next comes.0 in
+      subst IsSettledIn (sym (leads.abouts n (row_apart s.now q (place_after past).row (place_after past) n stands h))) h
   cleaner_kept (needs.Take from) came next comes = λ n h. h
   cleaner_kept due came next comes = λ n h. h
 
@@ -145,15 +143,15 @@ others_there s t a y put alive keeps x is dead = ⊎_elim
     record { y = x; is = sym c.1 ∙ sym (ap (λ (f : List ℕ → Option Actor). f (codes "sender")) put) ∙ is; program = refl; past = refl; keeps = keeps c.0 })
     (put_at_cases s.actors a (Some y) (codes "sender"))
 
-act_keeps : (controls : Controls) (s : State) (I : Inv controls s) (a : List ℕ) (own : Own) (wrote : ℕ) → LeavesMost s (Act a own wrote) → (x : Actor) → s.actors a ≡ Some x → x.life ≡ Alive → own.read ≤ s.now
+act_keeps : (s : State) (I : Inv s) (a : List ℕ) (own : Own) (wrote : ℕ) → LeavesMost s (Act a own wrote) → (x : Actor) → s.actors a ≡ Some x → x.life ≡ Alive → own.read ≤ s.now
     → next_of x.program x.past own.read own.ready ≡ own.due → ComesOf s a own.due own.came wrote → (program : Program) → x.program ≡ program → codes "sender" ≢ a
     → KeepsSettled s (acted s a own wrote (Some x))
-act_keeps controls s I a own wrote L x is alive soon due comes (Sender began) e apart = absurd (apart (sym (subst (IsNamed a) e (I.crew a x is))))
-act_keeps controls s I a own wrote L x is alive soon due comes (Cleaner began) e apart =
+act_keeps s I a own wrote L x is alive soon due comes (Sender began) e apart = absurd (apart (sym (subst (IsNamed a) e (I.crew a x is))))
+act_keeps s I a own wrote L x is alive soon due comes (Cleaner began) e apart =
     let x_is : x ≡ cleaner began x.past = λ i. record { program = e i; past = x.past; life = alive i } in
     subst (λ (z : Actor). KeepsSettled s (acted s a own wrote (Some z))) (sym x_is)
-    (cleaner_kept controls s I a own wrote began x.past (is ∙ ap Some x_is) soon own.due own.came (subst (λ (p : Program). next_of p x.past own.read own.ready ≡ own.due) e due) comes)
-act_keeps controls s I a own wrote L x is alive soon due comes other e apart = act_spares s a own wrote L x is (subst (λ (p : Program). IsSparing (Some p)) (sym e) tt)
+    (cleaner_kept s I a own wrote began x.past (is ∙ ap Some x_is) soon own.due own.came (subst (λ (p : Program). next_of p x.past own.read own.ready ≡ own.due) e due) comes)
+act_keeps s I a own wrote L x is alive soon due comes other e apart = act_spares s a own wrote L x is (subst (λ (p : Program). IsSparing (Some p)) (sym e) tt)
 
 -- an end or a stop changes neither a name nor a file
 finished_there : (s : State) (a : List ℕ) (life : Life) (x : Actor) → s.actors a ≡ Some x → GoneBefore s (finished s a life (Some x))
@@ -197,23 +195,23 @@ child_there s parent own a program may z there dead = ⊎_elim
     kept : (n : ℕ) → IsSettledIn (about_in s n) → IsSettledIn (about_in mid n)
     kept n h = subst IsSettledIn (sym (same n)) h
 
-gone_before : (e : Event) (controls : Controls) (s : State) → Inv controls s → LeavesMost s e → Allowed s e → GoneBefore s (happens s e)
-gone_before (Start a program) controls s I L may = others_there s (happens s (Start a program)) a (newborn program) refl refl (λ apart n h. h)
-gone_before (Act a own wrote) controls s I L may =
+gone_before : (e : Event) (s : State) → Inv s → LeavesMost s e → Allowed s e → GoneBefore s (happens s e)
+gone_before (Start a program) s I L may = others_there s (happens s (Start a program)) a (newborn program) refl refl (λ apart n h. h)
+gone_before (Act a own wrote) s I L may =
     subst (λ (o : Option Actor). GoneBefore s (acted s a own wrote o)) (sym may.reads.is)
     (others_there s (acted s a own wrote (Some may.actor)) a (record { program = may.actor.program; past = own ∷ may.actor.past; life = may.actor.life }) refl may.reads.alive
-    (act_keeps controls s I a own wrote L may.actor may.reads.is may.reads.alive may.reads.no_later may.due may.came may.actor.program refl))
-gone_before (Child parent own a program) controls s I L may =
+    (act_keeps s I a own wrote L may.actor may.reads.is may.reads.alive may.reads.no_later may.due may.came may.actor.program refl))
+gone_before (Child parent own a program) s I L may =
     subst (λ (o : Option Actor). GoneBefore s (bears (acted s parent own 0 o) parent own a program)) (sym may.reads.is) (child_there s parent own a program may)
-gone_before (Generation (sender ∷ clean ∷ lspawn ∷ rspawn ∷ [])) controls s I L may = λ x is dead.
+gone_before (Generation (sender ∷ clean ∷ lspawn ∷ rspawn ∷ [])) s I L may = λ x is dead.
     let none : ⊥ = same_life x (newborn sender) (sym (four_sender s.actors sender clean lspawn rspawn) ∙ is) refl dead in absurd none
-gone_before (Generation crew) controls s I L may = absurd (are_four crew may.kinds)
-gone_before (Report slot output) controls s I L may = λ x is dead. record { y = x; is = is; program = refl; past = refl; keeps = λ n h. h }
-gone_before (End a read ready status) controls s I L may =
+gone_before (Generation crew) s I L may = absurd (are_four crew may.kinds)
+gone_before (Report slot output) s I L may = λ x is dead. record { y = x; is = is; program = refl; past = refl; keeps = λ n h. h }
+gone_before (End a read ready status) s I L may =
     subst (λ (o : Option Actor). GoneBefore s (finished s a (Over status) o)) (sym may.reads.is) (finished_there s a (Over status) may.actor may.reads.is)
-gone_before (Stop a) controls s I L may = subst (λ (o : Option Actor). GoneBefore s (finished s a Stopped o)) (sym may.is) (finished_there s a Stopped may.actor may.is)
-gone_before (Moment m) controls s I L may = λ x is dead. record { y = x; is = is; program = refl; past = refl; keeps = λ n h. h }
-gone_before (Halt how contents) controls s I L may = λ x is dead.
+gone_before (Stop a) s I L may = subst (λ (o : Option Actor). GoneBefore s (finished s a Stopped o)) (sym may.is) (finished_there s a Stopped may.actor may.is)
+gone_before (Moment m) s I L may = λ x is dead. record { y = x; is = is; program = refl; past = refl; keeps = λ n h. h }
+gone_before (Halt how contents) s I L may = λ x is dead.
     let w = mapped_some stopped (s.actors (codes "sender")) x is in
     record {
       y = w.0;
@@ -238,40 +236,40 @@ left_serves q row ch s l t w =
 abbrev AllFlights : State → Type 0
 AllFlights s = (x : Actor) → s.actors (codes "sender") ≡ Some x → (start : ℕ) → x.program ≡ Sender start → FlightOf s x.past
 
-alive_flight : (controls : Controls) (s : State) (I : Inv controls s) (a : List ℕ) (program : Program) (past : List Own) (life : Life) → life ≡ Alive → (start : ℕ) → program ≡ Sender start
-    → FaresBy controls s.now (queue s I.role) a program past life → FlightOf s past
-alive_flight controls s I a (Sender since) past Alive alive start is F = λ ch t out.
+alive_flight : (s : State) (I : Inv s) (a : List ℕ) (program : Program) (past : List Own) (life : Life) → life ≡ Alive → (start : ℕ) → program ≡ Sender start
+    → FaresBy s.now (queue s I.role) a program past life → FlightOf s past
+alive_flight s I a (Sender since) past Alive alive start is F = λ ch t out.
     let d = sender_after None past in
     let q = queue s I.role in
     ⊎_elim
     (λ (flying : (slot : ℕ) × (attempt_in (lane ch d.slots).slots slot ≡ Some t)).
-    (flies controls q d.row ch d.slots I.control.no_nul I.sound (F.stands.lanes ch) flying.0 t flying.1).sorted)
+    (flies q d.row ch d.slots I.sound (F.stands.lanes ch) flying.0 t flying.1).sorted)
     (λ (left : Contains (lane ch d.slots).left t). (left_serves q d.row ch d.slots (F.stands.lanes ch) t left).sorted)
     out
-alive_flight controls s I a (Sender since) past life alive start is F = absurd (cc)
-alive_flight controls s I a program past life alive start is F = absurd (cc)
+alive_flight s I a (Sender since) past life alive start is F = absurd (cc)
+alive_flight s I a program past life alive start is F = absurd (cc)
 
-flights_keep : (controls : Controls) (s t : State) → Inv controls t → GoneBefore s t → AllFlights s → AllFlights t
-flights_keep controls s t I gone F x is start program = by x.life refl where
+flights_keep : (s t : State) → Inv t → GoneBefore s t → AllFlights s → AllFlights t
+flights_keep s t I gone F x is start program = by x.life refl where
   dead : is_alive x.life ≡ false → FlightOf t x.past
   dead e =
       let w = gone x is e in
       subst (FlightOf t) w.past (λ ch k out. w.keeps k.n (F w.y w.is start (w.program ∙ program) ch k out))
 
   by : (life : Life) → x.life ≡ life → FlightOf t x.past
-  by Alive e = alive_flight controls t I (codes "sender") x.program x.past x.life e start program (I.fares (codes "sender") x is)
+  by Alive e = alive_flight t I (codes "sender") x.program x.past x.life e start program (I.fares (codes "sender") x is)
   by (Over status) e = dead (ap is_alive e)
   by Stopped e = dead (ap is_alive e)
 
-flights_always : (controls : Controls) (d : Disk) (before : List Event) → AreControls controls d → Legal d before → AllFlights (after d before)
-flights_always controls d [] has legal = λ x is start program. absurd (cc)
-flights_always controls d (e ∷ before) has legal =
-    flights_keep controls (after d before) (after d (e ∷ before)) (always controls d (e ∷ before) has legal)
-    (gone_before e controls (after d before) (always controls d before has legal.0) (events_leave controls d e before has legal) legal.1)
-    (flights_always controls d before has legal.0)
+flights_always : (d : Disk) (before : List Event) → Legal d before → AllFlights (after d before)
+flights_always d [] legal = λ x is start program. absurd (cc)
+flights_always d (e ∷ before) legal =
+    flights_keep (after d before) (after d (e ∷ before)) (always d (e ∷ before) legal)
+    (gone_before e (after d before) (always d before legal.0) (events_leave d e before legal) legal.1)
+    (flights_always d before legal.0)
 
 pub flights_stand : FlightsStand
-flights_stand controls d before has legal x is start program ch t out =
+flights_stand d before legal x is start program ch t out =
     let s = after d before in
-    let I = always controls d before has legal in
-    settled_state controls (queue s I.role) t.n (I.sound.fine t.n) (flights_always controls d before has legal x is start program ch t out)
+    let I = always d before legal in
+    settled_state (queue s I.role) t.n (I.sound.fine t.n) (flights_always d before legal x is start program ch t out)

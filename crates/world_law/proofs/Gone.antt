@@ -1,7 +1,6 @@
 -- An actor has ended or was stopped: what it held open is closed, and nothing else of the queue changed.
 use Rattle.std.proofs.Common.{◌≡◌, ◌≢◌, ◌⊎◌, inl, inr, ℕ, List, Bool, true, false, Option, Some, None, refl, sym, ap, ◌∙◌, subst, ⊎_elim, codes, if◌then◌else◌}
 use Rattle.std.proofs.lemmas.Bool.Decides.{eqb_tells}
-use Rattle.address_rules.specs.declared.controls.Controls.{Controls}
 use Rattle.call_fs.specs.Disk.{Open}
 use Rattle.call_fs.specs.Maps.{put_at}
 use Rattle.call_fs.proofs.Maps.{put_at_cases}
@@ -42,12 +41,9 @@ use Rattle.queue_law.proofs.Injectors.{injector_done, injector_over}
 use Rattle.queue_law.proofs.RestIsKept.{rest_is_kept}
 use Rattle.queue_law.proofs.Tests.{unless_same}
 use Rattle.program_law.specs.Sender.InTodo.{IsExpected}
-use Rattle.program_law.specs.Sender.ControlFiles.{LeavesControls}
 use Rattle.program_law.specs.Sender.Stands.{SparesSorted}
 use Rattle.program_law.specs.Sender.LeftAlone.{LeavesPass, LeavesRow}
 use Rattle.program_law.proofs.Sender.Asking.{texts_keep}
-use Rattle.program_law.proofs.Sender.ControlsRead.{controls_are_read}
-use Rattle.program_law.proofs.Sender.ControlsStay.{controls_stay}
 use Rattle.program_law.proofs.Sender.LeftAlone.{senders_are_left_alone}
 use Rattle.world_pipes.specs.Pipework.{Pipe, closed, without_writer, is_writer, writer}
 use Rattle.world_events.specs.declared.event.Program.{Program}
@@ -81,28 +77,28 @@ module _ (q r : Queue) (same : (n : ℕ) → about r n ≡ about q n) where
   leaves_row row p = tt
 
 -- what such a step leaves of an errand, if it spares all closed numbers
-module _ (controls : Controls) (now : ℕ) (q r : Queue) (S : Spares now None q r) where
+module _ (now : ℕ) (q r : Queue) (S : Spares now None q r) where
   none : (n : ℕ) → None ≢ Some n
   none n e = absurd (cc)
 
-  pub errands_spared : (cleans : Bool) (x : Link) → ErrandRests controls now q cleans x → ErrandRests controls now r cleans x
+  pub errands_spared : (cleans : Bool) (x : Link) → ErrandRests now q cleans x → ErrandRests now r cleans x
   errands_spared cleans x E = record {
     waits = E.waits;
     errand = E.errand;
     rests = λ lives command is.
         let w = E.rests lives command is in
         let n = message_of command in
-        record { closed = S.closed n (none n) w.closed; rest = subst (Needs controls command) (sym (S.abouts n (none n) w.closed)) w.rest };
+        record { closed = S.closed n (none n) w.closed; rest = subst (Needs command) (sym (S.abouts n (none n) w.closed)) w.rest };
     asked = λ n is. S.closed n (none n) (E.asked n is);
     told = λ n is well.
         let w = E.told n is well in
-        record { closed = S.closed n (none n) w.closed; rest = subst (IsPreprocessed controls) (sym (S.abouts n (none n) w.closed)) w.rest };
+        record { closed = S.closed n (none n) w.closed; rest = subst (IsPreprocessed) (sym (S.abouts n (none n) w.closed)) w.rest };
   }
 
 -- The sender is lost, or goes on, and the cleaner too
 
-module _ (controls : Controls) (now : ℕ) (q : Queue) (lives later : Bool) (x : Link) (still : later ≡ true → lives ≡ true) (E : ErrandRests controls now q lives x) where
-  errands_lost : ErrandRests controls now q later (loses x)
+module _ (now : ℕ) (q : Queue) (lives later : Bool) (x : Link) (still : later ≡ true → lives ≡ true) (E : ErrandRests now q lives x) where
+  errands_lost : ErrandRests now q later (loses x)
   errands_lost = record {
     waits = E.waits;
     errand = losses_keep.lost E.waits x E.errand;
@@ -111,22 +107,22 @@ module _ (controls : Controls) (now : ℕ) (q : Queue) (lives later : Bool) (x :
     told = λ n h. absurd (cc);
   }
 
-  errands_go_on : ErrandRests controls now q later x
+  errands_go_on : ErrandRests now q later x
   errands_go_on = record { waits = E.waits; errand = E.errand; rests = λ alive. E.rests (still alive); asked = E.asked; told = E.told }
 
   errands_by : (w : Awaits) → (w ≡ Lost) ⊎ (w ≡ x.awaits)
-      → ErrandRests controls now q later (record { awaits = w; place = x.place; given = x.given; answers = x.answers })
+      → ErrandRests now q later (record { awaits = w; place = x.place; given = x.given; answers = x.answers })
   errands_by w is = ⊎_elim
-      (λ (lost : w ≡ Lost). subst (λ (v : Awaits). ErrandRests controls now q later (record { awaits = v; place = x.place; given = x.given; answers = x.answers })) (sym lost) errands_lost)
-      (λ (same : w ≡ x.awaits). subst (λ (v : Awaits). ErrandRests controls now q later (record { awaits = v; place = x.place; given = x.given; answers = x.answers })) (sym same) errands_go_on)
+      (λ (lost : w ≡ Lost). subst (λ (v : Awaits). ErrandRests now q later (record { awaits = v; place = x.place; given = x.given; answers = x.answers })) (sym lost) errands_lost)
+      (λ (same : w ≡ x.awaits). subst (λ (v : Awaits). ErrandRests now q later (record { awaits = v; place = x.place; given = x.given; answers = x.answers })) (sym same) errands_go_on)
       is
 
   pub errands_at : (w : Awaits) (p : Place) (given answers : List ℕ) → (w ≡ Lost) ⊎ (w ≡ x.awaits) → p ≡ x.place → given ≡ x.given → answers ≡ x.answers
-      → ErrandRests controls now q later (record { awaits = w; place = p; given = given; answers = answers })
+      → ErrandRests now q later (record { awaits = w; place = p; given = given; answers = answers })
   errands_at w p given answers is place same told =
-      subst (λ (z : Place). ErrandRests controls now q later (record { awaits = w; place = z; given = given; answers = answers })) (sym place)
-      (subst (λ (z : List ℕ). ErrandRests controls now q later (record { awaits = w; place = x.place; given = z; answers = answers })) (sym same)
-      (subst (λ (z : List ℕ). ErrandRests controls now q later (record { awaits = w; place = x.place; given = x.given; answers = z })) (sym told)
+      subst (λ (z : Place). ErrandRests now q later (record { awaits = w; place = z; given = given; answers = answers })) (sym place)
+      (subst (λ (z : List ℕ). ErrandRests now q later (record { awaits = w; place = x.place; given = z; answers = answers })) (sym same)
+      (subst (λ (z : List ℕ). ErrandRests now q later (record { awaits = w; place = x.place; given = x.given; answers = z })) (sym told)
       (errands_by w is)))
 
 -- a pipe that is shut has its bytes
@@ -142,13 +138,13 @@ IsDone (Injector args) past = inject_after args past ≡ inject.Queued
 IsDone (Delivery start args) past = IsCarried args past
 IsDone other past = Unit {0}
 
-done_at : (controls : Controls) (now : ℕ) (q : Queue) (a : List ℕ) (program : Program) (past : List Own) (life : Life) (read : ℕ) (ready : Ready)
-    → FaresBy controls now q a program past life → life ≡ Alive → next_of program past read ready ≡ needs.Ended 0 → IsDone program past
-done_at controls now q a (Injector args) past life read ready F alive next =
+done_at : (now : ℕ) (q : Queue) (a : List ℕ) (program : Program) (past : List Own) (life : Life) (read : ℕ) (ready : Ready)
+    → FaresBy now q a program past life → life ≡ Alive → next_of program past read ready ≡ needs.Ended 0 → IsDone program past
+done_at now q a (Injector args) past life read ready F alive next =
     injector_done now q a args past (is_alive life) (is_well life) read ready F (ap is_alive alive) next
-done_at controls now q a (Delivery start args) past Alive read ready F alive next = carried_out args past read ready F.rests.run next
-done_at controls now q a (Delivery start args) past life read ready F alive next = absurd (cc)
-done_at controls now q a other past life read ready F alive next = tt
+done_at now q a (Delivery start args) past Alive read ready F alive next = carried_out args past read ready F.rests.run next
+done_at now q a (Delivery start args) past life read ready F alive next = absurd (cc)
+done_at now q a other past life read ready F alive next = tt
 
 zero_of : (status : ℕ) → is_well (Over status) ≡ true → status ≡ 0
 zero_of status well = ⊎_elim (λ w. w.1) (λ w. let v = sym w.0 ∙ well in absurd (cc)) (eqb_tells status 0)
@@ -164,18 +160,18 @@ rests_over q r a args past (Over status) dead = tt
 rests_over q r a args past Stopped dead = tt
 
 -- of one that is over, only an injector's account of itself is asked, and a delivery's
-fares_over : (controls : Controls) (now : ℕ) (q r : Queue) → r.books ≡ q.books → (a : List ℕ) (program : Program) (past : List Own) (old life : Life)
-    → is_alive life ≡ false → (is_well life ≡ true → IsDone program past) → FaresBy controls now q a program past old → FaresBy controls now r a program past life
-fares_over controls now q r same a (Injector args) past old life dead ends F =
+fares_over : (now : ℕ) (q r : Queue) → r.books ≡ q.books → (a : List ℕ) (program : Program) (past : List Own) (old life : Life)
+    → is_alive life ≡ false → (is_well life ≡ true → IsDone program past) → FaresBy now q a program past old → FaresBy now r a program past life
+fares_over now q r same a (Injector args) past old life dead ends F =
     injector_over now q r same a args past (is_alive old) (is_well old) (is_alive life) (is_well life) F (λ h. absurd (cc)) ends
-fares_over controls now q r same a (Delivery start args) past old life dead ends F = record {
+fares_over now q r same a (Delivery start args) past old life dead ends F = record {
   rests = rests_over q r a args past life dead;
   forwards = subst (λ (b : Books). AreForwarded b past) (sym same) F.forwards;
   well = ends;
 }
-fares_over controls now q r same a other past old Alive dead ends F = absurd (cc)
-fares_over controls now q r same a other past old (Over status) dead ends F = tt
-fares_over controls now q r same a other past old Stopped dead ends F = tt
+fares_over now q r same a other past old Alive dead ends F = absurd (cc)
+fares_over now q r same a other past old (Over status) dead ends F = tt
+fares_over now q r same a other past old Stopped dead ends F = tt
 
 awaits_over : (life : Life) (program : Program) (past : List Own) → is_alive life ≡ false → awaits_by life program past ≡ Lost
 awaits_over Alive program past dead = absurd (cc)
@@ -186,7 +182,7 @@ pub dead_cleaner : (program : Program) (life : Life) → is_alive life ≡ false
 dead_cleaner (Cleaner start) life dead = dead
 dead_cleaner other life dead = refl
 
-module _ (controls : Controls) (s : State) (I : Inv controls s) (a : List ℕ) (x : Actor) (is : s.actors a ≡ Some x) (life : Life)
+module _ (s : State) (I : Inv s) (a : List ℕ) (x : Actor) (is : s.actors a ≡ Some x) (life : Life)
     (dead : is_alive life ≡ false) (ends : is_well life ≡ true → IsDone x.program x.past) where
   abbrev before : Queue
   before = queue s I.role
@@ -216,30 +212,22 @@ module _ (controls : Controls) (s : State) (I : Inv controls s) (a : List ℕ) (
   spares_sorted : SparesSorted before over
   spares_sorted = record { taken_up = λ n h. h; sorted = λ n h info there. refl }
 
-  -- what others hold open, and have read
-
-  same_controls : LeavesControls before over
-  same_controls = record {
-    names = λ f. refl;
-    bytes = λ f i there. refl;
-    old = I.old;
-  }
+  -- what others hold open
 
   none_beside : (p : Place) → IsBeside None p
   none_beside p n h = absurd (cc)
 
-  fares_other : (o : List ℕ) → o ≢ a → (program : Program) (past : List Own) (lasts : Life) → FaresBy controls s.now before o program past lasts
-      → FaresBy controls s.now over o program past lasts
+  fares_other : (o : List ℕ) → o ≢ a → (program : Program) (past : List Own) (lasts : Life) → FaresBy s.now before o program past lasts
+      → FaresBy s.now over o program past lasts
   fares_other o other (Injector args) past lasts F = injector_frame s.now a None before over elsewhere o other args past (is_alive lasts) (is_well lasts) F
   fares_other o other (Cleaner start) past Alive F =
-      rest_is_kept.spared controls s.now None before over spares.0 spares.1 (place_after past) (none_beside (place_after past)) F
+      rest_is_kept.spared s.now None before over spares.0 spares.1 (place_after past) (none_beside (place_after past)) F
   fares_other o other (Sender start) past Alive F =
       let d = send_after None past in
       record {
-        stands = senders_are_left_alone.others controls s.now o a None None before over d elsewhere other spares_sorted spares.0
+        stands = senders_are_left_alone.others s.now o a None None before over d elsewhere other spares_sorted spares.0
             (leaves_row before over (λ _. refl) d.row d.pass) F.stands;
-        control = controls_are_read.others before over o d.row d.book same_controls (λ fd how. still_open o fd how other) F.control;
-        texts = texts_keep.others controls s.now before over o d spares_sorted F.stands F.texts;
+        texts = texts_keep.others s.now before over o d spares_sorted F.stands F.texts;
       }
   fares_other o other (LocalSpawner start) past Alive F = lspawn_holds before over o (λ fd how. still_open o fd how other) (local_after past) F
   fares_other o other (RemoteSpawner start) past Alive F = spawner_holds before over o (λ fd how. still_open o fd how other) (spawn_after past).row F
@@ -271,10 +259,10 @@ module _ (controls : Controls) (s : State) (I : Inv controls s) (a : List ℕ) (
       (λ (c : (codes "clean" ≢ a) × (actors_after (codes "clean") ≡ s.actors (codes "clean"))). sym (ap lives_in c.1) ∙ lives)
       (put_at_cases s.actors a (Some (with_life x life)) (codes "clean"))
 
-  errands_over : ErrandsRest controls (finished s a life (Some x)) I.role
+  errands_over : ErrandsRest (finished s a life (Some x)) I.role
   errands_over =
-      errands_at controls s.now over (lives_in (s.actors (codes "clean"))) (lives_in (actors_after (codes "clean"))) (link_in s) cleaner_lived
-      (errands_spared controls s.now before over spares.0 (lives_in (s.actors (codes "clean"))) (link_in s) I.errands)
+      errands_at s.now over (lives_in (s.actors (codes "clean"))) (lives_in (actors_after (codes "clean"))) (link_in s) cleaner_lived
+      (errands_spared s.now before over spares.0 (lives_in (s.actors (codes "clean"))) (link_in s) I.errands)
       (awaits_in (actors_after (codes "sender"))) (place_in (actors_after (codes "clean")))
       ((without_writer s.pipework a).pipes (codes "clean") port.Input).bytes ((without_writer s.pipework a).pipes (codes "sender") port.Clean).bytes
       sender_after cleaner_after
@@ -294,18 +282,16 @@ module _ (controls : Controls) (s : State) (I : Inv controls s) (a : List ℕ) (
   goes : GoesOn (s.actors a) x.program
   goes = subst (λ (o : Option Actor). GoesOn o x.program) (sym is) refl
 
-  pub finished_keeps : Inv controls (finished s a life (Some x))
+  pub finished_keeps : Inv (finished s a life (Some x))
   finished_keeps = record {
     role = I.role;
     moment = I.moment;
     sound = record { suits = I.sound.suits; fine = I.sound.fine; over = I.sound.over };
     bounces = I.bounces;
     crew = each_after (λ y o. IsNamed o y.program) (I.crew a x is) (λ o y other h. I.crew o y h);
-    fares = each_after (λ y o. FaresBy controls s.now over o y.program y.past y.life)
-        (fares_over controls s.now before over refl a x.program x.past x.life life dead ends (I.fares a x is))
+    fares = each_after (λ y o. FaresBy s.now over o y.program y.past y.life)
+        (fares_over s.now before over refl a x.program x.past x.life life dead ends (I.fares a x is))
         (λ o y other h. fares_other o other y.program y.past y.life (I.fares o y h));
-    control = controls_stay.said controls before over same_controls I.control;
-    old = same_controls.old;
     crewed = one_crewed s.actors a (with_life x life) goes I.crewed;
     tenants = tenants_kept s (finished s a life (Some x)) (one_keeps s.actors a (with_life x life) goes) (λ b z there. refl) (λ o d t h. inl h) I.tenants;
     child = one_child s (finished s a life (Some x)) (one_keeps s.actors a (with_life x life) goes) (λ o d t h. inl h) I.tenants a (with_life x life)
@@ -314,15 +300,15 @@ module _ (controls : Controls) (s : State) (I : Inv controls s) (a : List ℕ) (
   }
 
 pub stops_keep : StopsKeep
-stops_keep a controls s I may =
-    subst (λ (o : Option Actor). Inv controls (finished s a Stopped o)) (sym may.is)
-    (finished_keeps controls s I a may.actor may.is Stopped refl (λ h. absurd (cc)))
+stops_keep a s I may =
+    subst (λ (o : Option Actor). Inv (finished s a Stopped o)) (sym may.is)
+    (finished_keeps s I a may.actor may.is Stopped refl (λ h. absurd (cc)))
 
 -- an end comes of the actor's table
 pub ends_keep : EndsKeep
-ends_keep a read ready status controls s I may =
+ends_keep a read ready status s I may =
     let x = may.actor in
-    subst (λ (o : Option Actor). Inv controls (finished s a (Over status) o)) (sym may.reads.is)
-    (finished_keeps controls s I a x may.reads.is (Over status) refl
+    subst (λ (o : Option Actor). Inv (finished s a (Over status) o)) (sym may.reads.is)
+    (finished_keeps s I a x may.reads.is (Over status) refl
     (λ well. let zero_status : status ≡ 0 = zero_of status well in
-    done_at controls s.now (queue s I.role) a x.program x.past x.life read ready (I.fares a x may.reads.is) may.reads.alive (may.due ∙ ap needs.Ended zero_status)))
+    done_at s.now (queue s I.role) a x.program x.past x.life read ready (I.fares a x may.reads.is) may.reads.alive (may.due ∙ ap needs.Ended zero_status)))

@@ -1,7 +1,6 @@
 -- A machine stop.
 use Rattle.std.specs.Prelude.{Contains}
 use Rattle.std.proofs.Common.{◌≡◌, ℕ, List, [], Bool, true, false, Option, Some, None, option_map, refl, sym, ◌∙◌, subst, codes}
-use Rattle.address_rules.specs.declared.controls.Controls.{Controls}
 use Rattle.call_fs.specs.declared.crash_file_system.Survival.{Survival}
 use Rattle.call_fs.specs.Survival.{AllSurvive}
 use Rattle.call_fs.specs.declared.past.Own.{Own}
@@ -13,8 +12,6 @@ use Rattle.queue_law.specs.Numbers.{Queue}
 use Rattle.queue_law.specs.Steps.{after_halt}
 use Rattle.queue_law.proofs.Halts.{injector_halt, sound_after}
 use Rattle.queue_law.proofs.Looks.{mapped_some}
-use Rattle.program_law.specs.Sender.ControlFiles.{LeavesControls}
-use Rattle.program_law.proofs.Sender.ControlsStay.{controls_stay}
 use Rattle.actor_names.specs.MailNames.{members}
 use Rattle.world_events.specs.declared.event.Program.{Program}
 use Rattle.world_events.specs.declared.event.Program.TheVariants.{Injector, Delivery}
@@ -30,17 +27,17 @@ use Rattle.world_law.proofs.Gone.{dead_cleaner}
 use Rattle.world_law.proofs.Tenants.{dead_child}
 
 -- each actor that lived is stopped
-fares_stopped : (controls : Controls) (now : ℕ) (q : Queue) (contents : ℕ → List ℕ) (a : List ℕ) (program : Program) (past : List Own) (life : Life)
-    → FaresBy controls now q a program past life → FaresBy controls now (after_halt contents q) a program past (cut_off life)
-fares_stopped controls now q contents a (Injector args) past Alive F = injector_halt now q contents a args past true false F
-fares_stopped controls now q contents a (Injector args) past (Over status) F = injector_halt now q contents a args past false (is_well (Over status)) F
-fares_stopped controls now q contents a (Injector args) past Stopped F = injector_halt now q contents a args past false false F
-fares_stopped controls now q contents a (Delivery began args) past Alive F = record { rests = tt; forwards = F.forwards; well = λ h. absurd (cc) }
-fares_stopped controls now q contents a (Delivery began args) past (Over status) F = record { rests = tt; forwards = F.forwards; well = F.well }
-fares_stopped controls now q contents a (Delivery began args) past Stopped F = record { rests = tt; forwards = F.forwards; well = F.well }
-fares_stopped controls now q contents a other past Alive F = tt
-fares_stopped controls now q contents a other past (Over status) F = tt
-fares_stopped controls now q contents a other past Stopped F = tt
+fares_stopped : (now : ℕ) (q : Queue) (contents : ℕ → List ℕ) (a : List ℕ) (program : Program) (past : List Own) (life : Life)
+    → FaresBy now q a program past life → FaresBy now (after_halt contents q) a program past (cut_off life)
+fares_stopped now q contents a (Injector args) past Alive F = injector_halt now q contents a args past true false F
+fares_stopped now q contents a (Injector args) past (Over status) F = injector_halt now q contents a args past false (is_well (Over status)) F
+fares_stopped now q contents a (Injector args) past Stopped F = injector_halt now q contents a args past false false F
+fares_stopped now q contents a (Delivery began args) past Alive F = record { rests = tt; forwards = F.forwards; well = λ h. absurd (cc) }
+fares_stopped now q contents a (Delivery began args) past (Over status) F = record { rests = tt; forwards = F.forwards; well = F.well }
+fares_stopped now q contents a (Delivery began args) past Stopped F = record { rests = tt; forwards = F.forwards; well = F.well }
+fares_stopped now q contents a other past Alive F = tt
+fares_stopped now q contents a other past (Over status) F = tt
+fares_stopped now q contents a other past Stopped F = tt
 
 -- what the two come to
 
@@ -67,9 +64,9 @@ lives_halted None = refl
 lives_halted (Some x) = dead_cleaner x.program (cut_off x.life) (stopped_dead x.life)
 
 -- nothing is under way that is waited for
-halted_errands : (controls : Controls) (now : ℕ) (q r : Queue) (lives later : Bool) (x : Link) (w : Awaits) (p : Place) → ErrandRests controls now q lives x → w ≡ Lost → p ≡ x.place → later ≡ false
-    → ErrandRests controls now r later (record { awaits = w; place = p; given = []; answers = [] })
-halted_errands controls now q r lives later x w p E over place dead =
+halted_errands : (now : ℕ) (q r : Queue) (lives later : Bool) (x : Link) (w : Awaits) (p : Place) → ErrandRests now q lives x → w ≡ Lost → p ≡ x.place → later ≡ false
+    → ErrandRests now r later (record { awaits = w; place = p; given = []; answers = [] })
+halted_errands now q r lives later x w p E over place dead =
     let left = losses_keep.halted E.waits x E.errand in
     record {
       waits = left.0;
@@ -80,15 +77,12 @@ halted_errands controls now q r lives later x w p E over place dead =
       told = λ n h. absurd (cc (sym over ∙ h));
     }
 
-module _ (controls : Controls) (s : State) (I : Inv controls s) (contents : ℕ → List ℕ) (all : AllSurvive s.disk contents) where
+module _ (s : State) (I : Inv s) (contents : ℕ → List ℕ) (all : AllSurvive s.disk contents) where
   abbrev after : Queue
   after = after_halt contents (queue s I.role)
 
   each_stopped : (P : List ℕ → Actor → Type 0) → ((a : List ℕ) (x : Actor) → s.actors a ≡ Some x → P a (stopped x)) → (a : List ℕ) (x : Actor) → option_map stopped (s.actors a) ≡ Some x → P a x
   each_stopped P each a x is = let w = mapped_some stopped (s.actors a) x is in subst (P a) w.2 (each a w.0 w.1)
-
-  same_controls : LeavesControls (queue s I.role) after
-  same_controls = controls_stay.halts (queue s I.role) contents all I.old
 
   -- who isn't there wasn't there
   was_none : (o : Option Actor) → option_map stopped o ≡ None → o ≡ None
@@ -100,24 +94,22 @@ module _ (controls : Controls) (s : State) (I : Inv controls s) (contents : ℕ 
       let w = mapped_some stopped (s.actors a) x there in
       I.crewed a w.0 w.1 (subst (λ (z : Actor). MayRun z.program → ⊥) (sym w.2) it)
 
-  halted_keeps : (how : Survival) → Inv controls (happens s (Halt how contents))
+  halted_keeps : (how : Survival) → Inv (happens s (Halt how contents))
   halted_keeps how = record {
     role = I.role;
     moment = I.moment;
-    sound = sound_after (queue s I.role) contents all controls I.sound;
+    sound = sound_after (queue s I.role) contents all I.sound;
     bounces = I.bounces;
     crew = each_stopped (λ a x. IsNamed a x.program) (λ a x is. I.crew a x is);
-    fares = each_stopped (λ a x. FaresBy controls s.now after a x.program x.past x.life) (λ a x is. fares_stopped controls s.now (queue s I.role) contents a x.program x.past x.life (I.fares a x is));
-    control = controls_stay.said controls (queue s I.role) after same_controls I.control;
-    old = same_controls.old;
+    fares = each_stopped (λ a x. FaresBy s.now after a x.program x.past x.life) (λ a x is. fares_stopped s.now (queue s I.role) contents a x.program x.past x.life (I.fares a x is));
     crewed = λ a x there it m member gone. crew_stopped a x there it m member (was_none (s.actors m) gone);
     tenants = λ a d b h. absurd (cc);
     child = each_stopped (λ a x. ChildBy (happens s (Halt how contents)) a x.program x.past x.life)
         (λ a x is. dead_child (happens s (Halt how contents)) a x.program x.past (cut_off x.life) (stopped_dead x.life));
-    errands = halted_errands controls s.now (queue s I.role) after (lives_in (s.actors (codes "clean"))) (lives_in (option_map stopped (s.actors (codes "clean")))) (link_in s)
+    errands = halted_errands s.now (queue s I.role) after (lives_in (s.actors (codes "clean"))) (lives_in (option_map stopped (s.actors (codes "clean")))) (link_in s)
         (awaits_in (option_map stopped (s.actors (codes "sender")))) (place_in (option_map stopped (s.actors (codes "clean")))) I.errands
         (awaits_halted (s.actors (codes "sender"))) (place_halted (s.actors (codes "clean"))) (lives_halted (s.actors (codes "clean")));
   }
 
 pub halts_keep : HaltsKeep
-halts_keep how contents controls s I all = halted_keeps controls s I contents all how
+halts_keep how contents s I all = halted_keeps s I contents all how

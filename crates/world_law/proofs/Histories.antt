@@ -1,7 +1,6 @@
 -- Each event keeps what holds of the whole system, which so holds after each legal history; and each giving to a spawner is an attempt.
-use Rattle.std.proofs.Common.{◌≡◌, ◌≢◌, ◌⊎◌, inl, inr, ⊎_elim, ℕ, List, [], ◌∷◌, map, false, Some, None, refl, sym, ap, ◌∙◌, subst, arith}
+use Rattle.std.proofs.Common.{◌≡◌, ◌≢◌, ◌⊎◌, inl, inr, ⊎_elim, ℕ, List, [], ◌∷◌, map, false, Option, Some, None, option_map, Contains, refl, sym, ap, ◌∙◌, subst, arith}
 use Rattle.std.specs.Prelude.{slice_get}
-use Rattle.address_rules.specs.declared.controls.Controls.{Controls}
 use Rattle.call_fs.specs.Disk.{Among, Disk, IsWhole}
 use Rattle.call_fs.specs.declared.calls.CallData.TheVariants.{Link}
 use Rattle.call_fs.specs.declared.past.NeedData.{NeedData}
@@ -9,7 +8,7 @@ use Rattle.call_fs.specs.declared.past.NeedData.TheVariants as needs
 use Rattle.call_fs.specs.declared.past.Own.{Own}
 use Rattle.call_fs.specs.declared.program.Ready.{Ready}
 use Rattle.program_law.proofs.Delivery.Events.{linked_is_whole}
-use Rattle.call_fs.specs.Past.{taken}
+use Rattle.call_fs.specs.Past.{taken, IsRunBy}
 use Rattle.local_deliver.specs.Table.{Next as DeliversNext}
 use Rattle.local_parts.specs.declared.arguments.LocalArgs.{LocalArgs}
 use Rattle.local_parts.specs.Inputs.{message_in}
@@ -19,8 +18,12 @@ use Rattle.queue_inject.specs.declared.injection.Arguments.{Arguments}
 use Rattle.queue_law.specs.Accounts.{Accounted}
 use Rattle.queue_law.specs.Accounts.Accounted.{Returned}
 use Rattle.queue_law.specs.Books.{IsValid}
-use Rattle.queue_law.specs.Notes.{told_name}
-use Rattle.queue_law.specs.Numbers.{Queue}
+use Rattle.queue_law.specs.Notes.{name_in}
+use Rattle.queue_law.specs.Numbers.{Queue, Role, entry, find}
+use Rattle.program_law.specs.Channel.Files.{IsOpen}
+use Rattle.program_law.specs.Sender.Views.{files_of, records_at}
+use Rattle.send_links.specs.Records.{records_of}
+use Rattle.envelope_records.specs.declared.channel.Record.{Record}
 use Rattle.queue_law.specs.Routes.{lane_part, sender_of}
 use Rattle.queue_law.proofs.Looks.{not_found}
 use Rattle.queue_paths.specs.Names.{path}
@@ -36,10 +39,8 @@ use Rattle.send_core.proofs.Runs.{gives_requests}
 use Rattle.send_jobs.specs.declared.attempts.Attempt.{Attempt}
 use Rattle.send_jobs.specs.Sending.{lane}
 use Rattle.send_links.specs.Requests.{request_of, to_slot}
-use Rattle.call_fs.specs.Past.{IsRunBy}
 use Rattle.world_law.proofs.Ran.{have_run}
 use Rattle.send_known.specs.declared.channel.Channel.{Channel}
-use Rattle.program_law.specs.Sender.Control.{AreControls}
 use Rattle.program_law.proofs.Sender.Arrive.{arrived}
 use Rattle.program_law.proofs.Sender.Asking.{requests_are_texts}
 use Rattle.world_events.specs.declared.event.Program.{Program}
@@ -73,18 +74,18 @@ use Rattle.world_law.proofs.Starts.{generations_keep, starts_keep}
 use Rattle.world_law.proofs.Tenants.{some_actor}
 
 -- an event of an actor, by the program that it runs
-act_keeps : (a : List ℕ) (own : Own) (wrote : ℕ) (controls : Controls) (s : State) → Inv controls s → (may : MayDo s a own wrote) → (program : Program) → may.actor.program ≡ program
-    → Inv controls (happens s (Act a own wrote))
-act_keeps a own wrote controls s I may (Injector args) e = injectors_keep a own wrote controls s I may (subst IsMail (sym e) tt)
-act_keeps a own wrote controls s I may (Cleaner began) e = cleaners_keep a own wrote controls s I may (subst IsCleaner (sym e) tt)
-act_keeps a own wrote controls s I may (Sender began) e = senders_keep a own wrote controls s I may (subst IsSender (sym e) tt)
-act_keeps a own wrote controls s I may (LocalSpawner began) e = locals_keep a own wrote controls s I may (subst IsLocalSpawner (sym e) tt)
-act_keeps a own wrote controls s I may (RemoteSpawner began) e = remotes_keep a own wrote controls s I may (subst IsRemoteSpawner (sym e) tt)
-act_keeps a own wrote controls s I may (Delivery start args) e = deliveries_keep a own wrote controls s I may (subst IsDelivery (sym e) tt)
+act_keeps : (a : List ℕ) (own : Own) (wrote : ℕ) (s : State) → Inv s → (may : MayDo s a own wrote) → (program : Program) → may.actor.program ≡ program
+    → Inv (happens s (Act a own wrote))
+act_keeps a own wrote s I may (Injector args) e = injectors_keep a own wrote s I may (subst IsMail (sym e) tt)
+act_keeps a own wrote s I may (Cleaner began) e = cleaners_keep a own wrote s I may (subst IsCleaner (sym e) tt)
+act_keeps a own wrote s I may (Sender began) e = senders_keep a own wrote s I may (subst IsSender (sym e) tt)
+act_keeps a own wrote s I may (LocalSpawner began) e = locals_keep a own wrote s I may (subst IsLocalSpawner (sym e) tt)
+act_keeps a own wrote s I may (RemoteSpawner began) e = remotes_keep a own wrote s I may (subst IsRemoteSpawner (sym e) tt)
+act_keeps a own wrote s I may (Delivery start args) e = deliveries_keep a own wrote s I may (subst IsDelivery (sym e) tt)
 
 event_keeps : (e : Event) → IsKeptBy e
 event_keeps (Start a program) = starts_keep a program
-event_keeps (Act a own wrote) = λ controls s I may. act_keeps a own wrote controls s I may may.actor.program refl
+event_keeps (Act a own wrote) = λ s I may. act_keeps a own wrote s I may may.actor.program refl
 event_keeps (Child parent own a program) = children_keep parent own a program
 event_keeps (Generation crew) = generations_keep crew
 event_keeps (Report slot output) = reports_keep slot output
@@ -94,27 +95,27 @@ event_keeps (Moment m) = moments_keep m
 event_keeps (Halt how contents) = halts_keep how contents
 
 pub always : Always
-always controls d [] has legal = inv_begins controls d has legal
-always controls d (e ∷ before) has legal = event_keeps e controls (after d before) (always controls d before has legal.0) legal.1
+always d [] legal = inv_begins d legal
+always d (e ∷ before) legal = event_keeps e (after d before) (always d before legal.0) legal.1
 
 -- so each state is safe
 pub histories_are_safe : HistoriesAreSafe
-histories_are_safe controls d before has legal = inv_is_safe controls (after d before) (have_run d before legal) (always controls d before has legal)
+histories_are_safe d before legal = inv_is_safe (after d before) (have_run d before legal) (always d before legal)
 
-pub safe_always : (controls : Controls) (d : Disk) (before : List Event) → AreControls controls d → Legal d before → SafeState (after d before)
-safe_always controls d before has legal = (histories_are_safe controls d before has legal).0
+pub safe_always : (d : Disk) (before : List Event) → Legal d before → SafeState (after d before)
+safe_always d before legal = (histories_are_safe d before legal).0
 
 -- and each recipient is accounted for by the ledgers
-pub accounts_always : (controls : Controls) (d : Disk) (before : List Event) → AreControls controls d → Legal d before → AreAccounted controls (after d before)
-accounts_always controls d before has legal = (histories_are_safe controls d before has legal).1
+pub accounts_always : (d : Disk) (before : List Event) → Legal d before → AreAccounted (after d before)
+accounts_always d before legal = (histories_are_safe d before legal).1
 
 -- Attempts
 
-pub sender_fares : (controls : Controls) (now : ℕ) (q : Queue) (a : List ℕ) (program : Program) (past : List Own) (life : Life) (start : ℕ) → program ≡ Sender start → life ≡ Alive
-    → FaresBy controls now q a program past life → SenderFares controls now q a (sender_after None past)
-sender_fares controls now q a (Sender began) past Alive start is alive F = F
-sender_fares controls now q a (Sender began) past life start is alive F = absurd (cc)
-sender_fares controls now q a other past life start is alive F = absurd (cc)
+pub sender_fares : (now : ℕ) (q : Queue) (a : List ℕ) (program : Program) (past : List Own) (life : Life) (start : ℕ) → program ≡ Sender start → life ≡ Alive
+    → FaresBy now q a program past life → SenderFares now q a (sender_after None past)
+sender_fares now q a (Sender began) past Alive start is alive F = F
+sender_fares now q a (Sender began) past life start is alive F = absurd (cc)
+sender_fares now q a other past life start is alive F = absurd (cc)
 
 -- what is due to a sender
 due_of : (program : Program) (past : List Own) (read : ℕ) (ready : Ready) (start : ℕ) (due : NeedData) → program ≡ Sender start → next_of program past read ready ≡ due
@@ -146,17 +147,30 @@ text_for text j k n from to is same = is ∙ ap (λ (slot : ℕ). to_slot slot (
 same_first : (tasks rest more : List Task) (t u : Task) → tasks ≡ t ∷ rest → tasks ≡ u ∷ more → u ≡ t
 same_first tasks rest more t u one two = let both : t ∷ rest ≡ u ∷ more = sym one ∙ two in cc
 
-module _ (controls : Controls) (s : State) (I : Inv controls s) (a : List ℕ) (own : Own) (wrote : ℕ) (may : MayDo s a own wrote) (start : ℕ) (is : may.actor.program ≡ Sender start)
+-- its record reads `T` in its file
+read_of : (s : State) (role : ℕ → Role) (ch : Channel) (a : Attempt) → IsOpen (files_of (queue s role) ch) a
+    → (file : ℕ) × (s.disk.names (path (Of (lane_part ch) a.n)) ≡ Some file) × (records : List Record) × (records_of (s.disk.files file).bytes ≡ Some records)
+    × Contains records (record { done = false; place = a.place; address = a.address })
+unfolding find
+read_of s role ch a it = by (s.disk.names (path (Of (lane_part ch) a.n))) refl it.there
+  where
+    by : (o : Option ℕ) → s.disk.names (path (Of (lane_part ch) a.n)) ≡ o → records_at (option_map (entry s.disk.files) o) ≡ Some it.records
+        → (file : ℕ) × (s.disk.names (path (Of (lane_part ch) a.n)) ≡ Some file) × (records : List Record) × (records_of (s.disk.files file).bytes ≡ Some records)
+        × Contains records (record { done = false; place = a.place; address = a.address })
+    by None is there = absurd (cc)
+    by (Some file) is there = (file, is, it.records, there, it.reads)
+
+module _ (s : State) (I : Inv s) (a : List ℕ) (own : Own) (wrote : ℕ) (may : MayDo s a own wrote) (start : ℕ) (is : may.actor.program ≡ Sender start)
     (ran : IsRunBy (Next None) may.actor.past) where
   attempted : (ch : Channel) (text : List ℕ) → own.due ≡ needs.Give (port_of ch) text → IsAttempt s may.actor.past ch text
   attempted ch text given =
       let x = may.actor in
       let d = sender_after None x.past in
-      let F = sender_fares controls s.now (queue s I.role) a x.program x.past x.life start is may.reads.alive (I.fares a x may.reads.is) in
+      let F = sender_fares s.now (queue s I.role) a x.program x.past x.life start is may.reads.alive (I.fares a x may.reads.is) in
       let soon = may.reads.no_later in
       let moment : IsMoment own.read = (let m = I.moment in omega (arith, m, soon)) in
       let due = due_of x.program x.past own.read own.ready start (needs.Give (port_of ch) text) is (may.due ∙ given) in
-      let w = requests_are_texts controls s.now (queue s I.role) a d own.read own.ready ch text soon moment F.stands F.texts due in
+      let w = requests_are_texts s.now (queue s I.role) a d own.read own.ready ch text soon moment F.stands F.texts due in
       let g = gives_requests None x.past own.read own.ready ran ch text due in
       let agrees = lanes_agree None x.past ran ch (goes_on d.row d own.read own.ready ch text due) in
       let first = first_left (lane ch d.slots).left w.attempt (account ch x.past).to_give w.next_is agrees.to_give in
@@ -168,7 +182,7 @@ module _ (controls : Controls) (s : State) (I : Inv controls s) (a : List ℕ) (
         slot = g.slot;
         injection = w.injection;
         next_is = first.1;
-        reads = w.reads;
+        reads = read_of s I.role ch w.attempt w.reads;
         lives = w.lives;
         free = g.free;
         lowest = g.lowest;
@@ -178,91 +192,91 @@ module _ (controls : Controls) (s : State) (I : Inv controls s) (a : List ℕ) (
       }
 
 pub attempts_are_sound : AttemptsAreSound
-attempts_are_sound controls d a own wrote before has legal x is start program ch text given =
+attempts_are_sound d a own wrote before legal x is start program ch text given =
     let may = legal.1 in
     let same : may.actor ≡ x = some_actor may.actor x (sym may.reads.is ∙ is) in
     let program_is : may.actor.program ≡ Sender start = ap (λ (y : Actor). y.program) same ∙ program in
     let ran : IsRunBy (Next None) may.actor.past = subst (λ (p : Program). IsRunBy (next_of p) may.actor.past) program_is (have_run d before legal.0 a may.actor may.reads.is) in
     subst (λ (y : Actor). IsAttempt (after d before) y.past ch text) same
-    (attempted controls (after d before) (always controls d before has legal.0) a own wrote may start program_is ran ch text given)
+    (attempted (after d before) (always d before legal.0) a own wrote may start program_is ran ch text given)
 
 pub bounces_are_accepted : BouncesAreAccepted
-bounces_are_accepted controls d before has legal i h x among =
-    let returned = (always controls d before has legal).bounces i (⊎_elim
+bounces_are_accepted d before legal i h x among =
+    let returned = (always d before legal).bounces i (⊎_elim
     (λ (lives : (after d before).books.living i.number ≡ Some i). inl (i.number, lives))
     (λ (over : Among i (after d before).books.over). inr over)
     h) x among in
-    let valid = (safe_always controls d before has legal).valid returned.accepted.0 returned.accepted.1 returned.accepted.4 in
-    (returned, bounce_addressed controls has.no_nul i.args x.notes x.args (subst IsValid returned.accepted.3 valid) returned.carries)
+    let valid = (safe_always d before legal).valid returned.accepted.0 returned.accepted.1 returned.accepted.4 in
+    (returned, bounce_addressed x.read.by returned.no_nul i.args x.read.notes x.args (subst IsValid returned.accepted.3 valid) returned.carries)
 
 pub returned_recipients_are_named : ReturnedRecipientsAreNamed
-returned_recipients_are_named controls d before has legal i here r account says = by account says where
-  by : (it : Accounted controls (after d before).disk (after d before).books i r) → IsByBounce it → IsNamedInBounce controls (after d before).books i (told_name controls r.address)
+returned_recipients_are_named d before legal i here r account says = by account says where
+  by : (it : Accounted (after d before).disk (after d before).books i r) → IsByBounce it → IsNamedInBounce (after d before).books i (name_in i r)
   by (Returned failed x bounced read named) says =
-      let w = bounces_are_accepted controls d before has legal i here x bounced in
-      let it = subst (λ (z : Arguments). (carries : IsBounceOf controls i.args x.notes z) × IsAddressed carries.bounce z) (sym w.0.accepted.3) (w.0.carries, w.1) in
+      let w = bounces_are_accepted d before legal i here x bounced in
+      let it = subst (λ (z : Arguments). (carries : IsBounceOf x.read.by i.args x.read.notes z) × IsAddressed carries.bounce z) (sym w.0.accepted.3) (w.0.carries, w.1) in
       record {
-        notes = x.notes;
-        read = read;
+        read = x.read;
+        among = read;
         named = named;
         bounce = w.0.accepted.0;
         injected = w.0.accepted.1;
         accepted = w.0.accepted.4;
         carries = it.0;
         addressed = it.1;
-        single = not_double controls i.args x.notes x.args w.0.carries;
+        single = not_double x.read.by i.args x.read.notes x.args w.0.carries;
       }
   by other says = absurd says
 
 -- Bounces are read last
 
-module _ (controls : Controls) (s : State) (I : Inv controls s) (a : List ℕ) (own : Own) (wrote : ℕ) (may : MayDo s a own wrote) (start : ℕ) (is : may.actor.program ≡ Sender start) where
+module _ (s : State) (I : Inv s) (a : List ℕ) (own : Own) (wrote : ℕ) (may : MayDo s a own wrote) (start : ℕ) (is : may.actor.program ≡ Sender start) where
   read_last : (n : ℕ) → own.due ≡ opening n → (ch : Channel) → s.disk.names (path (Of (lane_part ch) n)) ≡ None
   read_last n due ch =
       let x = may.actor in
       let q = queue s I.role in
-      let F = sender_fares controls s.now q a x.program x.past x.life start is may.reads.alive (I.fares a x may.reads.is) in
+      let F = sender_fares s.now q a x.program x.past x.life start is may.reads.alive (I.fares a x may.reads.is) in
       let d = sender_after None x.past in
       let soon = may.reads.no_later in
       let moment : IsMoment own.read = (let m = I.moment in omega (arith, m, soon)) in
-      let at_row = arrived controls s.now own.read q a soon moment d own.ready F.stands in
+      let at_row = arrived s.now own.read q a soon moment d own.ready F.stands in
       not_found q.disk.names q.disk.files (Of (lane_part ch) n)
-      (channels_are_gone controls s.now q a d n (row_now d own.read own.ready) at_row (due_of x.program x.past own.read own.ready start (opening n) is (may.due ∙ due)) ch)
+      (channels_are_gone s.now q a d n (row_now d own.read own.ready) at_row (due_of x.program x.past own.read own.ready start (opening n) is (may.due ∙ due)) ch)
 
 pub bounces_are_read_last : BouncesAreReadLast
-bounces_are_read_last controls d a own wrote before has legal x is start program n due ch =
+bounces_are_read_last d a own wrote before legal x is start program n due ch =
     let may = legal.1 in
     let same : may.actor ≡ x = some_actor may.actor x (sym may.reads.is ∙ is) in
-    read_last controls (after d before) (always controls d before has legal.0) a own wrote may start (ap (λ (y : Actor). y.program) same ∙ program) n due ch
+    read_last (after d before) (always d before legal.0) a own wrote may start (ap (λ (y : Actor). y.program) same ∙ program) n due ch
 
 -- Drops
 
-pub delivery_fares : (controls : Controls) (now : ℕ) (q : Queue) (a : List ℕ) (program : Program) (past : List Own) (life : Life) (start : ℕ) (args : LocalArgs)
+pub delivery_fares : (now : ℕ) (q : Queue) (a : List ℕ) (program : Program) (past : List Own) (life : Life) (start : ℕ) (args : LocalArgs)
     → program ≡ Delivery start args → life ≡ Alive
-    → FaresBy controls now q a program past life → DeliveryFares q a args past Alive
-delivery_fares controls now q a (Delivery began words) past Alive start args is alive F = let same : words ≡ args = cc in subst (λ (z : LocalArgs). DeliveryFares q a z past Alive) same F
-delivery_fares controls now q a (Delivery began words) past life start args is alive F = absurd (cc)
-delivery_fares controls now q a other past life start args is alive F = absurd (cc)
+    → FaresBy now q a program past life → DeliveryFares q a args past Alive
+delivery_fares now q a (Delivery began words) past Alive start args is alive F = let same : words ≡ args = cc in subst (λ (z : LocalArgs). DeliveryFares q a z past Alive) same F
+delivery_fares now q a (Delivery began words) past life start args is alive F = absurd (cc)
+delivery_fares now q a other past life start args is alive F = absurd (cc)
 
 -- what is due to a delivery
 pub delivery_due : (program : Program) (past : List Own) (read : ℕ) (ready : Ready) (start : ℕ) (args : LocalArgs) (due : NeedData) → program ≡ Delivery start args → next_of program past read ready ≡ due
     → DeliversNext args past read ready ≡ due
 delivery_due program past read ready start args due is next = subst (λ (p : Program). next_of p past read ready ≡ due) is next
 
-module _ (controls : Controls) (s : State) (I : Inv controls s) (a : List ℕ) (own : Own) (wrote : ℕ) (may : MayDo s a own wrote) (start : ℕ) (args : LocalArgs)
+module _ (s : State) (I : Inv s) (a : List ℕ) (own : Own) (wrote : ℕ) (may : MayDo s a own wrote) (start : ℕ) (args : LocalArgs)
     (is : may.actor.program ≡ Delivery start args) where
   linked_whole : (from to : List ℕ) → own.due ≡ needs.File (Link from to)
       → (message : List ℕ) × (message_in (taken may.actor.past) ≡ Some message) × IsWhole s.disk from (maildir_text args message)
   linked_whole from to due =
       let x = may.actor in
       let q = queue s I.role in
-      let F = delivery_fares controls s.now q a x.program x.past x.life start args is may.reads.alive (I.fares a x may.reads.is) in
+      let F = delivery_fares s.now q a x.program x.past x.life start args is may.reads.alive (I.fares a x may.reads.is) in
       linked_is_whole q a args x.past own.read own.ready from to F.rests
       (delivery_due x.program x.past own.read own.ready start args (needs.File (Link from to)) is (may.due ∙ due))
 
 pub drops_are_whole : DropsAreWhole
-drops_are_whole controls d a own wrote before has legal x is start args program from to due =
+drops_are_whole d a own wrote before legal x is start args program from to due =
     let may = legal.1 in
     let same : may.actor ≡ x = some_actor may.actor x (sym may.reads.is ∙ is) in
     subst (λ (y : Actor). (message : List ℕ) × (message_in (taken y.past) ≡ Some message) × IsWhole (after d before).disk from (maildir_text args message)) same
-    (linked_whole controls (after d before) (always controls d before has legal.0) a own wrote may start args (ap (λ (y : Actor). y.program) same ∙ program) from to due)
+    (linked_whole (after d before) (always d before legal.0) a own wrote may start args (ap (λ (y : Actor). y.program) same ∙ program) from to due)

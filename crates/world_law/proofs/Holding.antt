@@ -117,8 +117,8 @@ spawner_is : (y : Actor) (begun : ℕ) → y.program ≡ LocalSpawner begun → 
 spawner_is y begun program alive = λ i. record { program = program i; past = y.past; life = alive i }
 
 pub requests_are_of_flights : RequestsAreOfFlights
-requests_are_of_flights controls d before has legal x is alive start program on y there lives begun runs_it goes =
+requests_are_of_flights d before legal x is alive start program on y there lives begun runs_it goes =
     let s = after d before in
-    let I = always controls d before has legal in
-    both_hold s (posts_always controls d before has legal) start begun x.past y.past (is ∙ ap Some (sender_is x start program alive)) (there ∙ ap Some (spawner_is y begun runs_it lives))
-    (hands_by controls s I (codes "sender") x.program x.past x.life alive start program (I.fares (codes "sender") x is)) on goes
+    let I = always d before legal in
+    both_hold s (posts_always d before legal) start begun x.past y.past (is ∙ ap Some (sender_is x start program alive)) (there ∙ ap Some (spawner_is y begun runs_it lives))
+    (hands_by s I (codes "sender") x.program x.past x.life alive start program (I.fares (codes "sender") x is)) on goes

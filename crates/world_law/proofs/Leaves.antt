@@ -1,6 +1,5 @@
 -- What each event of a legal history leaves.
 use Rattle.std.proofs.Common.{◌≡◌, ◌≢◌, inl, ℕ, List, true, Option, Some, None, refl, sym, ap, ◌∙◌, subst, arith}
-use Rattle.address_rules.specs.declared.controls.Controls.{Controls}
 use Rattle.call_fs.specs.Disk.{Disk, Open}
 use Rattle.call_fs.specs.declared.calls.CallData.{CallData}
 use Rattle.call_fs.specs.declared.calls.Told.{Told}
@@ -17,7 +16,8 @@ use Rattle.local_spawn.specs.Table.{place_after as local_after}
 use Rattle.local_parts.specs.declared.arguments.LocalArgs.{LocalArgs}
 use Rattle.queue_paths.specs.Names.Name.{Of}
 use Rattle.queue_inject.specs.declared.injection.Arguments.{Arguments}
-use Rattle.queue_law.specs.Books.{Books, Child as Bouncer, Injection, IsInjected, IsLater}
+use Rattle.queue_law.specs.Books.{Books, Injection, IsInjected, IsLater}
+use Rattle.queue_law.specs.Entered.{Child as Bouncer}
 use Rattle.queue_law.specs.Injectors.{IsHeld}
 use Rattle.queue_law.specs.Numbers.{IsSorted, Queue, find}
 use Rattle.queue_law.specs.Steps.{Outside}
@@ -33,7 +33,6 @@ use Rattle.send_core.specs.Table.{place_after as sender_after, due_at, row_now}
 use Rattle.send_core.specs.declared.desk.Desk.{Desk}
 use Rattle.send_parts.specs.declared.row.Row.{Row}
 use Rattle.program_law.specs.Sender.Takings.{booked_queue}
-use Rattle.program_law.proofs.Sender.ControlsRead.{controls_are_read}
 use Rattle.program_law.proofs.Sender.Whole.{senders_keep as sender_keeps}
 use Rattle.spawner_parts.specs.Table.{row_now as remote_now}
 use Rattle.world_events.specs.declared.event.Program.{Program}
@@ -93,13 +92,14 @@ module _ (p : Option Program) (a : List ℕ) (s : State) where
 
 -- An event of an actor
 
--- it is neither a file call nor a taking
+-- it is neither a file call nor a taking nor a giving
 abbrev IsNoTaking : NeedData → Type 0
 IsNoTaking (needs.File c) = ⊥
 IsNoTaking (needs.Take from) = ⊥
+IsNoTaking (needs.Give to bytes) = ⊥
 IsNoTaking due = Unit {0}
 
-module _ (controls : Controls) (s : State) (I : Inv controls s) (a : List ℕ) (own : Own) (wrote : ℕ) where
+module _ (s : State) (I : Inv s) (a : List ℕ) (own : Own) (wrote : ℕ) where
   abbrev q : Queue
   q = queue s I.role
 
@@ -118,7 +118,7 @@ module _ (controls : Controls) (s : State) (I : Inv controls s) (a : List ℕ) (
   passed : (program : Program) (past : List Own) (due : NeedData) (came : GotData) → IsNoTaking due → Then program past due came
   passed program past (needs.File c) came none = absurd none
   passed program past (needs.Take from) came none = absurd none
-  passed program past (needs.Give to bytes) came none = idle (Some program) a s _ refl refl refl
+  passed program past (needs.Give to bytes) came none = absurd none
   passed program past (needs.Start asked) came none = idle (Some program) a s _ refl refl refl
   passed program past (needs.Command text) came none = idle (Some program) a s _ refl refl refl
   passed program past needs.Wait came none = idle (Some program) a s _ refl refl refl
@@ -130,9 +130,10 @@ module _ (controls : Controls) (s : State) (I : Inv controls s) (a : List ℕ) (
       → ComesOf s a due came wrote → Then (Injector args) past due came
   injector_left args past may (needs.File c) came next comes = answered s a wrote (Then (Injector args) past (needs.File c)) c came comes
       (λ told fits.
-      let w = injector_calls controls s.now q a args past own.read own.ready c told wrote I.sound (I.fares a (actor (Injector args) past) may.is) may.no_earlier may.no_stall next fits.0 in
+      let w = injector_calls s.now q a args past own.read own.ready c told wrote I.sound (I.fares a (actor (Injector args) past) may.is) may.no_earlier may.no_stall next fits.0 in
       record { outside = w.outside; opens = w.elsewhere.opens; accepted = w.elsewhere.accepted; sorted = λ sparing. w.sorted })
   injector_left args past may (needs.Take from) came next comes = idle (Some (Injector args)) a s _ refl refl refl
+  injector_left args past may (needs.Give to bytes) came next comes = idle (Some (Injector args)) a s _ refl refl refl
   injector_left args past may due came next comes = passed (Injector args) past due came tt
 
   -- The cleaner
@@ -141,9 +142,10 @@ module _ (controls : Controls) (s : State) (I : Inv controls s) (a : List ℕ) (
       → ComesOf s a due came wrote → Then (Cleaner since) past due came
   cleaner_left since past may (needs.File c) came next comes = answered s a wrote (Then (Cleaner since) past (needs.File c)) c came comes
       (λ told fits.
-      let w = calls_keep controls s.now q a past own.read own.ready c told wrote I.sound (I.fares a (actor (Cleaner since) past) may.is) may.no_later next fits.0 in
+      let w = calls_keep s.now q a past own.read own.ready c told wrote I.sound (I.fares a (actor (Cleaner since) past) may.is) may.no_later next fits.0 in
       record { outside = w.outside; opens = w.elsewhere.opens; accepted = w.elsewhere.accepted; sorted = λ sparing. absurd sparing })
   cleaner_left since past may (needs.Take from) came next comes = idle (Some (Cleaner since)) a s _ refl refl refl
+  cleaner_left since past may (needs.Give to bytes) came next comes = idle (Some (Cleaner since)) a s _ refl refl refl
   cleaner_left since past may due came next comes = passed (Cleaner since) past due came tt
 
   -- The sender
@@ -159,7 +161,7 @@ module _ (controls : Controls) (s : State) (I : Inv controls s) (a : List ℕ) (
     abbrev child : Option Bouncer
     child = bouncer_of s a
 
-    sender_fares : SenderFares controls s.now q a d
+    sender_fares : SenderFares s.now q a d
     sender_fares = I.fares a (actor (Sender since) past) may.is
 
     moment : IsMoment own.read
@@ -168,14 +170,16 @@ module _ (controls : Controls) (s : State) (I : Inv controls s) (a : List ℕ) (
     sender_called : (c : CallData) (told : Told) → due_at row d ≡ needs.File c → ComesOf s a (needs.File c) (got.Answered told) wrote
         → Then (Sender since) past (needs.File c) (got.Answered told)
     sender_called c told due comes =
-        let reads = controls_are_read.calls controls q a d own.read own.ready c told wrote I.role I.control sender_fares.control due comes.0 comes.1 in
-        let l = sender_keeps.calls controls s.now q a child d own.read own.ready c told wrote I.control.no_nul I.sound may.no_later moment sender_fares.stands due comes.0 comes.1 reads.0 in
+        let l = sender_keeps.calls s.now q a child d own.read own.ready c told wrote I.sound may.no_later moment sender_fares.stands due comes.0 comes.1 in
         let w = l.1.leads in
         record { outside = w.outside; opens = w.elsewhere.opens; accepted = w.elsewhere.accepted; sorted = λ sparing. absurd sparing }
 
-    -- what a taking enters
+    -- what a taking or a giving enters
+    abbrev told_then : GotData → Queue
+    told_then came = booked_queue child d.book.controls (booked_at row came d) q
+
     abbrev Enters : GotData → Type 0
-    Enters came = (i : Injection) → IsInjected s.books i → i.accepted ≡ true → (j : Injection) × IsInjected (booked_queue child (booked_at row came d) q).books j × IsLater i j
+    Enters came = (i : Injection) → IsInjected s.books i → i.accepted ≡ true → (j : Injection) × IsInjected (told_then came).books j × IsLater i j
 
     took_left : (from : Port) (came : GotData) → Enters came → Then (Sender since) past (needs.Take from) came
     took_left from came enters = record {
@@ -187,19 +191,29 @@ module _ (controls : Controls) (s : State) (I : Inv controls s) (a : List ℕ) (
 
     entered_other : (from : Port) (came : GotData) → IsElsewhere from → due_at row d ≡ needs.Take from → ComesOf s a (needs.Take from) came wrote → Enters came
     entered_other from came it due comes =
-        let has = taken_has controls s I a (I.crew a (actor (Sender since) past) may.is) wrote from came it comes in
-        let t = sender_keeps.takes controls s.now q a child d own.read own.ready from came I.control.no_nul I.sound may.no_later moment sender_fares.stands due
-        (told_other controls s.now child q row came d from it due has) in
-        through controls s.now a q (booked_queue child (booked_at row came d) q) t.leads
+        let has = taken_has s I a (I.crew a (actor (Sender since) past) may.is) wrote from came it comes in
+        let t = sender_keeps.takes s.now q a child d own.read own.ready from came I.sound may.no_later moment sender_fares.stands due
+        (told_other s.now child q row came d from it due has) in
+        through s.now a q (told_then came) t.leads
 
     sender_took : (from : Port) (came : GotData) → due_at row d ≡ needs.Take from → ComesOf s a (needs.Take from) came wrote → Then (Sender since) past (needs.Take from) came
     sender_took port.Clean came due comes = took_left port.Clean came
-        (λ i h accepted. subst (λ (r : Queue). (j : Injection) × IsInjected r.books j × IsLater i j) (sym (none_entered child row came d q due)) (still_there s.books i h))
+        (λ i h accepted. subst (λ (r : Queue). (j : Injection) × IsInjected r.books j × IsLater i j) (sym (none_entered child d.book.controls row came d q due)) (still_there s.books i h))
     sender_took from came due comes = took_left from came (entered_other from came tt due comes)
+
+    sender_gave : (to : Port) (bytes : List ℕ) (came : GotData) → due_at row d ≡ needs.Give to bytes → Then (Sender since) past (needs.Give to bytes) came
+    sender_gave to bytes came due = record {
+      outside = outside_by (Some (Sender since)) s.disk s.disk.opens;
+      opens = λ o fd how other h. h;
+      accepted = through s.now a q (told_then came)
+          (sender_keeps.gives s.now q a child d own.read own.ready to bytes came I.sound may.no_later moment sender_fares.stands due).leads;
+      sorted = λ sparing. absurd sparing;
+    }
 
     sender_left : (due : NeedData) (came : GotData) → next_of (Sender since) past own.read own.ready ≡ due → ComesOf s a due came wrote → Then (Sender since) past due came
     sender_left (needs.File c) came next comes = answered s a wrote (Then (Sender since) past (needs.File c)) c came comes (λ told comes. sender_called c told next comes)
     sender_left (needs.Take from) came next comes = sender_took from came next comes
+    sender_left (needs.Give to bytes) came next comes = sender_gave to bytes came next
     sender_left due came next comes = passed (Sender since) past due came tt
 
   -- The local spawner, which reads users/assign and messages
@@ -209,9 +223,10 @@ module _ (controls : Controls) (s : State) (I : Inv controls s) (a : List ℕ) (
   local_left since past may (needs.File c) came next comes = answered s a wrote (Then (LocalSpawner since) past (needs.File c)) c came comes
       (λ told fits.
       let reads = local_reads q a (local_after past) own.ready c (I.fares a (actor (LocalSpawner since) past) may.is) next in
-      let w = reads_keep controls s.now q a I.sound own.read c told.answer wrote reads fits.0 in
+      let w = reads_keep s.now q a I.sound own.read c told.answer wrote reads fits.0 in
       record { outside = w.outside; opens = w.elsewhere.opens; accepted = w.elsewhere.accepted; sorted = λ sparing n h. about_same s.now a None q _ w.elsewhere n (λ e. absurd (cc)) })
   local_left since past may (needs.Take from) came next comes = idle (Some (LocalSpawner since)) a s _ refl refl refl
+  local_left since past may (needs.Give to bytes) came next comes = idle (Some (LocalSpawner since)) a s _ refl refl refl
   local_left since past may due came next comes = passed (LocalSpawner since) past due came tt
 
   -- The remote spawner, which reads messages
@@ -222,9 +237,10 @@ module _ (controls : Controls) (s : State) (I : Inv controls s) (a : List ℕ) (
       (λ told fits.
       let p = remote_after past in
       let holds = arrive_holds q a p.row p own.ready (I.fares a (actor (RemoteSpawner since) past) may.is) in
-      let w = reads_keep controls s.now q a I.sound own.read c told.answer wrote (only_reads q a (remote_asks p.request) (remote_now p own.ready) p c holds next) fits.0 in
+      let w = reads_keep s.now q a I.sound own.read c told.answer wrote (only_reads q a (remote_asks p.request) (remote_now p own.ready) p c holds next) fits.0 in
       record { outside = w.outside; opens = w.elsewhere.opens; accepted = w.elsewhere.accepted; sorted = λ sparing n h. about_same s.now a None q _ w.elsewhere n (λ e. absurd (cc)) })
   remote_left since past may (needs.Take from) came next comes = idle (Some (RemoteSpawner since)) a s _ refl refl refl
+  remote_left since past may (needs.Give to bytes) came next comes = idle (Some (RemoteSpawner since)) a s _ refl refl refl
   remote_left since past may due came next comes = passed (RemoteSpawner since) past due came tt
 
   -- A delivery, which touches nothing but drops
@@ -238,6 +254,7 @@ module _ (controls : Controls) (s : State) (I : Inv controls s) (a : List ℕ) (
       let w = l.1 in
       record { outside = w.outside; opens = w.foreign.opens; accepted = λ i h accepted. still_there s.books i h; sorted = λ sparing n h. foreign_about a q _ w.foreign n })
   delivery_left since args past may (needs.Take from) came next comes = idle (Some (Delivery since args)) a s _ refl refl refl
+  delivery_left since args past may (needs.Give to bytes) came next comes = idle (Some (Delivery since args)) a s _ refl refl refl
   delivery_left since args past may due came next comes = passed (Delivery since args) past due came tt
 
   by_program : (program : Program) (past : List Own) → Runs program past → next_of program past own.read own.ready ≡ own.due → ComesOf s a own.due own.came wrote → Then program past own.due own.came
@@ -294,16 +311,16 @@ child_leaves s parent own a program may =
     (ap (λ (z : NeedData). holder_after s.holder parent z own.came) may.starts)
     (ap (λ (z : NeedData). books_after (bouncer_of s parent) s.books parent x.program x.past own.read own.ready z own.came) may.starts))
 
-pub leaves : (controls : Controls) (s : State) (I : Inv controls s) (e : Event) → Allowed s e → LeavesMost s e
-leaves controls s I (Start a program) may = of_none s (Start a program) refl refl refl refl
-leaves controls s I (Act a own wrote) may = of_actor s (Act a own wrote) a (λ o other. other) (act_leaves controls s I a own wrote may)
-leaves controls s I (Child parent own a program) may = of_actor s (Child parent own a program) parent (λ o other. other) (child_leaves s parent own a program may)
-leaves controls s I (Generation crew) may = of_none s (Generation crew) refl refl refl refl
-leaves controls s I (Report slot output) may = of_none s (Report slot output) refl refl refl refl
-leaves controls s I (End a read ready status) may = of_actor s (End a read ready status) a (λ o other. other) (over_leaves s a (Over status) may.actor may.reads.is)
-leaves controls s I (Stop a) may = of_actor s (Stop a) a (λ o other. other) (over_leaves s a Stopped may.actor may.is)
-leaves controls s I (Moment m) may = of_none s (Moment m) refl refl refl refl
-leaves controls s I (Halt how contents) may = record {
+pub leaves : (s : State) (I : Inv s) (e : Event) → Allowed s e → LeavesMost s e
+leaves s I (Start a program) may = of_none s (Start a program) refl refl refl refl
+leaves s I (Act a own wrote) may = of_actor s (Act a own wrote) a (λ o other. other) (act_leaves s I a own wrote may)
+leaves s I (Child parent own a program) may = of_actor s (Child parent own a program) parent (λ o other. other) (child_leaves s parent own a program may)
+leaves s I (Generation crew) may = of_none s (Generation crew) refl refl refl refl
+leaves s I (Report slot output) may = of_none s (Report slot output) refl refl refl refl
+leaves s I (End a read ready status) may = of_actor s (End a read ready status) a (λ o other. other) (over_leaves s a (Over status) may.actor may.reads.is)
+leaves s I (Stop a) may = of_actor s (Stop a) a (λ o other. other) (over_leaves s a Stopped may.actor may.is)
+leaves s I (Moment m) may = of_none s (Moment m) refl refl refl refl
+leaves s I (Halt how contents) may = record {
   outside = λ e. absurd (cc);
   opens = λ o fd how other h. absurd other;
   accepted = λ i h accepted. still_there s.books i h;
@@ -311,4 +328,4 @@ leaves controls s I (Halt how contents) may = record {
 }
 
 pub events_leave : EventsLeave
-events_leave controls d e before has legal = leaves controls (after d before) (always controls d before has legal.0) e legal.1
+events_leave d e before legal = leaves (after d before) (always d before legal.0) e legal.1

@@ -64,8 +64,6 @@ pub mod Spawners
 pub mod Remotes
 -- and those of the local spawner
 pub mod Locals
--- what a delivery leaves of the control files
-pub mod ControlsLeft
 -- the events of a delivery
 pub mod Deliveries
 -- the events of the cleaner
@@ -90,8 +88,6 @@ pub mod Histories
 pub mod PlainDeliveries
 -- to whom its forwards go
 pub mod Addressed
--- what holds if no generation was started
-pub mod Alone
 -- what led to a world
 pub mod Led
 -- what each event leaves
@@ -110,6 +106,8 @@ pub mod PostSends
 pub mod PostServes
 -- the pasts of actors
 pub mod Ran
+-- what a sender has read of the control files
+pub mod Readings
 -- each event
 pub mod PostKept
 -- what the sender hears
@@ -120,6 +118,8 @@ pub mod DeliveredBooks
 pub mod Delivered
 -- recipients that ledgers have as delivered were reported
 pub mod Reported
+-- by which controls messages are routed
+pub mod Routed
 -- what a sender has in hand, channel files, and injectors at work
 pub mod Standing
 pub mod Sweeps

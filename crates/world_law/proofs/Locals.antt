@@ -1,7 +1,6 @@
 -- The events of the local spawner: it reads users/assign, and then serves requests as any spawner.
 use Rattle.std.proofs.Common.{◌≡◌, ℕ, List, [], length, Bool, true, false, Option, Some, None, refl, sym, subst, codes, if◌then◌else◌}
 use Rattle.std.specs.Prelude.{nat_lt}
-use Rattle.address_rules.specs.declared.controls.Controls.{Controls}
 use Rattle.call_fs.specs.Apply.{Fits}
 use Rattle.call_fs.specs.declared.calls.Answer.{Answer}
 use Rattle.call_fs.specs.declared.calls.Answer.TheVariants as answer
@@ -91,7 +90,7 @@ module _ (q : Queue) (a : List ℕ) (read wrote : ℕ) (p : Place) (greets : p.w
 
 -- An event
 
-module _ (controls : Controls) (s : State) (I : Inv controls s) (wrote : ℕ) (began : ℕ) (past : List Own) (own : Own) where
+module _ (s : State) (I : Inv s) (wrote : ℕ) (began : ℕ) (past : List Own) (own : Own) where
   abbrev name : List ℕ
   name = codes "lspawn"
 
@@ -105,7 +104,7 @@ module _ (controls : Controls) (s : State) (I : Inv controls s) (wrote : ℕ) (b
   q = queue s I.role
 
   abbrev Keeps : NeedData → Type 0
-  Keeps due = Inv controls (then_state s wrote began past own Local due own.came)
+  Keeps due = Inv (then_state s wrote began past own Local due own.came)
 
   -- as it is due
   by_due : (due : NeedData) → due ≡ own.due → (ComesOf s name due own.came wrote → Keeps due) → ComesOf s name own.due own.came wrote → Keeps own.due
@@ -116,7 +115,7 @@ module _ (controls : Controls) (s : State) (I : Inv controls s) (wrote : ℕ) (b
     called : (row : Row) (c : CallData) → here.row ≡ row → OnlyReads q name c
         → ((told : Told) → Fits s.disk c told.answer wrote → LspawnHolds (called_queue q name own.read c told.answer wrote I.role) name (act row own.ready (got.Answered told) here))
         → ComesOf s name (needs.File c) own.came wrote → Keeps (needs.File c)
-    called row c e only holds comes = reads s wrote began past own controls I Local is c only
+    called row c e only holds comes = reads s wrote began past own I Local is c only
         (λ told fits. subst (λ (x : Row). LspawnHolds (called_queue q name own.read c told.answer wrote I.role) name (act x own.ready (got.Answered told) here)) (sym e) (holds told fits))
         own.came comes
 
@@ -140,37 +139,37 @@ module _ (controls : Controls) (s : State) (I : Inv controls s) (wrote : ℕ) (b
         (called (at.CloseUsers fd whole) (call.Close fd) e h.0.1.held
         (λ told fits. closed_holds q name own.read wrote here h.1 (called_queue q name own.read (call.Close fd) told.answer wrote I.role) whole)) comes
     by_row at.Serves e h due comes =
-        serves s wrote began past own controls I Local is (local_kind here.users) (is_kind here.users) (program_of here) tt here.work (λ r due came. works e r came) h due comes
+        serves s wrote began past own I Local is (local_kind here.users) (is_kind here.users) (program_of here) tt here.work (λ r due came. works e r came) h due comes
     by_row at.OutOfMemory e h due comes = absurd (subst (λ (z : NeedData). ComesOf s name z own.came wrote) (sym due) comes)
 
     -- it starts a delivery as it serves requests
     starts_at : (row : Row) → here.row ≡ row → (asked : ChildData) (came : GotData) → due_at row own.ready here ≡ needs.Start asked
-        → (program_of here ≡ asked) × Inv controls (then_state s wrote began past own Local (needs.Start (program_of here)) came)
+        → (program_of here ≡ asked) × Inv (then_state s wrote began past own Local (needs.Start (program_of here)) came)
     starts_at at.Serves e asked came due =
         let w = start_row (program_of here) (row_now here.work own.ready) here.work asked due in
-        (w.1, starting s wrote began past own controls I Local is (local_kind here.users) (is_kind here.users) (program_of here) tt here.work (λ r due came. works e r came) came w.0)
+        (w.1, starting s wrote began past own I Local is (local_kind here.users) (is_kind here.users) (program_of here) tt here.work (λ r due came. works e r came) came w.0)
     starts_at row e asked came due = absurd (cc)
 
     pub local_starts : (asked : ChildData) (came : GotData) → next_of (LocalSpawner began) past own.read own.ready ≡ needs.Start asked
-        → (program_of here ≡ asked) × Inv controls (then_state s wrote began past own Local (needs.Start (program_of here)) came)
+        → (program_of here ≡ asked) × Inv (then_state s wrote began past own Local (needs.Start (program_of here)) came)
     local_starts asked came due = starts_at here.row refl asked came due
 
-    local_event : next_of (LocalSpawner began) past own.read own.ready ≡ own.due → ComesOf s name own.due own.came wrote → LspawnHolds q name here → Inv controls (acted s name own wrote (Some spawner))
+    local_event : next_of (LocalSpawner began) past own.read own.ready ≡ own.due → ComesOf s name own.due own.came wrote → LspawnHolds q name here → Inv (acted s name own wrote (Some spawner))
     local_event due comes h = by_row here.row refl h due comes
 
-by_program : (controls : Controls) (s : State) (I : Inv controls s) (a : List ℕ) (wrote : ℕ) (program : Program) (past : List Own) (life : Life) (own : Own) → IsLocalSpawner program
+by_program : (s : State) (I : Inv s) (a : List ℕ) (wrote : ℕ) (program : Program) (past : List Own) (life : Life) (own : Own) → IsLocalSpawner program
     → IsNamed a program → life ≡ Alive → s.actors a ≡ Some (record { program = program; past = past; life = life }) → next_of program past own.read own.ready ≡ own.due
-    → ComesOf s a own.due own.came wrote → Inv controls (acted s a own wrote (Some (record { program = program; past = past; life = life })))
-by_program controls s I a wrote (LocalSpawner began) past Alive own it named alive is due comes =
-    let there = subst (λ (b : List ℕ). s.actors b ≡ Some (spawner controls s I wrote began past own)) named is in
-    subst (λ (b : List ℕ). Inv controls (acted s b own wrote (Some (spawner controls s I wrote began past own)))) (sym named)
-    (local_event controls s I wrote began past own there due (subst (λ (b : List ℕ). ComesOf s b own.due own.came wrote) named comes)
-    (I.fares (codes "lspawn") (spawner controls s I wrote began past own) there))
-by_program controls s I a wrote (LocalSpawner began) past life own it named alive is due comes = absurd (cc)
-by_program controls s I a wrote other past life own it named alive is due comes = absurd it
+    → ComesOf s a own.due own.came wrote → Inv (acted s a own wrote (Some (record { program = program; past = past; life = life })))
+by_program s I a wrote (LocalSpawner began) past Alive own it named alive is due comes =
+    let there = subst (λ (b : List ℕ). s.actors b ≡ Some (spawner s I wrote began past own)) named is in
+    subst (λ (b : List ℕ). Inv (acted s b own wrote (Some (spawner s I wrote began past own)))) (sym named)
+    (local_event s I wrote began past own there due (subst (λ (b : List ℕ). ComesOf s b own.due own.came wrote) named comes)
+    (I.fares (codes "lspawn") (spawner s I wrote began past own) there))
+by_program s I a wrote (LocalSpawner began) past life own it named alive is due comes = absurd (cc)
+by_program s I a wrote other past life own it named alive is due comes = absurd it
 
 pub locals_keep : LocalsKeep
-locals_keep a own wrote controls s I may it =
+locals_keep a own wrote s I may it =
     let x = may.actor in
-    subst (λ (o : Option Actor). Inv controls (acted s a own wrote o)) (sym may.reads.is)
-    (by_program controls s I a wrote x.program x.past x.life own it (I.crew a x may.reads.is) may.reads.alive may.reads.is may.due may.came)
+    subst (λ (o : Option Actor). Inv (acted s a own wrote o)) (sym may.reads.is)
+    (by_program s I a wrote x.program x.past x.life own it (I.crew a x may.reads.is) may.reads.alive may.reads.is may.due may.came)

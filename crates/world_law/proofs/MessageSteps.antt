@@ -3,7 +3,6 @@ use Rattle.std.proofs.Common.{◌≡◌, ◌≢◌, ℕ, ◌<◌, min, List, [],
 use Rattle.std.specs.Prelude.{if◌then◌else◌, nat_lt}
 use Rattle.std.proofs.lemmas.Bool.{ltb-true}
 use Rattle.std.proofs.lemmas.List.{append-nil, append_assoc, drop_at}
-use Rattle.address_rules.specs.declared.controls.Controls.{Controls}
 use Rattle.call_fs.specs.declared.calls.Answer.{Answer}
 use Rattle.call_fs.specs.declared.calls.Answer.TheVariants as answer
 use Rattle.call_fs.specs.declared.calls.Fd.{Fd}
@@ -122,7 +121,7 @@ pub record HasFile (s : State) (n : ℕ) : Type 0 where
   pub there : s.disk.names (path (Of Mess n)) ≡ Some n
   pub reads : (s.disk.files n).bytes ≡ message
 
-module _ (controls : Controls) (s : State) (I : Inv controls s) (n : ℕ) (stays : state_of s.disk n ≡ S5) where
+module _ (s : State) (I : Inv s) (n : ℕ) (stays : state_of s.disk n ≡ S5) where
   abbrev q : Queue
   q = queue s I.role
 
@@ -132,7 +131,7 @@ module _ (controls : Controls) (s : State) (I : Inv controls s) (n : ℕ) (stays
   none_there : (part : Part) → look q (Of part n) ≡ None → is_there s.disk part n ≡ true → ⊥
   none_there part none there = let gone : is_there s.disk part n ≡ false = ap is_some (not_found q.disk.names q.disk.files (Of part n) none) in absurd (cc)
 
-  taken_by : Phase controls (about q n) → IsTaken controls (about q n)
+  taken_by : Phase (about q n) → IsTaken (about q n)
   taken_by (Free h) = absurd (none_there Info (h.unsorted Info refl) parts.1)
   taken_by (Queued h) = let there : is_in_todo s.disk n ≡ true = ap is_some (todo_named q.disk.names q.disk.files n h.todo h.todo_there) in let none = parts.0 in absurd (cc)
   taken_by (Sorted h) = h.taken
@@ -143,7 +142,7 @@ module _ (controls : Controls) (s : State) (I : Inv controls s) (n : ℕ) (stays
   has_file =
       let h = taken_by (I.sound.fine n) in
       let it = found q.disk.names q.disk.files (Of Mess n) h.mess h.mess_there in
-      let number : h.mess.number ≡ n = own_numbers controls s I n h.mess.number it.0 in
+      let number : h.mess.number ≡ n = own_numbers s I n h.mess.number it.0 in
       record {
         message = entered h.injection.args;
         is = record { injection = h.injection; lives = h.lives; accepted = h.accepted; text = refl };

@@ -1,6 +1,5 @@
 -- One actor is another one afterwards, which is to the sender and its cleaner what was there, and the queue is as before.
 use Rattle.std.proofs.Common.{◌≡◌, ◌≢◌, inr, ℕ, List, true, Option, Some, sym, ap, ◌∙◌, subst, ⊎_elim, codes}
-use Rattle.address_rules.specs.declared.controls.Controls.{Controls}
 use Rattle.call_fs.specs.Maps.{put_at}
 use Rattle.call_fs.specs.declared.program.Port.TheVariants as port
 use Rattle.call_fs.proofs.Maps.{put_at_cases}
@@ -40,7 +39,7 @@ each_put actors a y P own others o z h = ⊎_elim
     (put_at_cases actors a (Some y) o)
 
 -- what lies between the two then, over this queue
-module _ (controls : Controls) (now : ℕ) (q : Queue) (actors : List ℕ → Option Actor) (a : List ℕ) (y : Actor) (v w : Pipework) (seen : IsSeenAs (actors a) y) (same : IsSameLink v w) where
+module _ (now : ℕ) (q : Queue) (actors : List ℕ → Option Actor) (a : List ℕ) (y : Actor) (v w : Pipework) (seen : IsSeenAs (actors a) y) (same : IsSameLink v w) where
   abbrev actors_after : List ℕ → Option Actor
   actors_after = put_at actors a (Some y)
 
@@ -63,31 +62,29 @@ module _ (controls : Controls) (now : ℕ) (q : Queue) (actors : List ℕ → Op
       (λ (c : (codes "clean" ≢ a) × (actors_after (codes "clean") ≡ actors (codes "clean"))). sym (ap lives_in c.1) ∙ lives)
       (put_at_cases actors a (Some y) (codes "clean"))
 
-  pub put_errands : ErrandRests controls now q (lives_in (actors (codes "clean"))) (link_by (actors (codes "sender")) (actors (codes "clean")) v)
-      → ErrandRests controls now q (lives_in (actors_after (codes "clean"))) (link_by (actors_after (codes "sender")) (actors_after (codes "clean")) w)
+  pub put_errands : ErrandRests now q (lives_in (actors (codes "clean"))) (link_by (actors (codes "sender")) (actors (codes "clean")) v)
+      → ErrandRests now q (lives_in (actors_after (codes "clean"))) (link_by (actors_after (codes "sender")) (actors_after (codes "clean")) w)
   put_errands errands =
-      errands_at controls now q (lives_in (actors (codes "clean"))) (lives_in (actors_after (codes "clean"))) (link_by (actors (codes "sender")) (actors (codes "clean")) v)
+      errands_at now q (lives_in (actors (codes "clean"))) (lives_in (actors_after (codes "clean"))) (link_by (actors (codes "sender")) (actors (codes "clean")) v)
       lives_same errands
       (awaits_in (actors_after (codes "sender"))) (place_in (actors_after (codes "clean"))) (w.pipes (codes "clean") port.Input).bytes
       (w.pipes (codes "sender") port.Clean).bytes
       (inr awaits_same) place_same same.given same.answers
 
-module _ (controls : Controls) (s : State) (I : Inv controls s) (a : List ℕ) (y : Actor) (w : Pipework) (named : IsNamed a y.program)
-    (F : FaresBy controls s.now (queue s I.role) a y.program y.past y.life) where
+module _ (s : State) (I : Inv s) (a : List ℕ) (y : Actor) (w : Pipework) (named : IsNamed a y.program)
+    (F : FaresBy s.now (queue s I.role) a y.program y.past y.life) where
   -- those that run in slots then
   abbrev pub RunAsTold : Type 0
   RunAsTold = (b : List ℕ) (d : ℕ) (t : Tenant) → w.programs b d ≡ Some t → IsTenantOf (with_one s a y w) b d t
 
-  pub put_one : IsCrewed (put_at s.actors a (Some y)) → RunAsTold → ChildrenFare (with_one s a y w) → ErrandsRest controls (with_one s a y w) I.role → Inv controls (with_one s a y w)
+  pub put_one : IsCrewed (put_at s.actors a (Some y)) → RunAsTold → ChildrenFare (with_one s a y w) → ErrandsRest (with_one s a y w) I.role → Inv (with_one s a y w)
   put_one crewed tenants child errands = record {
     role = I.role;
     moment = I.moment;
     sound = I.sound;
     bounces = I.bounces;
     crew = each_put s.actors a y (λ o z. IsNamed o z.program) named (λ o z _. I.crew o z);
-    fares = each_put s.actors a y (λ o z. FaresBy controls s.now (queue s I.role) o z.program z.past z.life) F (λ o z _. I.fares o z);
-    control = I.control;
-    old = I.old;
+    fares = each_put s.actors a y (λ o z. FaresBy s.now (queue s I.role) o z.program z.past z.life) F (λ o z _. I.fares o z);
     crewed = crewed;
     tenants = tenants;
     child = child;
@@ -95,13 +92,13 @@ module _ (controls : Controls) (s : State) (I : Inv controls s) (a : List ℕ) (
   }
 
   pub moved_by : GoesOn (s.actors a) y.program → ChildBy (with_one s a y w) a y.program y.past y.life → RunsNoMore s.pipework w → w.slots ≡ s.pipework.slots
-      → ErrandsRest controls (with_one s a y w) I.role → Inv controls (with_one s a y w)
+      → ErrandsRest (with_one s a y w) I.role → Inv (with_one s a y w)
   moved_by goes child no_more slots = put_one (one_crewed s.actors a y goes I.crewed)
       (tenants_kept s (with_one s a y w) (one_keeps s.actors a y goes) (λ b x there. ap (λ (f : List ℕ → Option Slot). f b) slots) no_more I.tenants)
       (one_child s (with_one s a y w) (one_keeps s.actors a y goes) no_more I.tenants a y child I.child)
 
-module _ (controls : Controls) (s : State) (I : Inv controls s) (a : List ℕ) (y : Actor) (w : Pipework) (named : IsNamed a y.program)
-    (F : FaresBy controls s.now (queue s I.role) a y.program y.past y.life) (seen : IsSeenAs (s.actors a) y)
+module _ (s : State) (I : Inv s) (a : List ℕ) (y : Actor) (w : Pipework) (named : IsNamed a y.program)
+    (F : FaresBy s.now (queue s I.role) a y.program y.past y.life) (seen : IsSeenAs (s.actors a) y)
     (same : IsSameLink s.pipework w) where
-  pub moved_keeps : GoesOn (s.actors a) y.program → ChildBy (with_one s a y w) a y.program y.past y.life → RunsNoMore s.pipework w → w.slots ≡ s.pipework.slots → Inv controls (with_one s a y w)
-  moved_keeps goes child no_more slots = moved_by controls s I a y w named F goes child no_more slots (put_errands controls s.now (queue s I.role) s.actors a y s.pipework w seen same I.errands)
+  pub moved_keeps : GoesOn (s.actors a) y.program → ChildBy (with_one s a y w) a y.program y.past y.life → RunsNoMore s.pipework w → w.slots ≡ s.pipework.slots → Inv (with_one s a y w)
+  moved_keeps goes child no_more slots = moved_by s I a y w named F goes child no_more slots (put_errands s.now (queue s I.role) s.actors a y s.pipework w seen same I.errands)

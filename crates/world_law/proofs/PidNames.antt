@@ -2,7 +2,6 @@
 use Rattle.std.proofs.Common.{◌≡◌, ◌⊎◌, inl, inr, ⊎_elim, ℕ, ◌+◌, ◌<◌, ◌≤◌, List, Bool, true, false, Option, Some, refl, sym, ap, ◌∙◌, subst, arith, if◌then◌else◌}
 use Rattle.std.specs.Prelude.{nat_lt}
 use Rattle.std.proofs.lemmas.Bool.{ltb-true}
-use Rattle.address_rules.specs.declared.controls.Controls.{Controls}
 use Rattle.call_fs.specs.Apply.{Fits}
 use Rattle.call_fs.specs.Disk.{Disk}
 use Rattle.call_fs.specs.Past.{IsRunBy}
@@ -130,22 +129,22 @@ module _ (now : ℕ) (q : Queue) (read : ℕ) (soon : read ≤ now) (p s k : ℕ
       (subst (λ (o : Option Name). IsJudged q o moment) parsed h)
   judged name moment false e h due = absurd (cc)
 
-  by_row : (controls : Controls) (row : Row) (place : Place) → StandsAt controls now q row place → due_at row place.name read ≡ gone → Old
-  by_row controls (at.JudgePid moment) place h due = judged place.name moment (is_old moment read) refl h.1 due
-  by_row controls (at.UnlinkIntd command) place h due =
+  by_row : (row : Row) (place : Place) → StandsAt now q row place → due_at row place.name read ≡ gone → Old
+  by_row (at.JudgePid moment) place h due = judged place.name moment (is_old moment read) refl h.1 due
+  by_row (at.UnlinkIntd command) place h due =
       let names = unlinked_is (path (first_name command)) (path (Pid p s k)) (file_call (call.Unlink (path (first_name command))) (call.Unlink (path (Pid p s k))) due) in
       absurd (of_apart (message_of command) p s k (path_injective (first_name command) (Pid p s k) names))
-  by_row controls (at.UnlinkSecond command) place h due =
+  by_row (at.UnlinkSecond command) place h due =
       let names = unlinked_is (path (second_name command)) (path (Pid p s k)) (file_call (call.Unlink (path (second_name command))) (call.Unlink (path (Pid p s k))) due) in
       absurd (second_apart command p s k (path_injective (second_name command) (Pid p s k) names))
-  by_row controls row place h due = absurd (cc)
+  by_row row place h due = absurd (cc)
 
-by_program : (controls : Controls) (s : State) (I : Inv controls s) (a : List ℕ) (program : Program) (past : List Own) (life : Life) (began read : ℕ) (ready : Ready) → program ≡ Cleaner began → life ≡ Alive
-    → FaresBy controls s.now (queue s I.role) a program past life → (soon : read ≤ s.now) → (pid start seq : ℕ) → next_of program past read ready ≡ needs.File (call.Unlink (path (Pid pid start seq)))
+by_program : (s : State) (I : Inv s) (a : List ℕ) (program : Program) (past : List Own) (life : Life) (began read : ℕ) (ready : Ready) → program ≡ Cleaner began → life ≡ Alive
+    → FaresBy s.now (queue s I.role) a program past life → (soon : read ≤ s.now) → (pid start seq : ℕ) → next_of program past read ready ≡ needs.File (call.Unlink (path (Pid pid start seq)))
     → Old s.now (queue s I.role) read soon pid start seq
-by_program controls s I a (Cleaner other) past Alive began read ready is alive F soon pid start seq due = by_row s.now (queue s I.role) read soon pid start seq controls (place_after past).row (place_after past) F due
-by_program controls s I a (Cleaner other) past life began read ready is alive F soon pid start seq due = absurd (cc)
-by_program controls s I a program past life began read ready is alive F soon pid start seq due = absurd (cc)
+by_program s I a (Cleaner other) past Alive began read ready is alive F soon pid start seq due = by_row s.now (queue s I.role) read soon pid start seq (place_after past).row (place_after past) F due
+by_program s I a (Cleaner other) past life began read ready is alive F soon pid start seq due = absurd (cc)
+by_program s I a program past life began read ready is alive F soon pid start seq due = absurd (cc)
 
 -- Injectors
 
@@ -164,7 +163,7 @@ pid_mine q a args (inject.UnlinkPid k n fd) seq is h =
     subst (λ (z : ℕ). IsOfInjector q (Pid args.pid args.start z) a args) same (record { file = record { number = n; file = h.file }; there = h.pid; mine = h.mess.holds.mine })
 pid_mine q a args row seq is h = absurd (cc)
 
-module _ (controls : Controls) (s : State) (I : Inv controls s) (pid start seq : ℕ) where
+module _ (s : State) (I : Inv s) (pid start seq : ℕ) where
   abbrev q : Queue
   q = queue s I.role
 
@@ -175,7 +174,7 @@ module _ (controls : Controls) (s : State) (I : Inv controls s) (pid start seq :
   stale_apart : IsStale q x s.now → (a : List ℕ) → HasPid s a pid start seq → ⊥
   stale_apart h a it =
       let y = it.actor in
-      let his = pid_mine q a it.args (inject_after it.args y.past) seq it.seq_is (relies_by controls s.now q a y.program y.past y.life it.args it.program it.alive (I.fares a y it.is) it.soon) in
+      let his = pid_mine q a it.args (inject_after it.args y.past) seq it.seq_is (relies_by s.now q a y.program y.past y.life it.args it.program it.alive (I.fares a y it.is) it.soon) in
       let name : Pid it.args.pid it.args.start seq ≡ x = ap (λ (p : ℕ). Pid p it.args.start seq) it.pid_is ∙ ap (λ (t : ℕ). Pid pid t seq) it.start_is in
       let there : look q x ≡ Some his.file = subst (λ (z : Name). look q z ≡ Some his.file) name his.there in
       let old = h.name.there in
@@ -207,9 +206,9 @@ cleaner_ran : (program : Program) (past : List Own) (began : ℕ) → program �
 cleaner_ran program past began is ran = subst (λ (p : Program). IsRunBy (next_of p) past) is ran
 
 pub pids_are_old : PidsAreOld
-pids_are_old controls d a own wrote before has legal x is began program part due =
+pids_are_old d a own wrote before legal x is began program part due =
     let s = after d before in
-    let I = always controls d before has legal.0 in
+    let I = always d before legal.0 in
     let may = legal.1 in
     let same : may.actor ≡ x = some_actor may.actor x (sym may.reads.is ∙ is) in
     let alive : x.life ≡ Alive = ap (λ (y : Actor). y.life) (sym same) ∙ may.reads.alive in
@@ -218,7 +217,7 @@ pids_are_old controls d a own wrote before has legal x is began program part due
     let cleans : CleansNext tt x.past own.read own.ready ≡ needs.File (call.Unlink (pid_path part)) = subst (λ (p : Program). next_of p x.past own.read own.ready ≡ own.due) program next ∙ due in (
       was_old_file d before legal.0 a x is alive part own.read s.now soon
           (old_names_go x.past own.read own.ready part (cleaner_ran x.program x.past began program (have_run d before legal.0 a x is)) cleans),
-      λ pid start seq name. left_over controls s I pid start seq
-          (by_program controls s I a x.program x.past x.life began own.read own.ready program alive (I.fares a x is) soon pid start seq
+      λ pid start seq name. left_over s I pid start seq
+          (by_program s I a x.program x.past x.life began own.read own.ready program alive (I.fares a x is) soon pid start seq
           (next ∙ (due ∙ ap (λ (text : List ℕ). needs.File (call.Unlink text)) (sym name)))),
     )

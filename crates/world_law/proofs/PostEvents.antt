@@ -2,7 +2,6 @@
 use Rattle.std.specs.Prelude.{Contains}
 use Rattle.std.proofs.Common.{◌≡◌, ◌≢◌, ℕ, List, ◌∷◌, Bool, true, false, Option, Some, None, refl, sym, ap, ◌∙◌, subst, codes, if◌then◌else◌}
 use Rattle.actor_names.specs.MailNames.{members}
-use Rattle.address_rules.specs.declared.controls.Controls.{Controls}
 use Rattle.call_fs.specs.Maps.{put_at}
 use Rattle.call_fs.proofs.Maps.{put_at_other, put_at_same}
 use Rattle.call_fs.specs.declared.past.ChildData.{ChildData}
@@ -124,8 +123,8 @@ spawner_member channel.Local = member_contained (codes "lspawn") refl
 spawner_member channel.Remote = member_contained (codes "rspawn") refl
 
 -- and no member runs in a slot
-pub tenant_not : (controls : Controls) (s : State) → Inv controls s → (c : Channel) (a : List ℕ) (d : ℕ) (b : List ℕ) → s.pipework.programs a d ≡ Some (Runs b) → b ≢ spawner_name c
-tenant_not controls s I c a d b runs same = (I.tenants a d (Runs b) runs).apart (subst (λ (n : List ℕ). Contains members n) (sym same) (spawner_member c))
+pub tenant_not : (s : State) → Inv s → (c : Channel) (a : List ℕ) (d : ℕ) (b : List ℕ) → s.pipework.programs a d ≡ Some (Runs b) → b ≢ spawner_name c
+tenant_not s I c a d b runs same = (I.tenants a d (Runs b) runs).apart (subst (λ (n : List ℕ). Contains members n) (sym same) (spawner_member c))
 
 -- by its name it is neither side; an injector may have any name, but gives and takes nothing
 pub record IsAside (c : Channel) (s : State) (a : List ℕ) (due : NeedData) (came : GotData) (wrote : ℕ) : Type 0 where
@@ -146,11 +145,11 @@ clean_apart : (c : Channel) → codes "clean" ≢ spawner_name c
 clean_apart channel.Local = names_apart (codes "clean") (codes "lspawn") refl
 clean_apart channel.Remote = names_apart (codes "clean") (codes "rspawn") refl
 
-module _ (controls : Controls) (s : State) (I : Inv controls s) where
+module _ (s : State) (I : Inv s) where
   named_aside : (c : Channel) (a : List ℕ) (due : NeedData) (came : GotData) (wrote : ℕ) → IsMild due → a ≢ spawner_name c → a ≢ codes "sender" → IsAside c s a due came wrote
   named_aside c a due came wrote it apart other = record {
     told = told_left s.pipework a c due came wrote apart other;
-    asked = asked_left s.pipework a c (tenant_not controls s I c a) due came wrote (calm c due it) apart;
+    asked = asked_left s.pipework a c (tenant_not s I c a) due came wrote (calm c due it) apart;
     slots = λ slot. programs_left s.pipework a (spawner_name c) due came slot apart;
   }
 
@@ -184,11 +183,11 @@ module _ (controls : Controls) (s : State) (I : Inv controls s) where
 
 -- An event of it
 
-pub neither_leaves : (controls : Controls) (s : State) → Inv controls s → (a : List ℕ) (own : Own) (wrote : ℕ) (x : Actor) → s.actors a ≡ Some x → IsNeither x.program
+pub neither_leaves : (s : State) → Inv s → (a : List ℕ) (own : Own) (wrote : ℕ) (x : Actor) → s.actors a ≡ Some x → IsNeither x.program
     → next_of x.program x.past own.read own.ready ≡ own.due → Leaves s (acted s a own wrote (Some x))
-neither_leaves controls s I a own wrote x is it due =
+neither_leaves s I a own wrote x is it due =
     let y : Actor = record { program = x.program; past = own ∷ x.past; life = x.life } in
-    let aside : IsAside channel.Local s a own.due own.came wrote = acts_aside controls s I channel.Local a own wrote x is it due in
+    let aside : IsAside channel.Local s a own.due own.came wrote = acts_aside s I channel.Local a own wrote x is it due in
     let seen : halves (Some y) ≡ halves (s.actors a) = neither_seen x.program it (own ∷ x.past) x.life ∙ sym (neither_seen x.program it x.past x.life) ∙ ap halves (sym is) in
     record {
       view = view_same s.actors (put_at s.actors a (Some y)) s.pipework (acted s a own wrote (Some x)).pipework
@@ -198,9 +197,9 @@ neither_leaves controls s I a own wrote x is it due =
       slots = aside.slots;
     }
 
-pub neither_acts : (controls : Controls) (s : State) → Inv controls s → PostsStand s → (a : List ℕ) (own : Own) (wrote : ℕ) (x : Actor) → s.actors a ≡ Some x → IsNeither x.program
+pub neither_acts : (s : State) → Inv s → PostsStand s → (a : List ℕ) (own : Own) (wrote : ℕ) (x : Actor) → s.actors a ≡ Some x → IsNeither x.program
     → next_of x.program x.past own.read own.ready ≡ own.due → PostsStand (acted s a own wrote (Some x))
-neither_acts controls s I P a own wrote x is it due = posts_left s (acted s a own wrote (Some x)) (neither_leaves controls s I a own wrote x is it due) P
+neither_acts s I P a own wrote x is it due = posts_left s (acted s a own wrote (Some x)) (neither_leaves s I a own wrote x is it due) P
 
 -- An end or a stop
 
@@ -283,7 +282,7 @@ module _ (s : State) (P : PostsStand s) (a : List ℕ) (x : Actor) (is : s.actor
   over_by (LocalSpawner began) runs name = spawner_over began runs name
   over_by other runs name = neither_over (subst IsNeither (sym runs) tt)
 
-pub ends_leave : (controls : Controls) (s : State) → Inv controls s → PostsStand s → (a : List ℕ) (x : Actor) → s.actors a ≡ Some x → x.life ≡ Alive → (life : Life) → is_alive life ≡ false
+pub ends_leave : (s : State) → Inv s → PostsStand s → (a : List ℕ) (x : Actor) → s.actors a ≡ Some x → x.life ≡ Alive → (life : Life) → is_alive life ≡ false
     → PostsStand (finished s a life (s.actors a))
-ends_leave controls s I P a x is alive life dead =
+ends_leave s I P a x is alive life dead =
     subst (λ (o : Option Actor). PostsStand (finished s a life o)) (sym is) (over_by s P a x is alive life dead x.program refl (I.crew a x is))

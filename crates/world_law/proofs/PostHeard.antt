@@ -1,6 +1,5 @@
 -- What the sender hears of the local spawner: each report is of an attempt in flight, and a K report of one that was carried out.
 use Rattle.std.proofs.Common.{◌≡◌, ◌≢◌, ◌⊎◌, inl, inr, ⊎_elim, ℕ, List, [], ◌++◌, true, ◌&&◌, Option, Some, None, refl, sym, ap, ◌∙◌, subst, codes}
-use Rattle.address_rules.specs.declared.controls.Controls.{Controls}
 use Rattle.call_fs.specs.declared.past.GotData.{GotData}
 use Rattle.call_fs.specs.declared.past.GotData.TheVariants as got
 use Rattle.call_fs.specs.declared.past.NeedData.{NeedData}
@@ -74,7 +73,7 @@ greet_row row d read ready is = absurd (cc)
 
 -- What it hears
 
-module _ (controls : Controls) (s : State) (I : Inv controls s) (P : PostsStand s) where
+module _ (s : State) (I : Inv s) (P : PostsStand s) where
   module _ (own : Own) (began : ℕ) (past : List Own) (is : s.actors (codes "sender") ≡ Some (sender began past)) where
     abbrev d : Desk
     d = sender_after None past
@@ -101,7 +100,7 @@ module _ (controls : Controls) (s : State) (I : Inv controls s) (P : PostsStand 
 
 -- So a sender hears something, if it does of each report and of none.
 
-module _ (controls : Controls) (s : State) (I : Inv controls s) (P : PostsStand s) (Hears : List Report → Desk → Type 0) (silent : (z : Desk) → Hears [] z)
+module _ (s : State) (I : Inv s) (P : PostsStand s) (Hears : List Report → Desk → Type 0) (silent : (z : Desk) → Hears [] z)
     (each : sends_on s ≡ true → (rs : List Report) (z : Desk) → (lane Local z.slots).slots ≡ (lane Local (desk_in (s.actors (codes "sender"))).slots).slots
     → AreHeard Local P.done rs (lane Local z.slots).slots → Hears rs z) where
   module _ (own : Own) (began : ℕ) (past : List Own) (is : s.actors (codes "sender") ≡ Some (sender began past)) where
@@ -117,12 +116,12 @@ module _ (controls : Controls) (s : State) (I : Inv controls s) (P : PostsStand 
           let it = read_on (link Local desk).reader bytes in
           let on : sends_on s ≡ true = ap (λ (o : Option Actor). sends_in o && is_on (desk_in o).row) is ∙ link_on desk.row desk own.read own.ready row in
           each on it.0 (with_reader Local it.1 desk) (ap (λ (o : Option Actor). (lane Local (desk_in o).slots).slots) (sym is))
-          (link_hears controls s I P own began past is bytes rest some lies row)
+          (link_hears s I P own began past is bytes rest some lies row)
 
       of_greeting : row_now desk own.read own.ready ≡ at.Start start.GreetLocal → Heard bytes
       of_greeting row =
           let after_it = with_reader Local (read_on (link Local desk).reader bytes).1 desk in
-          subst (λ (rs : List Report). Hears rs after_it) (sym (greeting_none controls s I P own began past is bytes rest some lies row)) (silent after_it)
+          subst (λ (rs : List Report). Hears rs after_it) (sym (greeting_none s I P own began past is bytes rest some lies row)) (silent after_it)
 
       of_taking : due_at (row_now desk own.read own.ready) desk ≡ needs.Take port.Lspawn → Heard bytes
       of_taking due = ⊎_elim of_link of_greeting (takes_at (row_now desk own.read own.ready) desk due)

@@ -1,7 +1,6 @@
 -- Each event keeps what lies between the sender and the local spawner, which so holds after each legal history.
 use Rattle.std.specs.Prelude.{Contains}
 use Rattle.std.proofs.Common.{◌≡◌, ◌≢◌, ℕ, List, [], ◌∷◌, Bool, true, false, ◌&&◌, Option, Some, None, option_map, refl, sym, ap, ◌∙◌, subst, codes}
-use Rattle.address_rules.specs.declared.controls.Controls.{Controls}
 use Rattle.call_fs.specs.Disk.{Disk}
 use Rattle.call_fs.specs.Maps.{put_at}
 use Rattle.call_fs.proofs.Maps.{put_at_other}
@@ -21,13 +20,11 @@ use Rattle.queue_inject.proofs.Acts.{IsAlone, next_alone}
 use Rattle.send_core.specs.declared.desk.Desk.{Desk}
 use Rattle.send_core.specs.Table.{begun}
 use Rattle.send_known.specs.declared.channel.Channel.TheVariants as channel
-use Rattle.program_law.specs.Sender.Control.{AreControls}
 use Rattle.world_pipes.specs.Pipework.{no_pipework, with_child}
 use Rattle.world_pipes.specs.Pipework.Tenant.{Runs}
 use Rattle.world_events.specs.declared.event.Program.{Program}
 use Rattle.world_events.specs.declared.event.Program.TheVariants.{Injector, Cleaner, Sender, LocalSpawner, RemoteSpawner, Delivery}
-use Rattle.mail_world.specs.History.{Actor, Allowed, Event, IsLocalSpawner, IsProgramOf, IsSender, Legal, Life, MayBear, MayDo, MayRun, State}
-use Rattle.mail_world.specs.History.{acted, after, bears, begins, cut_off, happens, newborn, next_of, opening, slot_by, stopped}
+use Rattle.mail_world.specs.History.{Actor, Allowed, Event, IsLocalSpawner, IsProgramOf, IsSender, Legal, Life, MayBear, MayDo, MayRun, State, acted, after, bears, begins, cut_off, happens, newborn, next_of, opening, slot_by, stopped}
 use Rattle.mail_world.specs.History.Event.{Start, Act, Child, Generation, Report, End, Stop, Moment, Halt}
 use Rattle.mail_world.specs.History.Life.{Alive, Over, Stopped}
 use Rattle.mail_world.proofs.Members.{are_four, four_lspawn, four_other, four_sender, member_contained}
@@ -97,7 +94,7 @@ bears_leaves s parent apart own a program it new =
       slots = λ slot. slots_left s.pipework.programs parent (codes "lspawn") (slot_by own.due) (Some (Runs a)) slot apart;
     }
 
-module _ (controls : Controls) (s : State) (I : Inv controls s) (P : PostsStand s) (parent : List ℕ) (own : Own) (a : List ℕ) (program : Program) (may : MayBear s parent own a program) where
+module _ (s : State) (I : Inv s) (P : PostsStand s) (parent : List ℕ) (own : Own) (a : List ℕ) (program : Program) (may : MayBear s parent own a program) where
   abbrev x : Actor
   x = may.actor
 
@@ -117,16 +114,16 @@ module _ (controls : Controls) (s : State) (I : Inv controls s) (P : PostsStand 
   borne_left Q apart = posts_left moved (bears moved parent own a program) (bears_leaves moved parent apart own a program (child_neither may.asked may.pid program may.is) still_new) Q
 
   by_neither : IsNeither x.program → parent ≢ codes "lspawn" → PostsStand (bears moved parent own a program)
-  by_neither it apart = borne_left (neither_acts controls s I P parent own 0 x may.reads.is it may.due) apart
+  by_neither it apart = borne_left (neither_acts s I P parent own 0 x may.reads.is it may.due) apart
 
   bears_by : (z : Program) → x.program ≡ z → IsNamed parent z → PostsStand (bears moved parent own a program)
   bears_by (Sender began) e named =
       borne_left
-      (sender_moves controls s I P parent own 0 x may.reads.is may.reads.alive (subst IsSender (sym e) tt) may.reads.no_later may.due (born_comes s parent own a program may)
+      (sender_moves s I P parent own 0 x may.reads.is may.reads.alive (subst IsSender (sym e) tt) may.reads.no_later may.due (born_comes s parent own a program may)
       (λ taken. let both : needs.Start may.asked ≡ needs.Take port.Lspawn = sym may.starts ∙ taken in absurd (cc)))
       (λ same. names_apart (codes "sender") (codes "lspawn") refl (sym named ∙ same))
   bears_by (LocalSpawner began) e named =
-      spawner_bears controls s I P parent own x may.reads.is may.reads.alive (subst IsLocalSpawner (sym e) tt) may.due may.asked may.starts may.pid may.came a may.new program may.is
+      spawner_bears s I P parent own x may.reads.is may.reads.alive (subst IsLocalSpawner (sym e) tt) may.due may.asked may.starts may.pid may.came a may.new program may.is
   bears_by (Injector args) e named =
       let due : next_of (Injector args) x.past own.read own.ready ≡ needs.Start may.asked =
       subst (λ (p : Program). next_of p x.past own.read own.ready ≡ needs.Start may.asked) e (may.due ∙ may.starts) in
@@ -143,9 +140,9 @@ module _ (controls : Controls) (s : State) (I : Inv controls s) (P : PostsStand 
 
 -- A generation starts: nothing that was done is lost
 
-pub generation_done : (controls : Controls) (s : State) → Inv controls s → (sender clean lspawn rspawn : Program) (x : Done) → WasDone s x
+pub generation_done : (s : State) → Inv s → (sender clean lspawn rspawn : Program) (x : Done) → WasDone s x
     → WasDone (happens s (Generation (sender ∷ clean ∷ lspawn ∷ rspawn ∷ []))) x
-generation_done controls s I sender clean lspawn rspawn x h =
+generation_done s I sender clean lspawn rspawn x h =
     let apart : Contains members x.task.name → ⊥ = subst (λ (z : Program). IsNamed x.task.name z) h.is_for.program (I.crew x.task.name h.is_for.delivery h.is_for.is) in
     record {
       is_for = record {
@@ -161,7 +158,7 @@ generation_done controls s I sender clean lspawn rspawn x h =
       over = h.over;
     }
 
-module _ (controls : Controls) (s : State) (I : Inv controls s) (P : PostsStand s) (first second third last : ℕ) where
+module _ (s : State) (I : Inv s) (P : PostsStand s) (first second third last : ℕ) where
   abbrev pub four_begun : State
   four_begun = happens s (Generation (Sender first ∷ Cleaner second ∷ LocalSpawner third ∷ RemoteSpawner last ∷ []))
 
@@ -192,12 +189,12 @@ module _ (controls : Controls) (s : State) (I : Inv controls s) (P : PostsStand 
     posted = subst (λ (v : View). Posted (post_of v (λ slot. None) P.last P.done)) (sym seen_begun) (starts_posted (λ slot. None) P.last P.done).0;
     first = subst (λ (v : View). IsFirst v.desk.row v.desk) (sym seen_begun) (senders_keep.begins None);
     run = λ slot k h. absurd (cc);
-    was = λ x among. generation_done controls s I (Sender first) (Cleaner second) (LocalSpawner third) (RemoteSpawner last) x (P.was x among);
+    was = λ x among. generation_done s I (Sender first) (Cleaner second) (LocalSpawner third) (RemoteSpawner last) x (P.was x among);
   }
 
-generations_stand : (controls : Controls) (s : State) → Inv controls s → PostsStand s → (sender clean lspawn rspawn : Program) → Allowed s (Generation (sender ∷ clean ∷ lspawn ∷ rspawn ∷ []))
+generations_stand : (s : State) → Inv s → PostsStand s → (sender clean lspawn rspawn : Program) → Allowed s (Generation (sender ∷ clean ∷ lspawn ∷ rspawn ∷ []))
     → PostsStand (happens s (Generation (sender ∷ clean ∷ lspawn ∷ rspawn ∷ [])))
-generations_stand controls s I P sender clean lspawn rspawn may =
+generations_stand s I P sender clean lspawn rspawn may =
     let one = is_sender sender may.kinds.0 in
     let two = is_cleaner clean may.kinds.1.0 in
     let three = is_local lspawn may.kinds.1.1.0 in
@@ -206,7 +203,7 @@ generations_stand controls s I P sender clean lspawn rspawn may =
     (subst (λ (p : Program). PostsStand (happens s (Generation (Sender one.0 ∷ p ∷ lspawn ∷ rspawn ∷ [])))) (sym two.1)
     (subst (λ (p : Program). PostsStand (happens s (Generation (Sender one.0 ∷ Cleaner two.0 ∷ p ∷ rspawn ∷ [])))) (sym three.1)
     (subst (λ (p : Program). PostsStand (happens s (Generation (Sender one.0 ∷ Cleaner two.0 ∷ LocalSpawner three.0 ∷ p ∷ [])))) (sym four.1)
-    (generation_stands controls s I P one.0 two.0 three.0 four.0))))
+    (generation_stands s I P one.0 two.0 three.0 four.0))))
 
 -- The machine stops: both sides are gone
 
@@ -244,29 +241,29 @@ halts_stand s P how contents = record {
 
 -- Each event
 
-act_by : (controls : Controls) (s : State) → Inv controls s → PostsStand s → (a : List ℕ) (own : Own) (wrote : ℕ) (may : MayDo s a own wrote) (program : Program) → may.actor.program ≡ program
+act_by : (s : State) → Inv s → PostsStand s → (a : List ℕ) (own : Own) (wrote : ℕ) (may : MayDo s a own wrote) (program : Program) → may.actor.program ≡ program
     → PostsStand (acted s a own wrote (Some may.actor))
-act_by controls s I P a own wrote may (Sender began) e =
-    sender_acts controls s I P a own wrote may.actor may.reads.is may.reads.alive (subst IsSender (sym e) tt) may.reads.no_later may.due may.came
-act_by controls s I P a own wrote may (LocalSpawner began) e =
-    spawner_acts controls s I P a own wrote may.actor may.reads.is may.reads.alive (subst IsLocalSpawner (sym e) tt) may.due may.came
-act_by controls s I P a own wrote may other e = neither_acts controls s I P a own wrote may.actor may.reads.is (subst IsNeither (sym e) tt) may.due
+act_by s I P a own wrote may (Sender began) e =
+    sender_acts s I P a own wrote may.actor may.reads.is may.reads.alive (subst IsSender (sym e) tt) may.reads.no_later may.due may.came
+act_by s I P a own wrote may (LocalSpawner began) e =
+    spawner_acts s I P a own wrote may.actor may.reads.is may.reads.alive (subst IsLocalSpawner (sym e) tt) may.due may.came
+act_by s I P a own wrote may other e = neither_acts s I P a own wrote may.actor may.reads.is (subst IsNeither (sym e) tt) may.due
 
-posts_keep : (e : Event) (controls : Controls) (s : State) → Inv controls s → PostsStand s → Allowed s e → PostsStand (happens s e)
-posts_keep (Start a program) controls s I P may = starts_stand s P a program may.new may.runs
-posts_keep (Act a own wrote) controls s I P may =
-    subst (λ (o : Option Actor). PostsStand (acted s a own wrote o)) (sym may.reads.is) (act_by controls s I P a own wrote may may.actor.program refl)
-posts_keep (Child parent own a program) controls s I P may = children_stand controls s I P parent own a program may
-posts_keep (Generation (sender ∷ clean ∷ lspawn ∷ rspawn ∷ [])) controls s I P may = generations_stand controls s I P sender clean lspawn rspawn may
-posts_keep (Generation crew) controls s I P may = absurd (are_four crew may.kinds)
-posts_keep (Report slot output) controls s I P may =
+posts_keep : (e : Event) (s : State) → Inv s → PostsStand s → Allowed s e → PostsStand (happens s e)
+posts_keep (Start a program) s I P may = starts_stand s P a program may.new may.runs
+posts_keep (Act a own wrote) s I P may =
+    subst (λ (o : Option Actor). PostsStand (acted s a own wrote o)) (sym may.reads.is) (act_by s I P a own wrote may may.actor.program refl)
+posts_keep (Child parent own a program) s I P may = children_stand s I P parent own a program may
+posts_keep (Generation (sender ∷ clean ∷ lspawn ∷ rspawn ∷ [])) s I P may = generations_stand s I P sender clean lspawn rspawn may
+posts_keep (Generation crew) s I P may = absurd (are_four crew may.kinds)
+posts_keep (Report slot output) s I P may =
     posts_left s (happens s (Report slot output)) (record { view = refl; keeps = λ a x is. (x, is, refl, λ h. h); homes = λ a x is. refl; slots = λ d. refl }) P
-posts_keep (End a read ready status) controls s I P may = ends_leave controls s I P a may.actor may.reads.is may.reads.alive (Over status) refl
-posts_keep (Stop a) controls s I P may = ends_leave controls s I P a may.actor may.is may.alive Stopped refl
-posts_keep (Moment m) controls s I P may = posts_left s (happens s (Moment m)) (record { view = refl; keeps = λ a x is. (x, is, refl, λ h. h); homes = λ a x is. refl; slots = λ d. refl }) P
-posts_keep (Halt how contents) controls s I P may = halts_stand s P how contents
+posts_keep (End a read ready status) s I P may = ends_leave s I P a may.actor may.reads.is may.reads.alive (Over status) refl
+posts_keep (Stop a) s I P may = ends_leave s I P a may.actor may.is may.alive Stopped refl
+posts_keep (Moment m) s I P may = posts_left s (happens s (Moment m)) (record { view = refl; keeps = λ a x is. (x, is, refl, λ h. h); homes = λ a x is. refl; slots = λ d. refl }) P
+posts_keep (Halt how contents) s I P may = halts_stand s P how contents
 
-pub posts_always : (controls : Controls) (d : Disk) (before : List Event) → AreControls controls d → Legal d before → PostsStand (after d before)
-posts_always controls d [] has legal = opening_stands d
-posts_always controls d (e ∷ before) has legal =
-    posts_keep e controls (after d before) (always controls d before has legal.0) (posts_always controls d before has legal.0) legal.1
+pub posts_always : (d : Disk) (before : List Event) → Legal d before → PostsStand (after d before)
+posts_always d [] legal = opening_stands d
+posts_always d (e ∷ before) legal =
+    posts_keep e (after d before) (always d before legal.0) (posts_always d before legal.0) legal.1

@@ -1,7 +1,6 @@
 -- Events of the sender: what it gives to the local spawner are requests of attempts, whose text has no NUL but those that end its fields.
 use Rattle.std.proofs.Common.{◌≡◌, ◌≢◌, ℕ, ◌≤◌, List, ◌∷◌, true, false, Option, Some, None, refl, sym, ◌∙◌, subst, arith, codes, take, slice_get}
 use Rattle.std.proofs.lemmas.List.Elements.{All-contains}
-use Rattle.address_rules.specs.declared.controls.Controls.{Controls}
 use Rattle.call_fs.proofs.Maps.{put_at_other, put_at_same}
 use Rattle.call_fs.specs.declared.past.GotData.{GotData}
 use Rattle.call_fs.specs.declared.past.GotData.TheVariants as got
@@ -95,14 +94,14 @@ later_lane : (ch : Channel) → is_later (lane_part ch) ≡ true
 later_lane Local = refl
 later_lane Remote = refl
 
-module _ (controls : Controls) (w : About) (i : Injection) (lives : w.living ≡ Some i) where
+module _ (w : About) (i : Injection) (lives : w.living ≡ Some i) where
   same_injection : (j : Injection) → w.living ≡ Some j → j ≡ i
   same_injection j is = let both : ◌≡◌ {A = Option Injection} (Some j) (Some i) = sym is ∙ lives in cc
 
-  taken_is : IsTaken controls w → IsValid i.args
+  taken_is : IsTaken w → IsValid i.args
   taken_is h = subst (λ (j : Injection). IsValid j.args) (same_injection h.injection h.lives) h.valid
 
-  filed_is : (ch : Channel) (y : Entry) → w.parts (lane_part ch) ≡ Some y → Phase controls w → IsValid i.args
+  filed_is : (ch : Channel) (y : Entry) → w.parts (lane_part ch) ≡ Some y → Phase w → IsValid i.args
   filed_is ch y there (Free h) = let both : ◌≡◌ {A = Option Entry} None (Some y) = sym (h.unsorted (lane_part ch) (later_lane ch)) ∙ there in absurd (cc)
   filed_is ch y there (Queued h) = taken_is h.taken
   filed_is ch y there (Sorted h) = taken_is h.taken
@@ -120,8 +119,8 @@ from_plain args valid = whole_from (take limit args.envelope) (read_envelope (ta
     (read_sound (take limit args.envelope)) valid.envelope
 
 -- a request is that of an attempt
-pub asks_for : (controls : Controls) (q : Queue) (d : Desk) (ch : Channel) (text : List ℕ) → ((n : ℕ) → Phase controls (about q n)) → IsRequestFor q ch d text → AsksFor ch d text
-asks_for controls q d ch text fine w =
+pub asks_for : (q : Queue) (d : Desk) (ch : Channel) (text : List ℕ) → ((n : ℕ) → Phase (about q n)) → IsRequestFor q ch d text → AsksFor ch d text
+asks_for q d ch text fine w =
     let it = is_record q ch w.attempt w.reads in
     record {
       attempt = w.attempt;
@@ -129,7 +128,7 @@ asks_for controls q d ch text fine w =
       slot = w.slot;
       free = w.free;
       sender = sender_of w.injection.args;
-      sender_plain = from_plain w.injection.args (filed_is controls (about q w.attempt.n) w.injection w.lives ch it.file it.there (fine w.attempt.n));
+      sender_plain = from_plain w.injection.args (filed_is (about q w.attempt.n) w.injection w.lives ch it.file it.there (fine w.attempt.n));
       address_plain = it.plain;
       is = w.is;
     }
@@ -173,7 +172,7 @@ module _ (s : State) (P : PostsStand s) (began : ℕ) (past : List Own) (is : s.
 
 -- An event
 
-module _ (controls : Controls) (s : State) (I : Inv controls s) (P : PostsStand s) (own : Own) (wrote began : ℕ) (past : List Own) (is : s.actors (codes "sender") ≡ Some (sender began past))
+module _ (s : State) (I : Inv s) (P : PostsStand s) (own : Own) (wrote began : ℕ) (past : List Own) (is : s.actors (codes "sender") ≡ Some (sender began past))
     (soon : own.read ≤ s.now) (due : due_at (row_now (sender_after None past) own.read own.ready) (sender_after None past) ≡ own.due)
     (may : MayCome own.due own.came) (takes : own.due ≡ needs.Take port.Lspawn → IsSome own.came (s.pipework.pipes (codes "sender") port.Lspawn).bytes) where
   abbrev name : List ℕ
@@ -201,12 +200,12 @@ module _ (controls : Controls) (s : State) (I : Inv controls s) (P : PostsStand 
   moment : IsMoment own.read
   moment = let m = I.moment in omega (arith, m, soon)
 
-  fares : SenderFares controls s.now q name d
+  fares : SenderFares s.now q name d
   fares = I.fares name (sender began past) is
 
   pub gives : (text : List ℕ) → own.due ≡ needs.Give port.Lspawn text → AsksFor Local d text
-  gives text e = asks_for controls q d Local text I.sound.fine
-      (requests_are_texts controls s.now q name d own.read own.ready Local text soon moment fares.stands fares.texts (due ∙ e))
+  gives text e = asks_for q d Local text I.sound.fine
+      (requests_are_texts s.now q name d own.read own.ready Local text soon moment fares.stands fares.texts (due ∙ e))
 
   pub sent : Sends Local d own wrote post
   sent = senders_keep.goes_on Local d own wrote post posted first (record {
@@ -247,7 +246,7 @@ module _ (controls : Controls) (s : State) (I : Inv controls s) (P : PostsStand 
   told_then = told_sent s.pipework Local own.due own.came wrote
 
   asked_then : (then_state.pipework.pipes (codes "lspawn") port.Input).bytes ≡ asked_on Local own.due own.came wrote before.asked
-  asked_then = asked_sent s.pipework Local (tenant_not controls s I Local name) own.due own.came wrote
+  asked_then = asked_sent s.pipework Local (tenant_not s I Local name) own.due own.came wrote
 
   pub seen_then : view_of then_state.actors then_state.pipework ≡ afterwards
   seen_then = λ i. record {
@@ -273,25 +272,25 @@ module _ (controls : Controls) (s : State) (I : Inv controls s) (P : PostsStand 
     was = λ x among. was_kept s then_state keeps (λ b y there. refl) x (P.was x among);
   }
 
-by_program : (controls : Controls) (s : State) (I : Inv controls s) → PostsStand s → (a : List ℕ) (wrote : ℕ) (program : Program) (past : List Own) (life : Life) (own : Own) → IsSender program
+by_program : (s : State) (I : Inv s) → PostsStand s → (a : List ℕ) (wrote : ℕ) (program : Program) (past : List Own) (life : Life) (own : Own) → IsSender program
     → IsNamed a program → life ≡ Alive → s.actors a ≡ Some (record { program = program; past = past; life = life }) → own.read ≤ s.now → next_of program past own.read own.ready ≡ own.due
     → MayCome own.due own.came → (own.due ≡ needs.Take port.Lspawn → IsSome own.came (s.pipework.pipes a port.Lspawn).bytes)
     → PostsStand (acted s a own wrote (Some (record { program = program; past = past; life = life })))
-by_program controls s I P a wrote (Sender began) past Alive own it named alive is soon due may takes =
+by_program s I P a wrote (Sender began) past Alive own it named alive is soon due may takes =
     subst (λ (b : List ℕ). PostsStand (acted s b own wrote (Some (sender began past)))) (sym named)
-    (sender_event controls s I P own wrote began past
+    (sender_event s I P own wrote began past
     (subst (λ (b : List ℕ). s.actors b ≡ Some (sender began past)) named is) soon due may
     (subst (λ (b : List ℕ). own.due ≡ needs.Take port.Lspawn → IsSome own.came (s.pipework.pipes b port.Lspawn).bytes) named takes))
-by_program controls s I P a wrote (Sender began) past life own it named alive is soon due may takes = absurd (cc)
-by_program controls s I P a wrote other past life own it named alive is soon due may takes = absurd it
+by_program s I P a wrote (Sender began) past life own it named alive is soon due may takes = absurd (cc)
+by_program s I P a wrote other past life own it named alive is soon due may takes = absurd it
 
 -- whatever comes of what is due, also the start of a child
-pub sender_moves : (controls : Controls) (s : State) → Inv controls s → PostsStand s → (a : List ℕ) (own : Own) (wrote : ℕ) (x : Actor) → s.actors a ≡ Some x → x.life ≡ Alive → IsSender x.program
+pub sender_moves : (s : State) → Inv s → PostsStand s → (a : List ℕ) (own : Own) (wrote : ℕ) (x : Actor) → s.actors a ≡ Some x → x.life ≡ Alive → IsSender x.program
     → own.read ≤ s.now → next_of x.program x.past own.read own.ready ≡ own.due → MayCome own.due own.came
     → (own.due ≡ needs.Take port.Lspawn → IsSome own.came (s.pipework.pipes a port.Lspawn).bytes) → PostsStand (acted s a own wrote (Some x))
-sender_moves controls s I P a own wrote x is alive it soon due may takes = by_program controls s I P a wrote x.program x.past x.life own it (I.crew a x is) alive is soon due may takes
+sender_moves s I P a own wrote x is alive it soon due may takes = by_program s I P a wrote x.program x.past x.life own it (I.crew a x is) alive is soon due may takes
 
-pub sender_acts : (controls : Controls) (s : State) → Inv controls s → PostsStand s → (a : List ℕ) (own : Own) (wrote : ℕ) (x : Actor) → s.actors a ≡ Some x → x.life ≡ Alive → IsSender x.program
+pub sender_acts : (s : State) → Inv s → PostsStand s → (a : List ℕ) (own : Own) (wrote : ℕ) (x : Actor) → s.actors a ≡ Some x → x.life ≡ Alive → IsSender x.program
     → own.read ≤ s.now → next_of x.program x.past own.read own.ready ≡ own.due → ComesOf s a own.due own.came wrote → PostsStand (acted s a own wrote (Some x))
-sender_acts controls s I P a own wrote x is alive it soon due comes = sender_moves controls s I P a own wrote x is alive it soon due (may_come s a own.due own.came wrote comes)
+sender_acts s I P a own wrote x is alive it soon due comes = sender_moves s I P a own wrote x is alive it soon due (may_come s a own.due own.came wrote comes)
     (λ e. some_of (s.pipework.pipes a port.Lspawn) own.came (subst (λ (n : NeedData). ComesOf s a n own.came wrote) e comes))

@@ -1,7 +1,6 @@
 -- Events of the local spawner: it takes requests, starts deliveries, takes their statuses and gives reports.
 use Rattle.std.proofs.Common.{◌≡◌, ◌≢◌, ◌⊎◌, inl, inr, ⊎_elim, ℕ, ◌==◌, List, [], ◌∷◌, Bool, true, false, Option, Some, None, refl, sym, ap, ◌∙◌, subst, codes, if◌then◌else◌}
 use Rattle.std.proofs.lemmas.Bool.{eq-eqb, eqb-true, ne_eqb}
-use Rattle.address_rules.specs.declared.controls.Controls.{Controls}
 use Rattle.call_fs.specs.Disk.{Among}
 use Rattle.call_fs.specs.Maps.{put}
 use Rattle.call_fs.proofs.Maps.{put_at_other, put_at_same, put_cases}
@@ -125,9 +124,9 @@ over_now Alive came h e = absurd h
 over_now (Over status) came h e = let both : got.Ended status ≡ got.Ended 0 = sym h ∙ e in let same : status ≡ 0 = cc in ap Over same
 over_now Stopped came h e = let both : got.Crashed ≡ got.Ended 0 = sym h ∙ e in absurd (cc)
 
-pub was_now : (controls : Controls) (s : State) → Inv controls s → (due : NeedData) (came : GotData) (wrote : ℕ) (tasks : ℕ → Option Task) (x : Done) → IsDoneNow due came tasks x → ComesOf s (codes "lspawn") due came wrote
+pub was_now : (s : State) → Inv s → (due : NeedData) (came : GotData) (wrote : ℕ) (tasks : ℕ → Option Task) (x : Done) → IsDoneNow due came tasks x → ComesOf s (codes "lspawn") due came wrote
     → IsTaskIn s x.slot x.task → WasDone s x
-was_now controls s I due came wrote tasks x now comes runs = ⊎_elim
+was_now s I due came wrote tasks x now comes runs = ⊎_elim
     (λ (failed : came ≡ got.Failed). let both : got.Failed ≡ got.Ended 0 = sym failed ∙ now.came_is in absurd (cc))
     (λ (ends : TenantEnds s (s.pipework.programs (codes "lspawn") x.slot) came).
     let it : TenantEnds s (Some (Runs x.task.name)) came = subst (λ (o : Option Tenant). TenantEnds s o came) runs.runs ends in
@@ -148,7 +147,7 @@ offered_by pipe came y = tt
 abbrev pub spawner : ℕ → List Own → Actor
 spawner began past = record { program = LocalSpawner began; past = past; life = Alive }
 
-module _ (controls : Controls) (s : State) (I : Inv controls s) (P : PostsStand s) (own : Own) (wrote began : ℕ) (past : List Own) (is : s.actors (codes "lspawn") ≡ Some (spawner began past))
+module _ (s : State) (I : Inv s) (P : PostsStand s) (own : Own) (wrote began : ℕ) (past : List Own) (is : s.actors (codes "lspawn") ≡ Some (spawner began past))
     (due : due_by (place_after past) own.ready ≡ own.due) where
   abbrev name : List ℕ
   name = codes "lspawn"
@@ -216,7 +215,7 @@ module _ (controls : Controls) (s : State) (I : Inv controls s) (P : PostsStand 
   told_then = told_spawned s.pipework channel.Local own.due own.came wrote
 
   asked_then : (then_state.pipework.pipes name port.Input).bytes ≡ asked_by own.due own.came before.asked
-  asked_then = asked_spawned s.pipework channel.Local (tenant_not controls s I channel.Local name) own.due own.came wrote (due_calm own.due it_is)
+  asked_then = asked_spawned s.pipework channel.Local (tenant_not s I channel.Local name) own.due own.came wrote (due_calm own.due it_is)
 
   pub seen_then : view_of then_state.actors then_state.pipework ≡ afterwards
   seen_then = λ i. record {
@@ -247,7 +246,7 @@ module _ (controls : Controls) (s : State) (I : Inv controls s) (P : PostsStand 
         task_kept s then_state keeps slot k it.1 (P.run slot k it.0);
     was = λ x among. ⊎_elim
         (λ (older : Among x P.done). was_kept s then_state keeps (λ b y there. refl) x (P.was x older))
-        (λ (now : IsDoneNow own.due own.came P.tasks x). was_kept s then_state keeps (λ b y there. refl) x (was_now controls s I own.due own.came wrote P.tasks x now comes (P.run x.slot x.task now.ran)))
+        (λ (now : IsDoneNow own.due own.came P.tasks x). was_kept s then_state keeps (λ b y there. refl) x (was_now s I own.due own.came wrote P.tasks x now comes (P.run x.slot x.task now.ran)))
         (done_cases own.due own.came P.tasks P.done x among);
   }
 
@@ -346,19 +345,19 @@ module _ (controls : Controls) (s : State) (I : Inv controls s) (P : PostsStand 
 
 -- By its program
 
-acts_by : (controls : Controls) (s : State) (I : Inv controls s) → PostsStand s → (a : List ℕ) (wrote : ℕ) (program : Program) (past : List Own) (life : Life) (own : Own) → IsLocalSpawner program
+acts_by : (s : State) (I : Inv s) → PostsStand s → (a : List ℕ) (wrote : ℕ) (program : Program) (past : List Own) (life : Life) (own : Own) → IsLocalSpawner program
     → IsNamed a program → life ≡ Alive → s.actors a ≡ Some (record { program = program; past = past; life = life }) → next_of program past own.read own.ready ≡ own.due
     → ComesOf s a own.due own.came wrote → PostsStand (acted s a own wrote (Some (record { program = program; past = past; life = life })))
-acts_by controls s I P a wrote (LocalSpawner began) past Alive own it named alive is due comes =
+acts_by s I P a wrote (LocalSpawner began) past Alive own it named alive is due comes =
     subst (λ (b : List ℕ). PostsStand (acted s b own wrote (Some (spawner began past)))) (sym named)
-    (spawner_event controls s I P own wrote began past (subst (λ (b : List ℕ). s.actors b ≡ Some (spawner began past)) named is) due
+    (spawner_event s I P own wrote began past (subst (λ (b : List ℕ). s.actors b ≡ Some (spawner began past)) named is) due
     (subst (λ (b : List ℕ). ComesOf s b own.due own.came wrote) named comes))
-acts_by controls s I P a wrote (LocalSpawner began) past life own it named alive is due comes = absurd (cc)
-acts_by controls s I P a wrote other past life own it named alive is due comes = absurd it
+acts_by s I P a wrote (LocalSpawner began) past life own it named alive is due comes = absurd (cc)
+acts_by s I P a wrote other past life own it named alive is due comes = absurd it
 
-pub spawner_acts : (controls : Controls) (s : State) → Inv controls s → PostsStand s → (a : List ℕ) (own : Own) (wrote : ℕ) (x : Actor) → s.actors a ≡ Some x → x.life ≡ Alive
+pub spawner_acts : (s : State) → Inv s → PostsStand s → (a : List ℕ) (own : Own) (wrote : ℕ) (x : Actor) → s.actors a ≡ Some x → x.life ≡ Alive
     → IsLocalSpawner x.program → next_of x.program x.past own.read own.ready ≡ own.due → ComesOf s a own.due own.came wrote → PostsStand (acted s a own wrote (Some x))
-spawner_acts controls s I P a own wrote x is alive it due comes = acts_by controls s I P a wrote x.program x.past x.life own it (I.crew a x is) alive is due comes
+spawner_acts s I P a own wrote x is alive it due comes = acts_by s I P a wrote x.program x.past x.life own it (I.crew a x is) alive is due comes
 
 -- what it starts is a delivery
 pub local_asked : (asked : ChildData) → IsLocalDue (needs.Start asked) → (slot : ℕ) × (words : DeliveryWordsData) × (uid : ℕ) × (asked ≡ child.Local slot words uid)
@@ -370,23 +369,23 @@ pub delivery_is : (slot : ℕ) (words : DeliveryWordsData) (uid pid : ℕ) (prog
 delivery_is slot words uid pid (Delivery start args) it = (start, ap (Delivery start) it)
 delivery_is slot words uid pid program it = absurd it
 
-bears_by : (controls : Controls) (s : State) (I : Inv controls s) → PostsStand s → (parent : List ℕ) (program : Program) (past : List Own) (life : Life) (own : Own) → IsLocalSpawner program
+bears_by : (s : State) (I : Inv s) → PostsStand s → (parent : List ℕ) (program : Program) (past : List Own) (life : Life) (own : Own) → IsLocalSpawner program
     → IsNamed parent program → life ≡ Alive → s.actors parent ≡ Some (record { program = program; past = past; life = life }) → next_of program past own.read own.ready ≡ own.due
     → (asked : ChildData) → own.due ≡ needs.Start asked → (pid : ℕ) → own.came ≡ got.Started pid → (a : List ℕ) → s.actors a ≡ None → (borne : Program) → IsProgramOf asked pid borne
     → PostsStand (bears (acted s parent own 0 (Some (record { program = program; past = past; life = life }))) parent own a borne)
-bears_by controls s I P parent (LocalSpawner began) past Alive own it named alive is due asked starts pid came a new borne runs =
+bears_by s I P parent (LocalSpawner began) past Alive own it named alive is due asked starts pid came a new borne runs =
     let due_is : IsLocalDue (needs.Start asked) = subst IsLocalDue (due ∙ starts) (local_due (place_after past).row own.ready (place_after past)) in
     let w = local_asked asked due_is in
     let d = delivery_is w.0 w.1 w.2 pid borne (subst (λ (c : ChildData). IsProgramOf c pid borne) w.3 runs) in
     subst (λ (b : List ℕ). PostsStand (bears (acted s b own 0 (Some (spawner began past))) b own a borne)) (sym named)
     (subst (λ (z : Program). PostsStand (bears (acted s (codes "lspawn") own 0 (Some (spawner began past))) (codes "lspawn") own a z)) (sym d.1)
-    (spawner_starts controls s I P own 0 began past (subst (λ (b : List ℕ). s.actors b ≡ Some (spawner began past)) named is) due
+    (spawner_starts s I P own 0 began past (subst (λ (b : List ℕ). s.actors b ≡ Some (spawner began past)) named is) due
     w.0 w.1 w.2 pid (starts ∙ ap needs.Start w.3) came a new d.0))
-bears_by controls s I P parent (LocalSpawner began) past life own it named alive is due asked starts pid came a new borne runs = absurd (cc)
-bears_by controls s I P parent other past life own it named alive is due asked starts pid came a new borne runs = absurd it
+bears_by s I P parent (LocalSpawner began) past life own it named alive is due asked starts pid came a new borne runs = absurd (cc)
+bears_by s I P parent other past life own it named alive is due asked starts pid came a new borne runs = absurd it
 
-pub spawner_bears : (controls : Controls) (s : State) → Inv controls s → PostsStand s → (parent : List ℕ) (own : Own) (x : Actor) → s.actors parent ≡ Some x → x.life ≡ Alive → IsLocalSpawner x.program
+pub spawner_bears : (s : State) → Inv s → PostsStand s → (parent : List ℕ) (own : Own) (x : Actor) → s.actors parent ≡ Some x → x.life ≡ Alive → IsLocalSpawner x.program
     → next_of x.program x.past own.read own.ready ≡ own.due → (asked : ChildData) → own.due ≡ needs.Start asked → (pid : ℕ) → own.came ≡ got.Started pid
     → (a : List ℕ) → s.actors a ≡ None → (borne : Program) → IsProgramOf asked pid borne → PostsStand (bears (acted s parent own 0 (Some x)) parent own a borne)
-spawner_bears controls s I P parent own x is alive it due asked starts pid came a new borne runs =
-    bears_by controls s I P parent x.program x.past x.life own it (I.crew parent x is) alive is due asked starts pid came a new borne runs
+spawner_bears s I P parent own x is alive it due asked starts pid came a new borne runs =
+    bears_by s I P parent x.program x.past x.life own it (I.crew parent x is) alive is due asked starts pid came a new borne runs

@@ -3,7 +3,6 @@
 use Rattle.std.specs.Prelude.{Contains}
 use Rattle.std.proofs.Common.{◌≡◌, ◌≢◌, ⊎_elim, ℕ, List, ◌∷◌, ◌++◌, take, Bool, true, ◌&&◌, Option, Some, None, refl, sym, ap, ◌∙◌, subst, codes, if◌then◌else◌}
 use Rattle.actor_names.specs.MailNames.{members}
-use Rattle.address_rules.specs.declared.controls.Controls.{Controls}
 use Rattle.call_fs.specs.Maps.{put_at}
 use Rattle.call_fs.proofs.Maps.{put_at_cases, put_at_other}
 use Rattle.call_fs.specs.declared.calls.Answer.{Answer}
@@ -20,7 +19,8 @@ use Rattle.call_fs.specs.declared.program.Ready.{Ready}
 use Rattle.call_fs.specs.Past.{taken, taken_by}
 use Rattle.local_parts.specs.declared.arguments.LocalArgs.{LocalArgs}
 use Rattle.program_law.specs.Post.Posts.{Task}
-use Rattle.queue_law.specs.Books.{Books, Child}
+use Rattle.queue_law.specs.Books.{Books}
+use Rattle.queue_law.specs.Entered.{Child}
 use Rattle.queue_law.proofs.Tests.{same_text}
 use Rattle.world_pipes.specs.Pipework.{Pipe, Pipework, Yields, fresh, is_member, is_writer, mouth, pipes_after, taken as without, writer}
 use Rattle.world_pipes.specs.Pipework.Tenant.{Runs}
@@ -76,7 +76,7 @@ bears_not : (program : Program) (start : ℕ) (args : LocalArgs) → (IsLocalSpa
 bears_not (LocalSpawner since) start args other bears = other tt
 bears_not program start args other bears = bears
 
-module _ (controls : Controls) (s : State) (I : Inv controls s) where
+module _ (s : State) (I : Inv s) where
   pub fed_not : (a : List ℕ) (x : Actor) → s.actors a ≡ Some x → (IsLocalSpawner x.program → ⊥) → (k : Task) → IsDeliveryFor s k → (due : NeedData) → IsNoFeed s.pipework a k.name due
   fed_not a x is other k it (needs.Give (port.Program d) bytes) = λ runs.
       let h = I.tenants a d (Runs k.name) runs in
@@ -180,4 +180,5 @@ module _ (bouncer : Option Child) (a : List ℕ) where
   books_same b program none past read ready (needs.File c) (got.Answered told) =
       told_none (booked_by b a program c told.answer) program none past read ready (got.Answered told) ∙ booked_none b program none c told.answer
   books_same b program none past read ready (needs.Take from) came = told_none b program none past read ready came
+  books_same b program none past read ready (needs.Give to bytes) came = told_none b program none past read ready came
   books_same b program none past read ready due came = refl

@@ -1,6 +1,5 @@
 -- The events of the remote spawner.
 use Rattle.std.proofs.Common.{◌≡◌, ℕ, List, Option, Some, refl, sym, subst, codes}
-use Rattle.address_rules.specs.declared.controls.Controls.{Controls}
 use Rattle.call_fs.specs.declared.past.Own.{Own}
 use Rattle.remote_spawn.specs.Table.{place_after, program_of as asked_for, remote}
 use Rattle.send_known.specs.declared.channel.Channel.TheVariants.{Remote}
@@ -20,29 +19,29 @@ use Rattle.world_law.proofs.Spawners.{serves}
 is_kind : IsKind remote
 is_kind p = IsGiven refl
 
-module _ (controls : Controls) (s : State) (I : Inv controls s) (wrote : ℕ) (began : ℕ) (past : List Own) (own : Own) where
+module _ (s : State) (I : Inv s) (wrote : ℕ) (began : ℕ) (past : List Own) (own : Own) where
   abbrev spawner : Actor
   spawner = record { program = RemoteSpawner began; past = past; life = Alive }
 
   remote_event : s.actors (codes "rspawn") ≡ Some spawner → next_of (RemoteSpawner began) past own.read own.ready ≡ own.due → ComesOf s (codes "rspawn") own.due own.came wrote
-      → Inv controls (acted s (codes "rspawn") own wrote (Some spawner))
+      → Inv (acted s (codes "rspawn") own wrote (Some spawner))
   remote_event is due comes =
       let p : Place = place_after past in
-      serves s wrote began past own controls I Remote is remote is_kind (asked_for p.request) tt p (λ r due came h. h) (I.fares (codes "rspawn") spawner is) due comes
+      serves s wrote began past own I Remote is remote is_kind (asked_for p.request) tt p (λ r due came h. h) (I.fares (codes "rspawn") spawner is) due comes
 
-by_program : (controls : Controls) (s : State) (I : Inv controls s) (a : List ℕ) (wrote : ℕ) (program : Program) (past : List Own) (life : Life) (own : Own) → IsRemoteSpawner program
+by_program : (s : State) (I : Inv s) (a : List ℕ) (wrote : ℕ) (program : Program) (past : List Own) (life : Life) (own : Own) → IsRemoteSpawner program
     → IsNamed a program → life ≡ Alive → s.actors a ≡ Some (record { program = program; past = past; life = life }) → next_of program past own.read own.ready ≡ own.due
-    → ComesOf s a own.due own.came wrote → Inv controls (acted s a own wrote (Some (record { program = program; past = past; life = life })))
-by_program controls s I a wrote (RemoteSpawner began) past Alive own it named alive is due comes =
-    subst (λ (b : List ℕ). Inv controls (acted s b own wrote (Some (record { program = RemoteSpawner began; past = past; life = Alive })))) (sym named)
-    (remote_event controls s I wrote began past own
+    → ComesOf s a own.due own.came wrote → Inv (acted s a own wrote (Some (record { program = program; past = past; life = life })))
+by_program s I a wrote (RemoteSpawner began) past Alive own it named alive is due comes =
+    subst (λ (b : List ℕ). Inv (acted s b own wrote (Some (record { program = RemoteSpawner began; past = past; life = Alive })))) (sym named)
+    (remote_event s I wrote began past own
     (subst (λ (b : List ℕ). s.actors b ≡ Some (record { program = RemoteSpawner began; past = past; life = Alive })) named is) due
     (subst (λ (b : List ℕ). ComesOf s b own.due own.came wrote) named comes))
-by_program controls s I a wrote (RemoteSpawner began) past life own it named alive is due comes = absurd (cc)
-by_program controls s I a wrote other past life own it named alive is due comes = absurd it
+by_program s I a wrote (RemoteSpawner began) past life own it named alive is due comes = absurd (cc)
+by_program s I a wrote other past life own it named alive is due comes = absurd it
 
 pub remotes_keep : RemotesKeep
-remotes_keep a own wrote controls s I may it =
+remotes_keep a own wrote s I may it =
     let x = may.actor in
-    subst (λ (o : Option Actor). Inv controls (acted s a own wrote o)) (sym may.reads.is)
-    (by_program controls s I a wrote x.program x.past x.life own it (I.crew a x may.reads.is) may.reads.alive may.reads.is may.due may.came)
+    subst (λ (o : Option Actor). Inv (acted s a own wrote o)) (sym may.reads.is)
+    (by_program s I a wrote x.program x.past x.life own it (I.crew a x may.reads.is) may.reads.alive may.reads.is may.due may.came)

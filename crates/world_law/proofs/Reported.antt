@@ -1,4 +1,5 @@
 -- Recipients that ledgers have as delivered, or as failed, were reported so, and those that were reported are in the ledgers.
+use Rattle.address_rules.specs.declared.controls.Controls.{Controls}
 use Rattle.std.proofs.Common.{◌≡◌, ℕ, List, [], ◌∷◌, ◌++◌, Bool, true, false, Option, Some, None, refl, sym, ap, ◌∙◌, subst}
 use Rattle.call_fs.specs.Disk.{Among, Disk}
 use Rattle.call_fs.specs.Past.{IsRunBy}
@@ -7,11 +8,12 @@ use Rattle.call_fs.specs.declared.past.NeedData.{NeedData}
 use Rattle.call_fs.specs.declared.past.NeedData.TheVariants as needs
 use Rattle.call_fs.specs.declared.past.Own.{Own}
 use Rattle.call_fs.specs.declared.program.Ready.{Ready}
-use Rattle.queue_law.specs.Books.{Books, Child, Injection, booked_all, line_said}
+use Rattle.queue_law.specs.Books.{Books, Injection}
+use Rattle.queue_law.specs.Entered.{Child, booked_all, line_said}
 use Rattle.queue_law.specs.Ledgers.{HasGrown, Ledger, Line, Spot}
 use Rattle.queue_law.specs.Ledgers.Line.{Delivers, Fails}
 use Rattle.send_core.specs.Past.{account}
-use Rattle.send_core.specs.Table.{Next}
+use Rattle.send_core.specs.Table.{Next, place_after as sender_after}
 use Rattle.send_jobs.specs.Bookings.{Booking}
 use Rattle.send_jobs.specs.Bookings.Booking.{Reported}
 use Rattle.send_known.specs.declared.channel.Channel.{Channel}
@@ -38,15 +40,17 @@ module _ (d : Disk) (h : List Event) (name : List ℕ) (own : Own) (wrote : ℕ)
   taken_now delivered n x among =
       let w : WasReported past own delivered x.channel n x.place = was_entered None past own run delivered n x.place x.channel among in
       let flies = all_settled w.report.slot w.task w.earlier (account x.channel past) w.flies in record {
-        name = name;
-        own = own;
-        wrote = wrote;
-        earlier = h;
-        all = refl;
-        sender = record { program = Sender start; past = past; life = life };
-        is = is;
-        start = start;
-        program = refl;
+        event = record {
+          name = name;
+          own = own;
+          wrote = wrote;
+          earlier = h;
+          all = refl;
+          sender = record { program = Sender start; past = past; life = life };
+          is = is;
+          start = start;
+          program = refl;
+        };
         reported = w;
         given = flights_were_given x.channel past w.report.slot w.task flies.0;
         first = flies.1;
@@ -104,7 +108,10 @@ module _ (d : Disk) (h : List Event) (name : List ℕ) (own : Own) (wrote : ℕ)
   abbrev child : Option Child
   child = bouncer_of s name
 
-  books : (happens s (Act name own wrote)).books ≡ booked_all child es s.books
+  abbrev by : Controls
+  by = (sender_after None sender.past).book.controls
+
+  books : (happens s (Act name own wrote)).books ≡ booked_all child by es s.books
   books =
       ap (λ (o : Option Actor). (acted s name own wrote o).books) is
       ∙ ap (λ (p : Program). books_after child s.books name p sender.past own.read own.ready own.due own.came) program
@@ -114,11 +121,11 @@ module _ (d : Disk) (h : List Event) (name : List ℕ) (own : Own) (wrote : ℕ)
   among = enters None sender.past own (ran_now d h name own wrote legal start sender program is) delivered n place c w
 
   there : (j : Injection) → (happens s (Act name own wrote)).books.living n ≡ Some j → HasLine (line_said delivered (record { channel = c; place = place })) j.ledger
-  there j lives = all_there child es n delivered (record { channel = c; place = place }) s.books j among (subst (λ (b : Books). b.living n ≡ Some j) books lives)
+  there j lives = all_there child by es n delivered (record { channel = c; place = place }) s.books j among (subst (λ (b : Books). b.living n ≡ Some j) books lives)
 
   goes : (i : Injection) → s.books.living n ≡ Some i
       → (j : Injection) × ((happens s (Act name own wrote)).books.living n ≡ Some j) × (j.args ≡ i.args) × HasGrown i.ledger j.ledger
-  goes i lives = subst (λ (b : Books). (j : Injection) × (b.living n ≡ Some j) × (j.args ≡ i.args) × HasGrown i.ledger j.ledger) (sym books) (all_forth child es s.books n i lives)
+  goes i lives = subst (λ (b : Books). (j : Injection) × (b.living n ≡ Some j) × (j.args ≡ i.args) × HasGrown i.ledger j.ledger) (sym books) (all_forth child by es s.books n i lives)
 
 spots_of : (delivered : Bool) (s : Spot) (l : Ledger) → HasLine (line_said delivered s) l → Among s (spots_in delivered l)
 spots_of true s l h = h
@@ -132,11 +139,12 @@ taken_are_entered delivered d name own wrote h legal sender is start program c n
 -- so the ledgers have just those that were reported
 entered_taken : (delivered : Bool) (d : Disk) (h : List Event) → Legal d h → (i : Injection) (s : Spot) → WasTaken d h delivered i s → Among s (spots_in delivered i.ledger)
 entered_taken delivered d h legal i s w =
-    let t = w.taken in
+    let taken = w.taken in
+    let t = taken.event in
     let then_legal : Legal d (Act t.name t.own t.wrote ∷ t.earlier) = subst (Legal d) t.all (legal_until d h w.until i legal w.life) in
     spots_of delivered s i.ledger
     (stays_in d h w.until i (line_said delivered s) legal w.life
-    (λ j lives. there d t.earlier t.name t.own t.wrote then_legal t.sender t.is t.start t.program delivered s.channel i.number s.place t.reported j
+    (λ j lives. there d t.earlier t.name t.own t.wrote then_legal t.sender t.is t.start t.program delivered s.channel i.number s.place taken.reported j
     (subst (λ (z : List Event). (after d z).books.living i.number ≡ Some j) t.all lives)))
 
 pub ledgers_are_of_reports : LedgersAreOfReports

@@ -1,6 +1,5 @@
 -- The invariant says that the state is safe.
 use Rattle.std.proofs.Common.{◌≡◌, ◌≢◌, ℕ, List, Bool, true, false, Some, None, is_some, refl, ap}
-use Rattle.address_rules.specs.declared.controls.Controls.{Controls}
 use Rattle.call_fs.specs.Past.{IsRunBy}
 use Rattle.call_fs.specs.declared.past.Own.{Own}
 use Rattle.queue_paths.specs.Names.{Part, path}
@@ -82,24 +81,24 @@ module _ (q : Queue) (n : ℕ) where
   state_in (Fourth y z mess todo bounce) = fourth _ _ _ _ _ _ _ (there Mess y mess) (has_todo z todo) (gone Bounce bounce)
   state_in (Fifth y z mess intd todo info) = fifth _ _ _ _ _ _ _ (there Mess y mess) (no_intd intd) (no_todo todo) (there Info z info)
 
-booked : (controls : Controls) (now : ℕ) (q : Queue) (a : List ℕ) (program : Program) (past : List Own) (life : Life) → FaresBy controls now q a program past life
+booked : (now : ℕ) (q : Queue) (a : List ℕ) (program : Program) (past : List Own) (life : Life) → FaresBy now q a program past life
     → IsRunBy (next_of program) past → IsBooked q.books a program past
-booked controls now q a (Injector args) past life F run = λ made. F.queued (has_queued args past run made)
-booked controls now q a other past life F run = tt
+booked now q a (Injector args) past life F run = λ made. F.queued (has_queued args past run made)
+booked now q a other past life F run = tt
 
-well : (controls : Controls) (now : ℕ) (q : Queue) (a : List ℕ) (program : Program) (past : List Own) (life : Life) → FaresBy controls now q a program past life
+well : (now : ℕ) (q : Queue) (a : List ℕ) (program : Program) (past : List Own) (life : Life) → FaresBy now q a program past life
     → life ≡ Over 0 → EndsWell q.books a program past
-well controls now q a (Injector args) past life F over = F.queued (F.ends (ap is_well over))
-well controls now q a (Delivery start args) past life F over = record { carried = F.well (ap is_well over); forwarded = forwarded_in q.books past F.forwards }
-well controls now q a other past life F over = tt
+well now q a (Injector args) past life F over = F.queued (F.ends (ap is_well over))
+well now q a (Delivery start args) past life F over = record { carried = F.well (ap is_well over); forwarded = forwarded_in q.books past F.forwards }
+well now q a other past life F over = tt
 
 -- what holds of the queue says that the state is safe, if its actors have ended as they say
-pub safe_by : (controls : Controls) (s : State) (role : ℕ → Role) → Sound controls (queue s role)
+pub safe_by : (s : State) (role : ℕ → Role) → Sound (queue s role)
     → ((a : List ℕ) (x : Actor) → s.actors a ≡ Some x → IsBooked s.books a x.program x.past)
-    → ((a : List ℕ) (x : Actor) → s.actors a ≡ Some x → x.life ≡ Over 0 → EndsWell s.books a x.program x.past) → SafeState s × AreAccounted controls s
-safe_by controls s role sound queued ends =
+    → ((a : List ℕ) (x : Actor) → s.actors a ≡ Some x → x.life ≡ Over 0 → EndsWell s.books a x.program x.past) → SafeState s × AreAccounted s
+safe_by s role sound queued ends =
     let q = queue s role in
-    let S = sound_is_safe controls q sound in (
+    let S = sound_is_safe q sound in (
       record {
         states = λ n. state_in q n (S.states n);
         numbers = λ n i h. S.numbers n (entry s.disk.files i) (find_some s.disk.names s.disk.files (Of Mess n) i h);
@@ -108,19 +107,19 @@ safe_by controls s role sound queued ends =
         queued = queued;
         ends = ends;
       },
-      all_accounted controls q sound,
+      all_accounted q sound,
     )
 
 -- the name of a message is the file of its own number
-pub own_numbers : (controls : Controls) (s : State) → Inv controls s → (n i : ℕ) → s.disk.names (path (Of Mess n)) ≡ Some i → i ≡ n
-own_numbers controls s I n i h = (sound_is_safe controls (queue s I.role) I.sound).numbers n (entry s.disk.files i) (find_some s.disk.names s.disk.files (Of Mess n) i h)
+pub own_numbers : (s : State) → Inv s → (n i : ℕ) → s.disk.names (path (Of Mess n)) ≡ Some i → i ≡ n
+own_numbers s I n i h = (sound_is_safe (queue s I.role) I.sound).numbers n (entry s.disk.files i) (find_some s.disk.names s.disk.files (Of Mess n) i h)
 
 -- and an actor that has ended with 0 has ended as it says
-pub end_well : (controls : Controls) (s : State) → Inv controls s → (a : List ℕ) (x : Actor) → s.actors a ≡ Some x → x.life ≡ Over 0 → EndsWell s.books a x.program x.past
-end_well controls s I a x h over = well controls s.now (queue s I.role) a x.program x.past x.life (I.fares a x h) over
+pub end_well : (s : State) → Inv s → (a : List ℕ) (x : Actor) → s.actors a ≡ Some x → x.life ≡ Over 0 → EndsWell s.books a x.program x.past
+end_well s I a x h over = well s.now (queue s I.role) a x.program x.past x.life (I.fares a x h) over
 
-pub inv_is_safe : (controls : Controls) (s : State) → HaveRun s.actors → Inv controls s → SafeState s × AreAccounted controls s
-inv_is_safe controls s run I =
-    safe_by controls s I.role I.sound
-    (λ a x h. booked controls s.now (queue s I.role) a x.program x.past x.life (I.fares a x h) (run a x h))
-    (end_well controls s I)
+pub inv_is_safe : (s : State) → HaveRun s.actors → Inv s → SafeState s × AreAccounted s
+inv_is_safe s run I =
+    safe_by s I.role I.sound
+    (λ a x h. booked s.now (queue s I.role) a x.program x.past x.life (I.fares a x h) (run a x h))
+    (end_well s I)

@@ -1,6 +1,6 @@
 -- What a sender takes of the program in its slot is the status of the injector of a bounce, which has the bounce of the message at work.
 use Rattle.std.proofs.Common.{◌≡◌, ◌⊎◌, inl, inr, ℕ, ◌==◌, List, [], ◌∷◌, true, false, Option, Some, None, refl, sym, ap, ◌∙◌, subst, bytes_eq, codes}
-use Rattle.address_rules.specs.declared.controls.Controls.{Controls}
+use Rattle.address_rules.specs.Nuls.{HaveNoNul}
 use Rattle.bounce_record.specs.declared.return_row.ReturnRow.{ReturnRow}
 use Rattle.bounce_record.specs.Returning.{envelope_of}
 use Rattle.call_fs.specs.declared.past.GotData.{GotData}
@@ -12,7 +12,9 @@ use Rattle.call_fs.specs.declared.program.Port.TheVariants as port
 use Rattle.call_fs.specs.declared.past.Own.{Own}
 use Rattle.call_fs.specs.declared.program.Ready.{Ready}
 use Rattle.queue_inject.specs.declared.injection.Arguments.{Arguments}
-use Rattle.queue_law.specs.Books.{Child as Bouncer, HasQueued, Injection, notes_read}
+use Rattle.queue_law.specs.Books.{HasQueued, Injection}
+use Rattle.queue_law.specs.Entered.{Child as Bouncer, notes_read}
+use Rattle.queue_law.specs.Ledgers.{NotesRead}
 use Rattle.received_line.specs.declared.line.Invoked.TheVariants as invoking
 use Rattle.send_core.specs.declared.desk.Desk.{Desk}
 use Rattle.send_parts.specs.declared.row.Row.{Row}
@@ -48,9 +50,9 @@ IsOfChild child came = Unit {0}
 some_child : (x y : Bouncer) → ◌≡◌ {A = Option Bouncer} (Some x) (Some y) → x ≡ y
 some_child x y e = cc
 
-module _ (controls : Controls) (s : State) (I : Inv controls s) where
+module _ (s : State) (I : Inv s) where
   -- one that has ended with 0 has queued its message
-  pub ended_queued : (b : List ℕ) (args : Arguments) (program : Program) (past : List Own) (life : Life) → FaresBy controls s.now (queue s I.role) b program past life → program ≡ Injector args
+  pub ended_queued : (b : List ℕ) (args : Arguments) (program : Program) (past : List Own) (life : Life) → FaresBy s.now (queue s I.role) b program past life → program ≡ Injector args
       → IsStatusOf life (got.Ended 0) → HasQueued s.books b args
   ended_queued b args (Injector other) past (Over status) F is ended =
       let zero : 0 ≡ status = cc in
@@ -60,7 +62,7 @@ module _ (controls : Controls) (s : State) (I : Inv controls s) where
   ended_queued b args (Injector other) past Stopped F is ended = absurd (cc)
   ended_queued b args program past life F is ended = absurd (cc)
 
-module _ (controls : Controls) (s : State) (I : Inv controls s) (a : List ℕ) (named : a ≡ codes "sender") where
+module _ (s : State) (I : Inv s) (a : List ℕ) (named : a ≡ codes "sender") where
   abbrev child : Option Bouncer
   child = bouncer_of s a
 
@@ -103,7 +105,7 @@ module _ (controls : Controls) (s : State) (I : Inv controls s) (a : List ℕ) (
       let one : record { actor = b; args = w.args } ≡ c = some_child (record { actor = b; args = w.args }) c (sym it ∙ has) in
       let same : ends.0 ≡ w.actor = some_actor ends.0 w.actor (sym ends.1 ∙ w.is) in
       subst (λ (z : Bouncer). HasQueued s.books z.actor z.args) one
-      (ended_queued controls s I b w.args w.actor.program w.actor.past w.actor.life (I.fares b w.actor w.is) w.program_is (subst (λ (z : Actor). IsStatusOf z.life (got.Ended 0)) same ends.2))
+      (ended_queued s I b w.args w.actor.program w.actor.past w.actor.life (I.fares b w.actor w.is) w.program_is (subst (λ (z : Actor). IsStatusOf z.life (got.Ended 0)) same ends.2))
   tenant_queued slot (Some (Remote reported)) e ends c has = absurd (sender_alone (I.tenants a slot (Remote reported) e))
   tenant_queued slot None e ends c has = absurd ends
 
@@ -133,7 +135,7 @@ module _ (controls : Controls) (s : State) (I : Inv controls s) (a : List ℕ) (
   child_carries c has input None e fed = let none : ◌≡◌ {A = Option Bouncer} None (Some c) = sym (ap (bouncer_in s.actors) e) ∙ has in absurd (cc)
 
 -- While a living sender awaits the status of its child, that has the input that the sender kept for it.
-module _ (controls : Controls) (s : State) (I : Inv controls s) where
+module _ (s : State) (I : Inv s) where
   awaiting_by : (past : List Own) → PastFed s (codes "sender") (Next None) past → AwaitsAt (sender_after None past).row (sender_after None past).bounce
       → IsFed s (s.pipework.programs (codes "sender") 0) (sender_after None past).bounce.input
   awaiting_by [] fed awaits = absurd awaits
@@ -156,26 +158,29 @@ module _ (controls : Controls) (s : State) (I : Inv controls s) where
         subst (λ (r : Row). AwaitsAt r d.bounce) (sym (return_arrived d.row d read ready w.n w.row_is))
         (subst AwaitsIn (sym w.awaits) tt)
 
-    pub carried : (read : ℕ) (ready : Ready) (came : GotData) → StandsAt controls s.now (queue s I.role) (codes "sender") (row_now d read ready) d → (w : IsStatusTaken (row_now d read ready) came d)
-        → (c : Bouncer) → bouncer_of s (codes "sender") ≡ Some c → (i : Injection) → s.books.living w.n ≡ Some i → IsBounceOf controls i.args (notes_read (s.books.living w.n)) c.args
+    pub carried : (read : ℕ) (ready : Ready) (came : GotData) → StandsAt s.now (queue s I.role) (codes "sender") (row_now d read ready) d → (w : IsStatusTaken (row_now d read ready) came d)
+        → (c : Bouncer) → bouncer_of s (codes "sender") ≡ Some c → (i : Injection) → s.books.living w.n ≡ Some i
+        → HaveNoNul (notes_read (s.books.living w.n)).by × IsBounceOf (notes_read (s.books.living w.n)).by i.args (notes_read (s.books.living w.n)).notes c.args
     carried read ready came here w c has i lives =
-        let stands : StandsAt controls s.now (queue s I.role) (codes "sender") (at.Finish finish.Return w.n) d =
-        subst (λ (r : Row). StandsAt controls s.now (queue s I.role) (codes "sender") r d) w.row_is here in
-        let back_stands : ReturnStands controls (queue s I.role) (codes "sender") w.n d.book.messages.known d.bounce = stands.rests.1 in
-        let held : HasMade controls (about (queue s I.role) w.n) (sender_of w.n d.book.messages.known) d.bounce.input =
-        subst (λ (r : ReturnRow). ReturnHolds controls (queue s I.role) (codes "sender") r d.bounce w.n (sender_of w.n d.book.messages.known)) w.awaits back_stands.holds in
-        let made = made_input controls s.now (queue s I.role) (codes "sender") None w.n d.book read 0 I.sound back_stands.idle stands.knows.known (stands.controls_are tt) i lives d.bounce.input held in
+        let stands : StandsAt s.now (queue s I.role) (codes "sender") (at.Finish finish.Return w.n) d =
+        subst (λ (r : Row). StandsAt s.now (queue s I.role) (codes "sender") r d) w.row_is here in
+        let back_stands : ReturnStands d.book.controls (queue s I.role) (codes "sender") w.n d.book.messages.known d.bounce = stands.rests.1 in
+        let held : HasMade d.book.controls (about (queue s I.role) w.n) (sender_of w.n d.book.messages.known) d.bounce.input =
+        subst (λ (r : ReturnRow). ReturnHolds d.book.controls (queue s I.role) (codes "sender") r d.bounce w.n (sender_of w.n d.book.messages.known)) w.awaits back_stands.holds in
+        let made = made_input s.now (queue s I.role) (codes "sender") None w.n d.book read 0 I.sound back_stands.idle stands.knows.known i lives d.bounce.input held in
         let fed = awaiting_fed began past is (awaits_there read ready came w) in
-        let input = child_carries controls s I (codes "sender") refl c has d.bounce.input (s.pipework.programs (codes "sender") 0) refl fed in
-        let texts = two_texts c.args.message c.args.envelope made.bounce.text (envelope_of made.bounce) (sym input.0.0 ∙ made.input_is) in
-        subst (λ (notes : List ℕ). IsBounceOf controls i.args notes c.args) (ap notes_read (sym lives))
-        (record {
-          moment = made.moment;
-          bounce = made.bounce;
-          made = made.made;
-          invoked = input.1;
-          message_is = texts.0;
-          envelope_is = texts.1;
-          message_end = input.0.1;
-          envelope_end = input.0.2;
-        })
+        let input = child_carries s I (codes "sender") refl c has d.bounce.input (s.pipework.programs (codes "sender") 0) refl fed in
+        let texts = two_texts c.args.message c.args.envelope made.bounce.text (envelope_of made.bounce) (sym input.0.0 ∙ made.input_is) in (
+          subst HaveNoNul (sym (ap (λ (it : NotesRead). it.by) (ap notes_read held.read.lives ∙ held.read.last))) (stands.no_nul tt),
+          subst (λ (it : NotesRead). IsBounceOf it.by i.args it.notes c.args) (ap notes_read (sym lives))
+              (record {
+                moment = made.moment;
+                bounce = made.bounce;
+                made = made.made;
+                invoked = input.1;
+                message_is = texts.0;
+                envelope_is = texts.1;
+                message_end = input.0.1;
+                envelope_end = input.0.2;
+              }),
+        )

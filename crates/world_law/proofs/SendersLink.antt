@@ -1,4 +1,8 @@
 -- What lies between the sender and its cleaner after each kind of event of the sender.
+use Rattle.send_jobs.specs.Bookings.Booking.{Routed}
+use Rattle.address_rules.specs.Nuls.{HaveNoNul}
+use Rattle.send_core.specs.Booked.{booked_at, routed_at}
+use Rattle.program_law.specs.Sender.Takings.{booked_queue}
 use Rattle.std.proofs.Common.{◌≡◌, ◌≢◌, ℕ, List, [], ◌∷◌, ◌++◌, bytes_eq, Bool, true, false, Option, Some, None, refl, sym, ap, ◌∙◌, subst, ⊎_elim, arith, inr, length, length-append}
 use Rattle.std.proofs.lemmas.List.{append-nil}
 use Rattle.std.specs.Prelude.{◌+◌, ◌≤◌, if◌then◌else◌}
@@ -15,8 +19,8 @@ use Rattle.program_law.proofs.Errand.Links.{asks_keep, idle_is, losses_keep, non
 use Rattle.queue_clean.specs.declared.command.Command.{Command}
 use Rattle.queue_clean.specs.declared.command.Command.TheVariants.{Todo}
 use Rattle.queue_clean.specs.Commands.{message_of}
-use Rattle.queue_law.specs.Books.{Child as Bouncer}
-use Rattle.queue_law.specs.Numbers.{Queue}
+use Rattle.queue_law.specs.Entered.{Child as Bouncer}
+use Rattle.queue_law.specs.Numbers.{Queue, Sound}
 use Rattle.queue_law.specs.Rests.{IsClosed}
 use Rattle.queue_law.proofs.Tests.{text_cases}
 use Rattle.send_core.specs.declared.desk.Desk.{Desk}
@@ -53,7 +57,7 @@ free_asks w free command is = ⊎_elim
 
 -- It waits for nothing, and does something that leaves both pipes
 
-module _ (controls : Controls) (now : ℕ) (q r : Queue) (lives later : Bool) (x : Link) (E : ErrandRests controls now q lives x) (idle : x.awaits ≡ Nothing) where
+module _ (now : ℕ) (q r : Queue) (lives later : Bool) (x : Link) (E : ErrandRests now q lives x) (idle : x.awaits ≡ Nothing) where
   none_is_waiting : E.waits ≡ None
   none_is_waiting = none_waits E.waits (let k = (idle_is E.waits x E.errand idle).0 in omega (arith, k))
 
@@ -63,7 +67,7 @@ module _ (controls : Controls) (now : ℕ) (q r : Queue) (lives later : Bool) (x
       (λ (over : w ≡ Over). subst (λ (v : Awaits). Errand E.waits (awaiting v x)) (sym over) (losses_keep.lost E.waits x E.errand))
       free
 
-  pub idle_errands : (w : Awaits) → IsFree w → ErrandRests controls now r later (awaiting w x)
+  pub idle_errands : (w : Awaits) → IsFree w → ErrandRests now r later (awaiting w x)
   idle_errands w free = record {
     waits = E.waits;
     errand = idle_errand w free;
@@ -72,17 +76,17 @@ module _ (controls : Controls) (now : ℕ) (q r : Queue) (lives later : Bool) (x
     told = λ n is. absurd (free_asks w free (Todo n) is);
   }
 
--- It waits for nothing, and gives a command whose number rests
+-- It waits for nothing, and gives a command whose number rests then
 
-module _ (controls : Controls) (now : ℕ) (q : Queue) (lives later : Bool) (x : Link) (E : ErrandRests controls now q lives x) (idle : x.awaits ≡ Nothing) (command : Command)
-    (R : RestsFor controls now q command) where
-  rests_if : (some : Option Command) → ((other : Command) → some ≡ Some other → other ≡ command) → WaitsAtRest controls now q some
-  rests_if some from other is = subst (λ (c : Command). RestsFor controls now q c) (sym (from other is)) R
+module _ (now : ℕ) (q r : Queue) (lives later : Bool) (x : Link) (E : ErrandRests now q lives x) (idle : x.awaits ≡ Nothing) (command : Command)
+    (R : RestsFor now r command) where
+  rests_if : (some : Option Command) → ((other : Command) → some ≡ Some other → other ≡ command) → WaitsAtRest now r some
+  rests_if some from other is = subst (λ (c : Command). RestsFor now r c) (sym (from other is)) R
 
-  closed_if : (n : ℕ) → Answer command ≡ Answer (Todo n) → IsClosed now q n
-  closed_if n is = let same : command ≡ Todo n = (cc) in subst (λ (c : Command). IsClosed now q (message_of c)) same R.closed
+  closed_if : (n : ℕ) → Answer command ≡ Answer (Todo n) → IsClosed now r n
+  closed_if n is = let same : command ≡ Todo n = (cc) in subst (λ (c : Command). IsClosed now r (message_of c)) same R.closed
 
-  pub asked_errands : ErrandRests controls now q later (asks command x)
+  pub asked_errands : ErrandRests now r later (asks command x)
   asked_errands =
       let w = asks_keep.whole E.waits command x E.errand idle in
       record {
@@ -94,7 +98,7 @@ module _ (controls : Controls) (now : ℕ) (q : Queue) (lives later : Bool) (x :
       }
 
   -- so many bytes of it
-  pub cut_errands : (wrote : ℕ) → ErrandRests controls now q later (asks_in_part command wrote x)
+  pub cut_errands : (wrote : ℕ) → ErrandRests now r later (asks_in_part command wrote x)
   cut_errands wrote =
       let w = asks_keep.part E.waits command wrote x E.errand idle in
       record {
@@ -149,8 +153,8 @@ answered_by w rest x free E = ⊎_elim
     (λ (over : w ≡ Over). subst (λ (v : Awaits). Errand None (awaiting v (takes_up rest x))) (sym over) (losses_keep.lost None (takes_up rest x) E))
     free
 
-module _ (controls : Controls) (now : ℕ) (q r : Queue) (lives later : Bool) (x : Link) (E : ErrandRests controls now q lives x) (command : Command) (is : x.awaits ≡ Answer command) where
-  pub answered_errands : (bytes rest : List ℕ) → x.answers ≡ bytes ++ rest → bytes ≢ [] → (w : Awaits) → IsFree w → ErrandRests controls now r later (awaiting w (takes_up rest x))
+module _ (now : ℕ) (q r : Queue) (lives later : Bool) (x : Link) (E : ErrandRests now q lives x) (command : Command) (is : x.awaits ≡ Answer command) where
+  pub answered_errands : (bytes rest : List ℕ) → x.answers ≡ bytes ++ rest → bytes ≢ [] → (w : Awaits) → IsFree w → ErrandRests now r later (awaiting w (takes_up rest x))
   answered_errands bytes rest came some w free = record {
     waits = None;
     errand = answered_by w rest x free (answers_of E.waits command bytes rest x E.errand is came some).keeps;
@@ -160,7 +164,7 @@ module _ (controls : Controls) (now : ℕ) (q r : Queue) (lives later : Bool) (x
   }
 
 -- `+` comes only of what was done well
-module _ (controls : Controls) (now : ℕ) (q : Queue) (lives : Bool) (x : Link) (E : ErrandRests controls now q lives x) (command : Command) (is : x.awaits ≡ Answer command) where
+module _ (now : ℕ) (q : Queue) (lives : Bool) (x : Link) (E : ErrandRests now q lives x) (command : Command) (is : x.awaits ≡ Answer command) where
   plus_came : (came : GotData) → answer_row came ≡ todo.Done → came ≡ got.Took (43 ∷ [])
   plus_came (got.Took bytes) done = ⊎_elim
       (λ (c : (bytes ≡ 43 ∷ []) × (bytes_eq bytes (43 ∷ []) ≡ true)). ap got.Took c.0)
@@ -175,7 +179,7 @@ module _ (controls : Controls) (now : ℕ) (q : Queue) (lives : Bool) (x : Link)
       (answers_of E.waits command (43 ∷ []) y.1.0 x E.errand is (sym same ∙ y.1.1) y.0).well refl
 
   pub told_by_link : (child : Option Bouncer) (row : Row) (d : Desk) (pipe : Pipe) (came : GotData) → x.awaits ≡ awaits_at row d.pass → pipe.bytes ≡ x.answers → Yields pipe came
-      → due_at row d ≡ needs.Take port.Clean → IsTold controls now child q row came d
+      → due_at row d ≡ needs.Take port.Clean → IsTold now child q row came d
   told_by_link child at.InTodo d pipe came same bytes yields due = λ done.
       E.told d.pass.n (same ∙ pass_awaits d.pass.row d.pass.n command (sym same ∙ is)) (well_came pipe came bytes yields done)
   told_by_link child (at.Finish finish.Return n) d pipe came same bytes yields due = absurd (return_takes d.bounce.row d.bounce due)
@@ -208,16 +212,21 @@ idle_at d row busy = by (awaits_at row d.pass) refl where
   by (Answer command) e = absurd (subst IsBusy (waits d row command e) busy)
   by Over e = let ended = over_ends row d.pass e in absurd (subst (λ (z : Row). IsBusy (due_at z d)) ended.1 busy)
 
--- the number of a command that is given rests
-module _ (controls : Controls) (now : ℕ) (q : Queue) (a : List ℕ) (d : Desk) where
-  pass_rests : (row : PassRow) → d.pass.row ≡ row → TodoStands controls now q a row d.pass → (command : Command) → IsPassGive row d.pass.n command → RestsFor controls now q command
-  pass_rests todo.Give e h command is = subst (λ (c : Command). RestsFor controls now q c) (sym is) (passes_give controls now q a d.pass h e).rests
-  pass_rests row e h command is = absurd is
+-- the number of a command that is given rests, once what that enters is entered
+module _ (now : ℕ) (q : Queue) (a : List ℕ) (child : Option Bouncer) (came : GotData) (d : Desk) (G : Sound q) where
+  abbrev by : Controls
+  by = d.book.controls
 
-  pub given_rests : (row : Row) → StandsAt controls now q a row d → (command : Command) → IsGive row d.pass command → RestsFor controls now q command
-  given_rests at.InTodo w command is = pass_rests d.pass.row refl w.rests.1.1 command is
+  pass_rests : HaveNoNul by → (row : PassRow) → d.pass.row ≡ row → TodoStands by now q a row d.pass → (command : Command) → IsPassGive row d.pass.n command
+      → RestsFor now (booked_queue child by (routed_at row d.pass.n) q) command
+  pass_rests no_nul todo.Give e h command is =
+      subst (λ (c : Command). RestsFor now (booked_queue child by (Routed d.pass.n ∷ []) q) c) (sym is) (passes_give by now q a d.pass no_nul G h e).given.ready
+  pass_rests no_nul row e h command is = absurd is
+
+  pub given_rests : (row : Row) → StandsAt now q a row d → (command : Command) → IsGive row d.pass command → RestsFor now (booked_queue child by (booked_at row came d) q) command
+  given_rests at.InTodo w command is = pass_rests (w.no_nul tt) d.pass.row refl w.rests.1.1 command is
   given_rests (at.Finish finish.Give n) w command is =
-      subst (λ (c : Command). RestsFor controls now q c) (sym is) (chores_stand.finish_gives controls now q a n d.book.messages.known d.bounce w.rests.1)
+      subst (λ (c : Command). RestsFor now q c) (sym is) (chores_stand.finish_gives by now q a n d.book.messages.known d.bounce w.rests.1)
   given_rests (at.Sweep (sweep.Give split n)) w command is =
-      subst (λ (c : Command). RestsFor controls now q c) (sym is) (chores_stand.sweep_gives controls now q a split n d.book.messages.known w.rests.1)
+      subst (λ (c : Command). RestsFor now q c) (sym is) (chores_stand.sweep_gives now q a split n d.book.messages.known w.rests.1)
   given_rests row w command is = absurd is

@@ -1,6 +1,5 @@
 -- What the sender's steps, each of which concerns one closed number at most, leave of the other actors.
 use Rattle.std.proofs.Common.{◌≡◌, ◌≢◌, ℕ, List, true, Option, Some, ◌∙◌, subst, codes}
-use Rattle.address_rules.specs.declared.controls.Controls.{Controls}
 use Rattle.call_fs.specs.declared.past.Own.{Own}
 use Rattle.queue_clean.specs.Table.{place_after}
 use Rattle.local_spawn.specs.Table.{place_after as local_after}
@@ -31,15 +30,15 @@ abbrev pub IsIdle : Program → List Own → Type 0
 IsIdle (Cleaner began) past = (m : Option ℕ) → IsBeside m (place_after past)
 IsIdle program past = Unit {0}
 
-module _ (controls : Controls) (now : ℕ) (n : Option ℕ) (q r : Queue) (E : Elsewhere now (codes "sender") n q r) (suits : NamesSuit q) (closed : (k : ℕ) → n ≡ Some k → IsClosed now q k)
+module _ (now : ℕ) (n : Option ℕ) (q r : Queue) (E : Elsewhere now (codes "sender") n q r) (suits : NamesSuit q) (closed : (k : ℕ) → n ≡ Some k → IsClosed now q k)
     (D : LeavesTmp (codes "sender") q r) where
   spared : Spares now n q r × SparesNames q r
   spared = rest_is_kept.closed now (codes "sender") n q r E suits closed
 
   pub others_fare : (o : List ℕ) → o ≢ codes "sender" → (program : Program) (past : List Own) (life : Life) → IsNamed o program → IsIdle program past
-      → FaresBy controls now q o program past life → FaresBy controls now r o program past life
+      → FaresBy now q o program past life → FaresBy now r o program past life
   others_fare o other (Injector args) past life named idle F = injector_frame now (codes "sender") n q r E o other args past (is_alive life) (is_well life) F
-  others_fare o other (Cleaner began) past Alive named idle F = rest_is_kept.spared controls now n q r spared.0 spared.1 (place_after past) (idle n) F
+  others_fare o other (Cleaner began) past Alive named idle F = rest_is_kept.spared now n q r spared.0 spared.1 (place_after past) (idle n) F
   others_fare o other (Sender began) past life named idle F = absurd (other named)
   others_fare o other (LocalSpawner began) past Alive named idle F = lspawn_holds q r o (λ fd how. E.opens o fd how other) (local_after past) F
   others_fare o other (RemoteSpawner began) past Alive named idle F = spawner_holds q r o (λ fd how. E.opens o fd how other) (spawn_after past).row F
@@ -51,12 +50,12 @@ some_closed : (now : ℕ) (q : Queue) (n : ℕ) → IsClosed now q n → (k : �
 some_closed now q n closed k is = let same : n ≡ k = (cc) in subst (λ (m : ℕ). IsClosed now q m) same closed
 
 -- so does one such step after the other
-pub others_fare_on : (controls : Controls) (now : ℕ) (o : List ℕ) → o ≢ codes "sender" → (program : Program) (past : List Own) (life : Life) → IsNamed o program → IsIdle program past
-    → (q r : Queue) → LeadsThrough controls now (codes "sender") q r → Sound controls q → FaresBy controls now q o program past life → FaresBy controls now r o program past life
-others_fare_on controls now o other program past life named idle q r (Stays z) G F = F
-others_fare_on controls now o other program past life named idle q r (Goes x y z n closed leads through) G F =
-    others_fare_on controls now o other program past life named idle y z through leads.sound
-    (others_fare controls now (Some n) x y leads.elsewhere G.suits (some_closed now x n closed) (drops_stay.tmp (codes "sender") x y (drops_stay.outside (codes "sender") x y leads.outside leads.old)) o other program past life named idle F)
+pub others_fare_on : (now : ℕ) (o : List ℕ) → o ≢ codes "sender" → (program : Program) (past : List Own) (life : Life) → IsNamed o program → IsIdle program past
+    → (q r : Queue) → LeadsThrough now (codes "sender") q r → Sound q → FaresBy now q o program past life → FaresBy now r o program past life
+others_fare_on now o other program past life named idle q r (Stays z) G F = F
+others_fare_on now o other program past life named idle q r (Goes x y z n closed leads through) G F =
+    others_fare_on now o other program past life named idle y z through leads.sound
+    (others_fare now (Some n) x y leads.elsewhere G.suits (some_closed now x n closed) (drops_stay.tmp (codes "sender") x y (drops_stay.outside (codes "sender") x y leads.outside leads.old)) o other program past life named idle F)
 
 -- What was accepted stays so
 
@@ -74,9 +73,9 @@ later_still b i j l w = (
 )
 
 -- through all that a taking enters
-pub through : (controls : Controls) (now : ℕ) (a : List ℕ) (q r : Queue) → LeadsThrough controls now a q r → (i : Injection) → IsInjected q.books i → i.accepted ≡ true
+pub through : (now : ℕ) (a : List ℕ) (q r : Queue) → LeadsThrough now a q r → (i : Injection) → IsInjected q.books i → i.accepted ≡ true
     → (j : Injection) × IsInjected r.books j × IsLater i j
-through controls now a q r (Stays z) i h accepted = still_there z.books i h
-through controls now a q r (Goes x y z n closed leads rest) i h accepted =
+through now a q r (Stays z) i h accepted = still_there z.books i h
+through now a q r (Goes x y z n closed leads rest) i h accepted =
     let w = leads.elsewhere.accepted i h accepted in
-    later_still z.books i w.0 w.2 (through controls now a y z rest w.0 w.1 (w.2.accepted_is ∙ accepted))
+    later_still z.books i w.0 w.2 (through now a y z rest w.0 w.1 (w.2.accepted_is ∙ accepted))

@@ -1,7 +1,6 @@
 -- Each event keeps what stands between the sender and each spawner; so what a spawner has in hand is of messages in S5.
 use Rattle.std.proofs.Common.{◌≡◌, ◌≢◌, ⊎_elim, ℕ, List, [], ◌∷◌, ◌++◌, true, false, Option, Some, None, option_map, refl, sym, ap, ◌∙◌, subst, arith, codes}
 use Rattle.std.specs.Prelude.{Contains}
-use Rattle.address_rules.specs.declared.controls.Controls.{Controls}
 use Rattle.call_fs.specs.Disk.{Disk}
 use Rattle.call_fs.specs.Program.{MayCome}
 use Rattle.call_fs.proofs.Maps.{put_at_other}
@@ -26,7 +25,6 @@ use Rattle.send_known.specs.declared.channel.Channel.{Channel}
 use Rattle.send_known.specs.declared.channel.Channel.TheVariants as channel
 use Rattle.send_jobs.specs.Sending.{lane}
 use Rattle.send_jobs.specs.Slots.{attempt_in}
-use Rattle.program_law.specs.Sender.Control.{AreControls}
 use Rattle.spawn_protocol.specs.declared.request.Request.{Request}
 use Rattle.spawner_parts.specs.declared.place.Place.{Place}
 use Rattle.spawner_parts.specs.declared.row.Row.{Row}
@@ -57,7 +55,7 @@ use Rattle.world_law.proofs.Starts.{is_cleaner, is_local, is_remote, is_sender}
 
 -- An event of an actor, with what comes of a taking
 
-module _ (controls : Controls) (s : State) (I : Inv controls s) (c : Channel) (S : StandsIn c s) (a : List ℕ) (own : Own) (wrote : ℕ) where
+module _ (s : State) (I : Inv s) (c : Channel) (S : StandsIn c s) (a : List ℕ) (own : Own) (wrote : ℕ) where
   link_some : ComesOf s a own.due own.came wrote → own.due ≡ needs.Take (port_of c) → IsSome own.came (s.pipework.pipes a (port_of c)).bytes
   link_some comes e = by c (subst (λ (n : NeedData). ComesOf s a n own.came wrote) e comes)
     where
@@ -68,20 +66,20 @@ module _ (controls : Controls) (s : State) (I : Inv controls s) (c : Channel) (S
   input_offered : ComesOf s a own.due own.came wrote → own.due ≡ needs.Take port.Input → IsOffered (s.pipework.pipes a port.Input).bytes own.came
   input_offered comes e = offered_by (s.pipework.pipes a port.Input) own.came (subst (λ (n : NeedData). ComesOf s a n own.came wrote) e comes)
 
-acts_by : (controls : Controls) (s : State) → Inv controls s → (c : Channel) → StandsIn c s → (a : List ℕ) (own : Own) (wrote : ℕ) (may : MayDo s a own wrote) (program : Program)
+acts_by : (s : State) → Inv s → (c : Channel) → StandsIn c s → (a : List ℕ) (own : Own) (wrote : ℕ) (may : MayDo s a own wrote) (program : Program)
     → may.actor.program ≡ program
     → StandsIn c (acted s a own wrote (Some may.actor))
-acts_by controls s I c S a own wrote may (Sender began) e =
-    sender_acts controls s I c S a own wrote may.actor may.reads.is may.reads.alive (subst IsSender (sym e) tt) may.reads.no_later may.due (may_come s a own.due own.came wrote may.came)
-    (link_some controls s I c S a own wrote may.came)
-acts_by controls s I channel.Local S a own wrote may (LocalSpawner began) e =
-    spawner_acts controls s I channel.Local S a own wrote may.actor may.reads.is may.reads.alive (subst (IsSpawner channel.Local) (sym e) tt) may.due
-    (may_come s a own.due own.came wrote may.came) (input_offered controls s I channel.Local S a own wrote may.came)
-acts_by controls s I channel.Remote S a own wrote may (RemoteSpawner began) e =
-    spawner_acts controls s I channel.Remote S a own wrote may.actor may.reads.is may.reads.alive (subst (IsSpawner channel.Remote) (sym e) tt) may.due
-    (may_come s a own.due own.came wrote may.came) (input_offered controls s I channel.Remote S a own wrote may.came)
-acts_by controls s I channel.Local S a own wrote may program e = other_acts controls s I channel.Local S a own wrote may.actor may.reads.is (subst (IsOther channel.Local) (sym e) tt) may.due
-acts_by controls s I channel.Remote S a own wrote may program e = other_acts controls s I channel.Remote S a own wrote may.actor may.reads.is (subst (IsOther channel.Remote) (sym e) tt) may.due
+acts_by s I c S a own wrote may (Sender began) e =
+    sender_acts s I c S a own wrote may.actor may.reads.is may.reads.alive (subst IsSender (sym e) tt) may.reads.no_later may.due (may_come s a own.due own.came wrote may.came)
+    (link_some s I c S a own wrote may.came)
+acts_by s I channel.Local S a own wrote may (LocalSpawner began) e =
+    spawner_acts s I channel.Local S a own wrote may.actor may.reads.is may.reads.alive (subst (IsSpawner channel.Local) (sym e) tt) may.due
+    (may_come s a own.due own.came wrote may.came) (input_offered s I channel.Local S a own wrote may.came)
+acts_by s I channel.Remote S a own wrote may (RemoteSpawner began) e =
+    spawner_acts s I channel.Remote S a own wrote may.actor may.reads.is may.reads.alive (subst (IsSpawner channel.Remote) (sym e) tt) may.due
+    (may_come s a own.due own.came wrote may.came) (input_offered s I channel.Remote S a own wrote may.came)
+acts_by s I channel.Local S a own wrote may program e = other_acts s I channel.Local S a own wrote may.actor may.reads.is (subst (IsOther channel.Local) (sym e) tt) may.due
+acts_by s I channel.Remote S a own wrote may program e = other_acts s I channel.Remote S a own wrote may.actor may.reads.is (subst (IsOther channel.Remote) (sym e) tt) may.due
 
 -- A start
 
@@ -99,7 +97,7 @@ run_other channel.Local (Injector args) runs = tt
 run_other channel.Remote (Injector args) runs = tt
 run_other c program runs = absurd runs
 
-module _ (controls : Controls) (s : State) (I : Inv controls s) (parent : List ℕ) (own : Own) (a : List ℕ) (program : Program) (may : MayBear s parent own a program) where
+module _ (s : State) (I : Inv s) (parent : List ℕ) (own : Own) (a : List ℕ) (program : Program) (may : MayBear s parent own a program) where
   abbrev moved : State
   moved = acted s parent own 0 (Some may.actor)
 
@@ -123,13 +121,13 @@ module _ (controls : Controls) (s : State) (I : Inv controls s) (parent : List �
 
   moved_by : (c : Channel) → StandsIn c s → (z : Program) → may.actor.program ≡ z → StandsIn c moved
   moved_by c S (Sender began) e =
-      sender_acts controls s I c S parent own 0 may.actor may.reads.is may.reads.alive (subst IsSender (sym e) tt) may.reads.no_later may.due came (takes_no_link c)
+      sender_acts s I c S parent own 0 may.actor may.reads.is may.reads.alive (subst IsSender (sym e) tt) may.reads.no_later may.due came (takes_no_link c)
   moved_by channel.Local S (LocalSpawner began) e =
-      spawner_acts controls s I channel.Local S parent own 0 may.actor may.reads.is may.reads.alive (subst (IsSpawner channel.Local) (sym e) tt) may.due came takes_no_input
+      spawner_acts s I channel.Local S parent own 0 may.actor may.reads.is may.reads.alive (subst (IsSpawner channel.Local) (sym e) tt) may.due came takes_no_input
   moved_by channel.Remote S (RemoteSpawner began) e =
-      spawner_acts controls s I channel.Remote S parent own 0 may.actor may.reads.is may.reads.alive (subst (IsSpawner channel.Remote) (sym e) tt) may.due came takes_no_input
-  moved_by channel.Local S z e = other_acts controls s I channel.Local S parent own 0 may.actor may.reads.is (subst (IsOther channel.Local) (sym e) tt) may.due
-  moved_by channel.Remote S z e = other_acts controls s I channel.Remote S parent own 0 may.actor may.reads.is (subst (IsOther channel.Remote) (sym e) tt) may.due
+      spawner_acts s I channel.Remote S parent own 0 may.actor may.reads.is may.reads.alive (subst (IsSpawner channel.Remote) (sym e) tt) may.due came takes_no_input
+  moved_by channel.Local S z e = other_acts s I channel.Local S parent own 0 may.actor may.reads.is (subst (IsOther channel.Local) (sym e) tt) may.due
+  moved_by channel.Remote S z e = other_acts s I channel.Remote S parent own 0 may.actor may.reads.is (subst (IsOther channel.Remote) (sym e) tt) may.due
 
   children_stand : (c : Channel) → StandsIn c s → StandsIn c (happens s (Child parent own a program))
   children_stand c S = subst (λ (o : Option Actor). StandsIn c (bears (acted s parent own 0 o) parent own a program)) (sym may.reads.is)
@@ -197,23 +195,23 @@ report_stands : (c : Channel) (s : State) → StandsIn c s → (slot : ℕ) (out
 report_stands channel.Local s S slot output = S
 report_stands channel.Remote s S slot output = S
 
-stands_keep : (e : Event) (controls : Controls) (s : State) → Inv controls s → (c : Channel) → StandsIn c s → Allowed s e → StandsIn c (happens s e)
-stands_keep (Start a program) controls s I c S may = begins_stand c s S a program (run_other c program may.runs) may.new s.pipework refl refl
-stands_keep (Act a own wrote) controls s I c S may =
-    subst (λ (o : Option Actor). StandsIn c (acted s a own wrote o)) (sym may.reads.is) (acts_by controls s I c S a own wrote may may.actor.program refl)
-stands_keep (Child parent own a program) controls s I c S may = children_stand controls s I parent own a program may c S
-stands_keep (Generation (sender ∷ clean ∷ lspawn ∷ rspawn ∷ [])) controls s I c S may = generations_stand c s sender clean lspawn rspawn may
-stands_keep (Generation crew) controls s I c S may = absurd (are_four crew may.kinds)
-stands_keep (Report slot output) controls s I c S may = report_stands c s S slot output
-stands_keep (End a read ready status) controls s I c S may = ends_stand controls s I c S a may.actor may.reads.is (Over status) refl
-stands_keep (Stop a) controls s I c S may = ends_stand controls s I c S a may.actor may.is Stopped refl
-stands_keep (Moment m) controls s I c S may = S
-stands_keep (Halt how contents) controls s I c S may = halts_stand c s (happens s (Halt how contents)) refl
+stands_keep : (e : Event) (s : State) → Inv s → (c : Channel) → StandsIn c s → Allowed s e → StandsIn c (happens s e)
+stands_keep (Start a program) s I c S may = begins_stand c s S a program (run_other c program may.runs) may.new s.pipework refl refl
+stands_keep (Act a own wrote) s I c S may =
+    subst (λ (o : Option Actor). StandsIn c (acted s a own wrote o)) (sym may.reads.is) (acts_by s I c S a own wrote may may.actor.program refl)
+stands_keep (Child parent own a program) s I c S may = children_stand s I parent own a program may c S
+stands_keep (Generation (sender ∷ clean ∷ lspawn ∷ rspawn ∷ [])) s I c S may = generations_stand c s sender clean lspawn rspawn may
+stands_keep (Generation crew) s I c S may = absurd (are_four crew may.kinds)
+stands_keep (Report slot output) s I c S may = report_stands c s S slot output
+stands_keep (End a read ready status) s I c S may = ends_stand s I c S a may.actor may.reads.is (Over status) refl
+stands_keep (Stop a) s I c S may = ends_stand s I c S a may.actor may.is Stopped refl
+stands_keep (Moment m) s I c S may = S
+stands_keep (Halt how contents) s I c S may = halts_stand c s (happens s (Halt how contents)) refl
 
-stands_always : (controls : Controls) (d : Disk) (before : List Event) → AreControls controls d → Legal d before → (c : Channel) → StandsIn c (after d before)
-stands_always controls d [] has legal c = let s = opening d in gone c (sight_of c s.actors s.pipework) (nobody_serves c)
-stands_always controls d (e ∷ before) has legal c =
-    stands_keep e controls (after d before) (always controls d before has legal.0) c (stands_always controls d before has legal.0 c) legal.1
+stands_always : (d : Disk) (before : List Event) → Legal d before → (c : Channel) → StandsIn c (after d before)
+stands_always d [] legal c = let s = opening d in gone c (sight_of c s.actors s.pipework) (nobody_serves c)
+stands_always d (e ∷ before) legal c =
+    stands_keep e (after d before) (always d before legal.0) c (stands_always d before legal.0 c) legal.1
 
 -- What a sender has out, or had, stays in S5.
 
@@ -233,13 +231,13 @@ none_out c t out = ⊎_elim
     (λ (left : Contains (lane c (begun None).slots).left t). none_left c t left)
     out
 
-out_stands : (controls : Controls) (d : Disk) (before : List Event) → AreControls controls d → Legal d before → (o : Option Actor) → (after d before).actors (codes "sender") ≡ o
+out_stands : (d : Disk) (before : List Event) → Legal d before → (o : Option Actor) → (after d before).actors (codes "sender") ≡ o
     → (c : Channel) (t : Attempt) → IsOut (desk_in o) c t → state_of (after d before).disk t.n ≡ S5
-out_stands controls d before has legal None is c t out = absurd (none_out c t out)
-out_stands controls d before has legal (Some x) is c t out = by x.program refl out
+out_stands d before legal None is c t out = absurd (none_out c t out)
+out_stands d before legal (Some x) is c t out = by x.program refl out
   where
     by : (program : Program) → x.program ≡ program → IsOut (desk_by program x.past) c t → state_of (after d before).disk t.n ≡ S5
-    by (Sender start) e out = flights_stand controls d before has legal x is start e c t out
+    by (Sender start) e out = flights_stand d before legal x is start e c t out
     by program e out = absurd (none_out c t out)
 
 -- What a spawner has in hand
@@ -299,7 +297,7 @@ module _ (s : State) (c : Channel) (S : StandsIn c s) (past : List Own)
       (holds x r.posted refl refl (shown_goes (spawner_at c past)) s (λ slot t there. stands t (r.out slot t there)) given r.missing (started_after c past) refl r.tied)
 
 pub requests_stand : RequestsStand
-requests_stand controls d before has legal c y is alive it =
+requests_stand d before legal c y is alive it =
     let s = after d before in
-    in_hand s c (stands_always controls d before has legal c) y.past (ap (side_in c) is ∙ alive_side c y.program y.past y.life it alive)
-    (λ t out. out_stands controls d before has legal (s.actors (codes "sender")) refl c t out)
+    in_hand s c (stands_always d before legal c) y.past (ap (side_in c) is ∙ alive_side c y.program y.past y.life it alive)
+    (λ t out. out_stands d before legal (s.actors (codes "sender")) refl c t out)

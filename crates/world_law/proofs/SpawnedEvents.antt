@@ -1,6 +1,5 @@
 -- Events of actors: each keeps what stands between the sender and the spawner of a channel.
 use Rattle.std.proofs.Common.{◌≡◌, ℕ, ◌≤◌, List, [], ◌∷◌, Bool, true, false, Option, Some, None, refl, sym, ap, ◌∙◌, subst, arith, codes}
-use Rattle.address_rules.specs.declared.controls.Controls.{Controls}
 use Rattle.call_fs.specs.Maps.{put_at}
 use Rattle.call_fs.specs.Program.{MayCome}
 use Rattle.call_fs.proofs.Maps.{put_at_other, put_at_same}
@@ -59,11 +58,11 @@ other_side channel.Remote (RemoteSpawner since) it past life = absurd it
 other_side channel.Local program it past life = refl
 other_side channel.Remote program it past life = refl
 
-pub other_acts : (controls : Controls) (s : State) → Inv controls s → (c : Channel) → StandsIn c s → (a : List ℕ) (own : Own) (wrote : ℕ) (x : Actor) → s.actors a ≡ Some x → IsOther c x.program
+pub other_acts : (s : State) → Inv s → (c : Channel) → StandsIn c s → (a : List ℕ) (own : Own) (wrote : ℕ) (x : Actor) → s.actors a ≡ Some x → IsOther c x.program
     → next_of x.program x.past own.read own.ready ≡ own.due → StandsIn c (acted s a own wrote (Some x))
-other_acts controls s I c S a own wrote x is it due =
+other_acts s I c S a own wrote x is it due =
     let y : Actor = record { program = x.program; past = own ∷ x.past; life = x.life } in
-    let aside : IsAside c s a own.due own.came wrote = acts_aside controls s I c a own wrote x is it due in
+    let aside : IsAside c s a own.due own.came wrote = acts_aside s I c a own wrote x is it due in
     let sends : sender_in (Some y) ≡ sender_in (s.actors a) = other_sender c x.program it (own ∷ x.past) x.life ∙ sym (other_sender c x.program it x.past x.life) ∙ ap sender_in (sym is) in
     let side : side_in c (Some y) ≡ side_in c (s.actors a) = other_side c x.program it (own ∷ x.past) x.life ∙ sym (other_side c x.program it x.past x.life) ∙ ap (side_in c) (sym is) in
     subst (Stands c) (sym (sight_same c s.actors (put_at s.actors a (Some y)) s.pipework (acted s a own wrote (Some x)).pipework
@@ -90,7 +89,7 @@ bears_stand c s S parent own a program it new =
 
 -- An event of the sender
 
-module _ (controls : Controls) (s : State) (I : Inv controls s) (c : Channel) (S : StandsIn c s) (own : Own) (wrote began : ℕ) (past : List Own)
+module _ (s : State) (I : Inv s) (c : Channel) (S : StandsIn c s) (own : Own) (wrote began : ℕ) (past : List Own)
     (is : s.actors (codes "sender") ≡ Some (sender began past))
     (soon : own.read ≤ s.now) (due : due_at (row_now (sender_after None past) own.read own.ready) (sender_after None past) ≡ own.due)
     (may : MayCome own.due own.came) (takes : own.due ≡ needs.Take (port_of c) → IsSome own.came (s.pipework.pipes (codes "sender") (port_of c)).bytes) where
@@ -115,12 +114,12 @@ module _ (controls : Controls) (s : State) (I : Inv controls s) (c : Channel) (S
   moment : IsMoment own.read
   moment = let m = I.moment in omega (arith, m, soon)
 
-  fares : SenderFares controls s.now (queue s I.role) (codes "sender") (sender_after None past)
+  fares : SenderFares s.now (queue s I.role) (codes "sender") (sender_after None past)
   fares = I.fares (codes "sender") (sender began past) is
 
   gives : (text : List ℕ) → own.due ≡ needs.Give (port_of c) text → AsksFor c (sender_after None past) text
-  gives text e = asks_for controls (queue s I.role) (sender_after None past) c text I.sound.fine
-      (requests_are_texts controls s.now (queue s I.role) (codes "sender") (sender_after None past) own.read own.ready c text soon moment fares.stands fares.texts (due ∙ e))
+  gives text e = asks_for (queue s I.role) (sender_after None past) c text I.sound.fine
+      (requests_are_texts s.now (queue s I.role) (codes "sender") (sender_after None past) own.read own.ready c text soon moment fares.stands fares.texts (due ∙ e))
 
   abbrev then_sent : State
   then_sent = acted s (codes "sender") own wrote (Some (sender began past))
@@ -137,30 +136,30 @@ module _ (controls : Controls) (s : State) (I : Inv controls s) (c : Channel) (S
     sends = sends_in (sender_here i);
     side = side_in c (spawner_there i);
     told = told_sent s.pipework c own.due own.came wrote i;
-    asked = asked_sent s.pipework c (tenant_not controls s I c (codes "sender")) own.due own.came wrote i;
+    asked = asked_sent s.pipework c (tenant_not s I c (codes "sender")) own.due own.came wrote i;
   }
 
   sender_event : StandsIn c then_sent
   sender_event = subst (Stands c) (sym seen_sent) (sender_stands c before_sent (subst (Stands c) seen_sender S) own wrote refl (sym due) may takes gives)
 
-sends_by_program : (controls : Controls) (s : State) → Inv controls s → (c : Channel) → StandsIn c s → (a : List ℕ) (wrote : ℕ) (program : Program) (past : List Own) (life : Life) (own : Own)
+sends_by_program : (s : State) → Inv s → (c : Channel) → StandsIn c s → (a : List ℕ) (wrote : ℕ) (program : Program) (past : List Own) (life : Life) (own : Own)
     → IsSender program
     → IsNamed a program → life ≡ Alive → s.actors a ≡ Some (record { program = program; past = past; life = life }) → own.read ≤ s.now → next_of program past own.read own.ready ≡ own.due
     → MayCome own.due own.came → (own.due ≡ needs.Take (port_of c) → IsSome own.came (s.pipework.pipes a (port_of c)).bytes)
     → StandsIn c (acted s a own wrote (Some (record { program = program; past = past; life = life })))
-sends_by_program controls s I c S a wrote (Sender began) past Alive own it named alive is soon due may takes =
+sends_by_program s I c S a wrote (Sender began) past Alive own it named alive is soon due may takes =
     subst (λ (b : List ℕ). StandsIn c (acted s b own wrote (Some (sender began past)))) (sym named)
-    (sender_event controls s I c S own wrote began past
+    (sender_event s I c S own wrote began past
     (subst (λ (b : List ℕ). s.actors b ≡ Some (sender began past)) named is) soon due may
     (subst (λ (b : List ℕ). own.due ≡ needs.Take (port_of c) → IsSome own.came (s.pipework.pipes b (port_of c)).bytes) named takes))
-sends_by_program controls s I c S a wrote (Sender began) past life own it named alive is soon due may takes = absurd (cc)
-sends_by_program controls s I c S a wrote other past life own it named alive is soon due may takes = absurd it
+sends_by_program s I c S a wrote (Sender began) past life own it named alive is soon due may takes = absurd (cc)
+sends_by_program s I c S a wrote other past life own it named alive is soon due may takes = absurd it
 
-pub sender_acts : (controls : Controls) (s : State) → Inv controls s → (c : Channel) → StandsIn c s → (a : List ℕ) (own : Own) (wrote : ℕ) (x : Actor) → s.actors a ≡ Some x → x.life ≡ Alive
+pub sender_acts : (s : State) → Inv s → (c : Channel) → StandsIn c s → (a : List ℕ) (own : Own) (wrote : ℕ) (x : Actor) → s.actors a ≡ Some x → x.life ≡ Alive
     → IsSender x.program
     → own.read ≤ s.now → next_of x.program x.past own.read own.ready ≡ own.due → MayCome own.due own.came
     → (own.due ≡ needs.Take (port_of c) → IsSome own.came (s.pipework.pipes a (port_of c)).bytes) → StandsIn c (acted s a own wrote (Some x))
-sender_acts controls s I c S a own wrote x is alive it soon due may takes = sends_by_program controls s I c S a wrote x.program x.past x.life own it (I.crew a x is) alive is soon due may takes
+sender_acts s I c S a own wrote x is alive it soon due may takes = sends_by_program s I c S a wrote x.program x.past x.life own it (I.crew a x is) alive is soon due may takes
 
 -- An event of the spawner
 
@@ -181,7 +180,7 @@ works_by channel.Remote (RemoteSpawner since) past life own it alive due = absur
 works_by channel.Local program past life own it alive due = absurd it
 works_by channel.Remote program past life own it alive due = absurd it
 
-module _ (controls : Controls) (s : State) (I : Inv controls s) (c : Channel) (S : StandsIn c s) (own : Own) (wrote : ℕ) (x : Actor) (is : s.actors (spawner_name c) ≡ Some x)
+module _ (s : State) (I : Inv s) (c : Channel) (S : StandsIn c s) (own : Own) (wrote : ℕ) (x : Actor) (is : s.actors (spawner_name c) ≡ Some x)
     (W : Works c x.program x.past x.life own) (may : MayCome own.due own.came)
     (offered : own.due ≡ needs.Take port.Input → IsOffered (s.pipework.pipes (spawner_name c) port.Input).bytes own.came) where
   abbrev before_worked : Sight
@@ -220,7 +219,7 @@ module _ (controls : Controls) (s : State) (I : Inv controls s) (c : Channel) (S
     sends = sends_in (sender_there i);
     side = side_then i;
     told = told_spawned s.pipework c own.due own.came wrote i;
-    asked = asked_spawned s.pipework c (tenant_not controls s I c (spawner_name c)) own.due own.came wrote (calm c own.due W.mild_due) i;
+    asked = asked_spawned s.pipework c (tenant_not s I c (spawner_name c)) own.due own.came wrote (calm c own.due W.mild_due) i;
   }
 
   spawner_event : StandsIn c then_worked
@@ -232,14 +231,14 @@ spawner_named channel.Remote a (RemoteSpawner since) it named = named
 spawner_named channel.Local a program it named = absurd it
 spawner_named channel.Remote a program it named = absurd it
 
-pub spawner_acts : (controls : Controls) (s : State) → Inv controls s → (c : Channel) → StandsIn c s → (a : List ℕ) (own : Own) (wrote : ℕ) (x : Actor) → s.actors a ≡ Some x → x.life ≡ Alive
+pub spawner_acts : (s : State) → Inv s → (c : Channel) → StandsIn c s → (a : List ℕ) (own : Own) (wrote : ℕ) (x : Actor) → s.actors a ≡ Some x → x.life ≡ Alive
     → IsSpawner c x.program
     → next_of x.program x.past own.read own.ready ≡ own.due → MayCome own.due own.came
     → (own.due ≡ needs.Take port.Input → IsOffered (s.pipework.pipes a port.Input).bytes own.came) → StandsIn c (acted s a own wrote (Some x))
-spawner_acts controls s I c S a own wrote x is alive it due may offered =
+spawner_acts s I c S a own wrote x is alive it due may offered =
     let named = spawner_named c a x.program it (I.crew a x is) in
     subst (λ (b : List ℕ). StandsIn c (acted s b own wrote (Some x))) (sym named)
-    (spawner_event controls s I c S own wrote x (subst (λ (b : List ℕ). s.actors b ≡ Some x) named is) (works_by c x.program x.past x.life own it alive due) may
+    (spawner_event s I c S own wrote x (subst (λ (b : List ℕ). s.actors b ≡ Some x) named is) (works_by c x.program x.past x.life own it alive due) may
     (subst (λ (b : List ℕ). own.due ≡ needs.Take port.Input → IsOffered (s.pipework.pipes b port.Input).bytes own.came) named offered))
 
 -- An end or a stop
@@ -299,6 +298,6 @@ over_by channel.Remote s S a x is life dead (RemoteSpawner began) runs name = sp
 over_by channel.Local s S a x is life dead program runs name = other_over channel.Local s S a x is life dead (subst (IsOther channel.Local) (sym runs) tt)
 over_by channel.Remote s S a x is life dead program runs name = other_over channel.Remote s S a x is life dead (subst (IsOther channel.Remote) (sym runs) tt)
 
-pub ends_stand : (controls : Controls) (s : State) → Inv controls s → (c : Channel) → StandsIn c s → (a : List ℕ) (x : Actor) → s.actors a ≡ Some x → (life : Life) → is_alive life ≡ false
+pub ends_stand : (s : State) → Inv s → (c : Channel) → StandsIn c s → (a : List ℕ) (x : Actor) → s.actors a ≡ Some x → (life : Life) → is_alive life ≡ false
     → StandsIn c (finished s a life (s.actors a))
-ends_stand controls s I c S a x is life dead = subst (λ (o : Option Actor). StandsIn c (finished s a life o)) (sym is) (over_by c s S a x is life dead x.program refl (I.crew a x is))
+ends_stand s I c S a x is life dead = subst (λ (o : Option Actor). StandsIn c (finished s a life o)) (sym is) (over_by c s S a x is life dead x.program refl (I.crew a x is))

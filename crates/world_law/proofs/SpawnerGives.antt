@@ -1,6 +1,5 @@
 -- What the local spawner gives to the deliveries in its slots, and who runs there.
 use Rattle.std.proofs.Common.{◌≡◌, ◌⊎◌, inl, inr, ⊎_elim, ℕ, ◌==◌, List, ◌++◌, Bool, true, ◌&&◌, if◌then◌else◌, Option, Some, None, refl, sym, ap, ◌∙◌, codes}
-use Rattle.address_rules.specs.declared.controls.Controls.{Controls}
 use Rattle.call_fs.specs.declared.past.ChildData.TheVariants as child
 use Rattle.call_fs.specs.declared.past.GotData.{GotData}
 use Rattle.call_fs.specs.declared.past.GotData.TheVariants as got
@@ -73,8 +72,8 @@ same_slot : (x y : Slot) → ◌≡◌ {A = Option Slot} (Some x) (Some y) → x
 same_slot x y e = let same : x ≡ y = cc in ap (λ (z : Slot). z.number) same
 
 -- in one slot alone
-pub one_slot : (controls : Controls) (s : State) (I : Inv controls s) (a b : List ℕ) (d e : ℕ) → s.pipework.programs a d ≡ Some (Runs b) → s.pipework.programs a e ≡ Some (Runs b) → d ≡ e
-one_slot controls s I a b d e one two =
+pub one_slot : (s : State) (I : Inv s) (a b : List ℕ) (d e : ℕ) → s.pipework.programs a d ≡ Some (Runs b) → s.pipework.programs a e ≡ Some (Runs b) → d ≡ e
+one_slot s I a b d e one two =
     let h : IsChild s a d b = I.tenants a d (Runs b) one in
     let k : IsChild s a e b = I.tenants a e (Runs b) two in
     same_slot (record { parent = a; number = d }) (record { parent = a; number = e }) (sym h.back ∙ k.back)

@@ -1,7 +1,6 @@
 -- An event of the local spawner: it takes up a request, opens the file of its message, reads it and closes it, and is to start its delivery. So
 -- it holds the message that was entered.
 use Rattle.std.proofs.Common.{◌≡◌, ℕ, min, List, [], length, take, drop, true, false, Option, Some, refl, sym, ap, ◌∙◌, subst, codes}
-use Rattle.address_rules.specs.declared.controls.Controls.{Controls}
 use Rattle.call_fs.specs.Apply.{Fits, IsReadBy, from_place, read_by as read_there}
 use Rattle.call_fs.specs.Disk.{Open}
 use Rattle.call_fs.specs.declared.calls.Answer.{Answer}
@@ -101,7 +100,7 @@ module _ (s : State) (own : Own) (wrote began : ℕ) (past : List Own) where
     text = h.text;
   }
 
-module _ (controls : Controls) (s : State) (I : Inv controls s) (own : Own) (wrote began : ℕ) (past : List Own) (is : s.actors (codes "lspawn") ≡ Some (spawner began past)) where
+module _ (s : State) (I : Inv s) (own : Own) (wrote began : ℕ) (past : List Own) (is : s.actors (codes "lspawn") ≡ Some (spawner began past)) where
   abbrev name : List ℕ
   name = codes "lspawn"
 
@@ -159,7 +158,7 @@ module _ (controls : Controls) (s : State) (I : Inv controls s) (own : Own) (wro
     opening told e fits =
         let a = asked (ap has_message e) in
         let h = text_at s tasks p at.OpenMess e (work (ap has_message e)) in
-        let file = has_file controls s I a.n a.stays in
+        let file = has_file s I a.n a.stays in
         let found : s.disk.names p.name ≡ Some a.n = ap s.disk.names (h.0 ∙ ap name_of_mess a.mess ∙ mess_name a.n) ∙ file.there in
         opened_leads (then_by (needs.File open_call) (got.Answered told)) (tasks_of (needs.File open_call) (got.Answered told)) a.n file.message
         (entered_by (needs.File open_call) (got.Answered told) a.n file.message file.is) told.answer p a.mess (opened_reads q name own.read wrote p.name a.n found told.answer fits) h.1
@@ -174,7 +173,7 @@ module _ (controls : Controls) (s : State) (I : Inv controls s) (own : Own) (wro
       rest_is has h held =
           let a = asked has in
           let stays : state_of s.disk h.n ≡ S5 = subst (λ (k : ℕ). state_of s.disk k ≡ S5) (one_number a.n h.n (sym a.mess ∙ h.mess)) a.stays in
-          let file = has_file controls s I h.n stays in
+          let file = has_file s I h.n stays in
           ap (λ (o : Option Open). from_place s.disk o (length p.message)) held.opened ∙ ap (drop (length p.message)) (file.reads ∙ same_entered s h.n file.message h.message file.is h.is)
 
       pieces : (told : Told) (text : List ℕ) → from_place s.disk (s.disk.opens fd.0) (length p.message) ≡ drop (length p.message) text → Begins p.message text
@@ -204,11 +203,11 @@ module _ (controls : Controls) (s : State) (I : Inv controls s) (own : Own) (wro
     -- By its row
 
     abbrev Goes : NeedData → Place → Type 0
-    Goes z to = Inv controls (then_by z own.came) → LeadsBy z own.came to
+    Goes z to = Inv (then_by z own.came) → LeadsBy z own.came to
 
     -- whatever was due
     leads_so : (z : NeedData) (to : Place) → ((t : State) (k : ℕ → Option Task) → ((n : ℕ) → state_of t.disk n ≡ S5 → HasFile t n) → Leads t k p.running to) → Goes z to
-    leads_so z to go = λ J. go (then_by z own.came) (tasks_of z own.came) (has_file controls (then_by z own.came) J)
+    leads_so z to go = λ J. go (then_by z own.came) (tasks_of z own.came) (has_file (then_by z own.came) J)
 
     by_row : (row : Row) → row_now p own.ready ≡ row → Comes (due_from row here) → Goes (due_from row here) (act (local_kind here.users) row own.came p)
     by_row at.Greet e c = leads_so (needs.Give port.Output greeting) (gave own.came p) (λ t k files. gave_leads t k files own.came p)
@@ -241,5 +240,5 @@ module _ (controls : Controls) (s : State) (I : Inv controls s) (own : Own) (wro
     by_local local.Serves h c = by_row (row_now p own.ready) refl c
     by_local local.OutOfMemory h c = absurd c
 
-    pub leads : due_by here own.ready ≡ own.due → Comes own.due → Inv controls (then_by own.due own.came) → LeadsBy own.due own.came (moved here own).work
+    pub leads : due_by here own.ready ≡ own.due → Comes own.due → Inv (then_by own.due own.came) → LeadsBy own.due own.came (moved here own).work
     leads due comes = subst (λ (z : NeedData). Goes z (moved here own).work) due (by_local here.row fares (subst Comes (sym due) comes))

@@ -2,7 +2,6 @@
 -- `specs/Table.antt`), each in its own way, which is its `Kind`.
 use Rattle.std.proofs.Common.{◌≡◌, ◌≢◌, inl, inr, ℕ, ◌==◌, List, ◌∷◌, length, Bool, true, false, ◌&&◌, Option, Some, None, refl, sym, subst, bytes_eq, codes, if◌then◌else◌}
 use Rattle.std.specs.Prelude.{nat_lt, take}
-use Rattle.address_rules.specs.declared.controls.Controls.{Controls}
 use Rattle.call_fs.specs.declared.calls.Answer.{Answer}
 use Rattle.call_fs.specs.declared.calls.Answer.TheVariants as answer
 use Rattle.call_fs.specs.declared.calls.CallData.{CallData}
@@ -33,8 +32,7 @@ use Rattle.spawner_parts.specs.declared.place.Place.{Place}
 use Rattle.spawner_parts.specs.declared.row.Row.{Row}
 use Rattle.spawner_parts.specs.declared.row.Row.TheVariants as at
 use Rattle.spawner_parts.specs.Asked.{is_bad, runs_in}
-use Rattle.spawner_parts.specs.Table.{IsKind, IsReadied, Kind, act, arrive, bad_request, closed, due_at, ended_by, gave, greeting}
-use Rattle.spawner_parts.specs.Table.{heeded, is_asked, launched, next_request, none_runs, opened_by, opens, printed, read_by, reports, resting, row_now, took, turning}
+use Rattle.spawner_parts.specs.Table.{IsKind, IsReadied, Kind, act, arrive, bad_request, closed, due_at, ended_by, gave, greeting, heeded, is_asked, launched, next_request, none_runs, opened_by, opens, printed, read_by, reports, resting, row_now, took, turning}
 use Rattle.spawner_parts.specs.Table.IsReadied.{IsAnswered, IsGiven}
 use Rattle.program_law.proofs.Delivery.Stay.{drops_stay}
 use Rattle.queue_law.specs.Numbers.{Queue}
@@ -42,7 +40,6 @@ use Rattle.queue_law.specs.Senders.{OnlyReads, called_queue}
 use Rattle.queue_law.proofs.Opens.{opened_held}
 use Rattle.queue_law.proofs.RestIsKept.{rest_is_kept}
 use Rattle.queue_law.proofs.Sends.{reads_keep}
-use Rattle.program_law.proofs.Sender.ControlsStay.{controls_stay}
 use Rattle.program_law.proofs.Sender.Spares.{others_spare}
 use Rattle.world_pipes.specs.Pipework.{Pipe, Pipework, Tenant, closed as closed_pipe, given as given_pipe, gives, mouth, pipework_after, programs_after, put_pipe, taken}
 use Rattle.world_pipes.specs.Pipework.Tenant.{Runs, Remote}
@@ -295,7 +292,7 @@ module _ (s : State) (wrote : ℕ) (began : ℕ) (past : List Own) (own : Own) w
   acted_moves channel.Remote (needs.File call) came calm = absurd calm
   acted_moves channel.Remote due came calm = refl
 
-  module _ (controls : Controls) (I : Inv controls s) (c : Channel) (is : s.actors (spawner_name c) ≡ Some (spawner c past)) where
+  module _ (I : Inv s) (c : Channel) (is : s.actors (spawner_name c) ≡ Some (spawner c past)) where
     abbrev name : List ℕ
     name = spawner_name c
 
@@ -304,7 +301,7 @@ module _ (s : State) (wrote : ℕ) (began : ℕ) (past : List Own) (own : Own) w
 
     -- it has what it rests on
     abbrev pub FaresSo : Queue → NeedData → GotData → Type 0
-    FaresSo r due came = FaresBy controls s.now r name (runs_as c began) (doing due came ∷ past) Alive
+    FaresSo r due came = FaresBy s.now r name (runs_as c began) (doing due came ∷ past) Alive
 
     seen : (more : List Own) → IsSeenAs (s.actors name) (spawner c more)
     seen more = subst (λ (o : Option Actor). IsSeenAs o (spawner c more)) (sym is) (seen_on c began past more)
@@ -312,10 +309,10 @@ module _ (s : State) (wrote : ℕ) (began : ℕ) (past : List Own) (own : Own) w
     goes : GoesOn (s.actors name) (runs_as c began)
     goes = subst (λ (o : Option Actor). GoesOn o (runs_as c began)) (sym is) refl
 
-    pub moves : (due : NeedData) (came : GotData) → IsNoFile due → FaresSo q due came → IsApart s.pipework (pipework_after s.pipework name due came wrote) → Inv controls (then_state c due came)
+    pub moves : (due : NeedData) (came : GotData) → IsNoFile due → FaresSo q due came → IsApart s.pipework (pipework_after s.pipework name due came wrote) → Inv (then_state c due came)
     moves due came calm fares apart =
-        subst (λ (t : State). Inv controls t) (sym (acted_moves c due came calm))
-        (moved_keeps controls s I name (spawner c (doing due came ∷ past)) (pipework_after s.pipework name due came wrote) (named c began) fares (seen (doing due came ∷ past)) apart.link goes
+        subst (λ (t : State). Inv t) (sym (acted_moves c due came calm))
+        (moved_keeps s I name (spawner c (doing due came ∷ past)) (pipework_after s.pipework name due came wrote) (named c began) fares (seen (doing due came ∷ past)) apart.link goes
         (gives_any c began (with_one s name (spawner c (doing due came ∷ past)) (pipework_after s.pipework name due came wrote)) name (doing due came ∷ past) Alive) apart.none refl)
 
     -- a file call, which only reads
@@ -326,21 +323,21 @@ module _ (s : State) (wrote : ℕ) (began : ℕ) (past : List Own) (own : Own) w
     read_state channel.Remote call told = refl
 
     answered_keeps : (call : CallData) (told : Told) → OnlyReads q name call → Fits s.disk call told.answer wrote
-        → FaresSo (called_queue q name own.read call told.answer wrote I.role) (needs.File call) (got.Answered told) → Inv controls (then_state c (needs.File call) (got.Answered told))
+        → FaresSo (called_queue q name own.read call told.answer wrote I.role) (needs.File call) (got.Answered told) → Inv (then_state c (needs.File call) (got.Answered told))
     answered_keeps call told only fits fares =
         let r : Queue = called_queue q name own.read call told.answer wrote I.role in
-        let l = reads_keep controls s.now q name I.sound own.read call told.answer wrote only fits in
+        let l = reads_keep s.now q name I.sound own.read call told.answer wrote only fits in
         let spared = rest_is_kept.closed s.now name None q r l.elsewhere I.sound.suits (λ n h. absurd (cc)) in
         let event : Own = doing (needs.File call) (got.Answered told) in
-        subst (λ (t : State). Inv controls t) (sym (read_state c call told))
-        (stepped_keeps controls s I name r None l.elsewhere spared.0 spared.1 (others_spare.reads s.now name q r l.elsewhere)
-        (controls_stay.outside q r l.outside l.old I.old) (drops_stay.tmp name q r (drops_stay.outside name q r l.outside l.old)) l.sound I.bounces (spawner c (event ∷ past)) (named c began) goes (seen (event ∷ past))
+        subst (λ (t : State). Inv t) (sym (read_state c call told))
+        (stepped_keeps s I name r None l.elsewhere spared.0 spared.1 (others_spare.reads s.now name q r l.elsewhere)
+        (drops_stay.tmp name q r (drops_stay.outside name q r l.outside l.old)) l.sound I.bounces (spawner c (event ∷ past)) (named c began) goes (seen (event ∷ past))
         (gives_any c began (stepped s name r (spawner c (event ∷ past))) name (event ∷ past) Alive) fares)
 
     pub reads : (call : CallData) → OnlyReads q name call
         → ((told : Told) → Fits s.disk call told.answer wrote → FaresSo (called_queue q name own.read call told.answer wrote I.role) (needs.File call) (got.Answered told))
-        → (came : GotData) → ComesOf s name (needs.File call) came wrote → Inv controls (then_state c (needs.File call) came)
-    reads call only fares came comes = answered s name wrote (λ (g : GotData). Inv controls (then_state c (needs.File call) g)) call came comes
+        → (came : GotData) → ComesOf s name (needs.File call) came wrote → Inv (then_state c (needs.File call) came)
+    reads call only fares came comes = answered s name wrote (λ (g : GotData). Inv (then_state c (needs.File call) g)) call came comes
         (λ told comes. answered_keeps call told only comes.0 (fares told comes.0))
 
     -- as it serves requests, by the row at which it is
@@ -350,21 +347,21 @@ module _ (s : State) (wrote : ℕ) (began : ℕ) (past : List Own) (own : Own) w
       here = row_now p own.ready
 
       went : (row : Row) (due : NeedData) (came : GotData) → here ≡ row → IsNoFile due → SpawnerHolds q name (act kind row came p).row
-          → IsApart s.pipework (pipework_after s.pipework name due came wrote) → Inv controls (then_state c due came)
+          → IsApart s.pipework (pipework_after s.pipework name due came wrote) → Inv (then_state c due came)
       went row due came e calm h apart = moves due came calm (fares q due came (subst (λ (x : Row). SpawnerHolds q name (act kind x came p).row) (sym e) h)) apart
 
       called : (row : Row) (call : CallData) → here ≡ row → OnlyReads q name call
           → ((told : Told) → Fits s.disk call told.answer wrote → SpawnerHolds (called_queue q name own.read call told.answer wrote I.role) name (act kind row (got.Answered told) p).row)
-          → (came : GotData) → ComesOf s name (needs.File call) came wrote → Inv controls (then_state c (needs.File call) came)
+          → (came : GotData) → ComesOf s name (needs.File call) came wrote → Inv (then_state c (needs.File call) came)
       called row call e only holds came comes = reads call only
           (λ told fits. let r : Queue = called_queue q name own.read call told.answer wrote I.role in
           fares r (needs.File call) (got.Answered told) (subst (λ (x : Row). SpawnerHolds r name (act kind x (got.Answered told) p).row) (sym e) (holds told fits))) came comes
 
       -- a program is started, or can't be
-      pub starting : (came : GotData) → here ≡ at.Start → Inv controls (then_state c (needs.Start asked) came)
+      pub starting : (came : GotData) → here ≡ at.Start → Inv (then_state c (needs.Start asked) came)
       starting came e = went at.Start (needs.Start asked) came e tt (launched_holds q name kind.unstarted came p) (started s.pipework wrote c asked came starts)
 
-      by_row : (row : Row) (came : GotData) → here ≡ row → SpawnerHolds q name row → ComesOf s name (due_at asked row p) came wrote → Inv controls (then_state c (due_at asked row p) came)
+      by_row : (row : Row) (came : GotData) → here ≡ row → SpawnerHolds q name row → ComesOf s name (due_at asked row p) came wrote → Inv (then_state c (due_at asked row p) came)
       by_row at.Greet came e h comes = went at.Greet (needs.Give port.Output greeting) came e tt (gave_holds q name came p) (reported s.pipework wrote c greeting came)
       by_row at.Idle came e h comes = absurd comes
       by_row at.TakeInput came e h comes = went at.TakeInput (needs.Take port.Input) came e tt (took_holds q name came p) (took_from s.pipework wrote c port.Input came)
@@ -383,7 +380,7 @@ module _ (s : State) (wrote : ℕ) (began : ℕ) (past : List Own) (own : Own) w
       by_row at.Report came e h comes = went at.Report (needs.Give port.Output p.report) came e tt (gave_holds q name came p) (reported s.pipework wrote c p.report came)
       by_row (at.Ended code) came e h comes = absurd comes
 
-      pub serves : SpawnerHolds q name p.row → due_at asked here p ≡ own.due → ComesOf s name own.due own.came wrote → Inv controls (then_state c own.due own.came)
+      pub serves : SpawnerHolds q name p.row → due_at asked here p ≡ own.due → ComesOf s name own.due own.came wrote → Inv (then_state c own.due own.came)
       serves h due comes =
-          subst (λ (z : NeedData). Inv controls (then_state c z own.came)) due
+          subst (λ (z : NeedData). Inv (then_state c z own.came)) due
           (by_row here own.came refl (arrive_holds q name p.row p own.ready h) (subst (λ (z : NeedData). ComesOf s name z own.came wrote) (sym due) comes))

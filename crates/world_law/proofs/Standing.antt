@@ -3,7 +3,6 @@ use Rattle.std.proofs.Common.{◌≡◌, ◌⊎◌, inl, inr, ⊎_elim, ℕ, zer
 use Rattle.std.specs.Prelude.{Contains, nat_lt}
 use Rattle.std.proofs.lemmas.Bool.{ltb-false}
 use Rattle.std.proofs.lemmas.List.Elements.{All-contains}
-use Rattle.address_rules.specs.declared.controls.Controls.{Controls}
 use Rattle.call_fs.specs.Disk.{IsSynced}
 use Rattle.call_fs.specs.declared.calls.CallData.{CallData}
 use Rattle.call_fs.specs.declared.calls.CallData.TheVariants as call
@@ -63,24 +62,24 @@ use Rattle.world_law.proofs.Tenants.{some_actor}
 
 -- A preprocessed number is in S5
 
-module _ (controls : Controls) (q : Queue) (n : ℕ) where
+module _ (q : Queue) (n : ℕ) where
   there : (part : Part) (y : Entry) → look q (Of part n) ≡ Some y → is_there q.disk part n ≡ true
   there part y is = ap is_some (found q.disk.names q.disk.files (Of part n) y is).0
 
   gone : (part : Part) → look q (Of part n) ≡ None → is_there q.disk part n ≡ false
   gone part none = ap is_some (not_found q.disk.names q.disk.files (Of part n) none)
 
-  sorted_state : IsPreprocessed controls (about q n) → state_of q.disk n ≡ S5
+  sorted_state : IsPreprocessed (about q n) → state_of q.disk n ≡ S5
   sorted_state h = λ i. state_by (there Mess h.taken.mess h.taken.mess_there i) (ap is_some (intd_unnamed q.disk.names q.disk.files n h.no_intd) i) (ap is_some (todo_unnamed q.disk.names q.disk.files n h.no_todo) i) (there Info h.info h.info_there i)
       (is_there q.disk Local n) (is_there q.disk Remote n) (is_there q.disk Bounce n)
 
-  settled_sorted : Phase controls (about q n) → IsSettledIn (about q n) → IsPreprocessed controls (about q n)
+  settled_sorted : Phase (about q n) → IsSettledIn (about q n) → IsPreprocessed (about q n)
   settled_sorted (Free h) w = let none = h.unsorted Info refl in let here = w.info_there in absurd (cc)
   settled_sorted (Queued h) w = let none = w.no_todo in let here = h.todo_there in absurd (cc)
   settled_sorted (Sorted h) w = h
   settled_sorted (Finished h) w = let none = h.unsorted Info refl in let here = w.info_there in absurd (cc)
 
-  pub settled_state : Phase controls (about q n) → IsSettledIn (about q n) → state_of q.disk n ≡ S5
+  pub settled_state : Phase (about q n) → IsSettledIn (about q n) → state_of q.disk n ≡ S5
   settled_state phase w = sorted_state (settled_sorted phase w)
 
 -- Two slots at one record
@@ -117,19 +116,19 @@ number_apart (suc i) (suc j) = ⊎_elim (λ (same : i ≡ j). inl (ap suc same))
 
 -- What a sender has in hand
 
-module _ (controls : Controls) (s : State) (I : Inv controls s) (a : List ℕ) (d : Desk) (F : SenderFares controls s.now (queue s I.role) a d) where
+module _ (s : State) (I : Inv s) (a : List ℕ) (d : Desk) (F : SenderFares s.now (queue s I.role) a d) where
   abbrev q : Queue
   q = queue s I.role
 
   serves_state : (n : ℕ) (ch : Channel) → Serves (about q n) ch → state_of s.disk n ≡ S5
-  serves_state n ch h = settled_state controls q n (I.sound.fine n) h.sorted
+  serves_state n ch h = settled_state q n (I.sound.fine n) h.sorted
 
   in_flight : (ch : Channel) (slot : ℕ) (t : Attempt) → attempt_in (lane ch d.slots).slots slot ≡ Some t → IsAtRecord s ch t
   in_flight ch slot t is =
       let l = F.stands.lanes ch in
       record {
         reads = subst (λ o. IfSome o (IsOpen (files_of q ch))) is (l.tied.in_flight slot None (inside (lane ch d.slots).slots slot t is));
-        stays = serves_state t.n ch (flies controls q d.row ch d.slots I.control.no_nul I.sound l slot t is);
+        stays = serves_state t.n ch (flies q d.row ch d.slots I.sound l slot t is);
       }
 
   still_to_come : (ch : Channel) (t : Attempt) → Contains (lane ch d.slots).left t → IsAtRecord s ch t
@@ -160,43 +159,43 @@ module _ (controls : Controls) (s : State) (I : Inv controls s) (a : List ℕ) (
     due = λ ch e w. serves_state e.1 ch (All-contains (λ (x : ℕ × ℕ). Serves (about q x.1) ch) (due_on ch d.book.messages) e (F.stands.knows.due ch) w);
   }
 
-pub hands_by : (controls : Controls) (s : State) (I : Inv controls s) (a : List ℕ) (program : Program) (past : List Own) (life : Life) → life ≡ Alive → (start : ℕ) → program ≡ Sender start
-    → FaresBy controls s.now (queue s I.role) a program past life → HandsStand s (sender_after None past)
-hands_by controls s I a (Sender since) past Alive alive start is F = hands controls s I a (sender_after None past) F
-hands_by controls s I a (Sender since) past life alive start is F = absurd (cc)
-hands_by controls s I a program past life alive start is F = absurd (cc)
+pub hands_by : (s : State) (I : Inv s) (a : List ℕ) (program : Program) (past : List Own) (life : Life) → life ≡ Alive → (start : ℕ) → program ≡ Sender start
+    → FaresBy s.now (queue s I.role) a program past life → HandsStand s (sender_after None past)
+hands_by s I a (Sender since) past Alive alive start is F = hands s I a (sender_after None past) F
+hands_by s I a (Sender since) past life alive start is F = absurd (cc)
+hands_by s I a program past life alive start is F = absurd (cc)
 
 pub hands_always_stand : HandsAlwaysStand
-hands_always_stand controls d before has legal a x is alive start program =
-    let I = always controls d before has legal in
-    hands_by controls (after d before) I a x.program x.past x.life alive start program (I.fares a x is)
+hands_always_stand d before legal a x is alive start program =
+    let I = always d before legal in
+    hands_by (after d before) I a x.program x.past x.life alive start program (I.fares a x is)
 
 -- Channel files
 
-lane_sorted : (controls : Controls) (w : About) (ch : Channel) (y : Entry) → Phase controls w → in_todo w.parts ≡ None → w.parts (lane_part ch) ≡ Some y → IsPreprocessed controls w
-lane_sorted controls w channel.Local y (Free h) todo is = let none = h.unsorted Local refl in absurd (cc)
-lane_sorted controls w channel.Remote y (Free h) todo is = let none = h.unsorted Remote refl in absurd (cc)
-lane_sorted controls w ch y (Queued h) todo is = let here = h.todo_there in absurd (cc)
-lane_sorted controls w ch y (Sorted h) todo is = h
-lane_sorted controls w channel.Local y (Finished h) todo is = let none = h.unsorted Local refl in absurd (cc)
-lane_sorted controls w channel.Remote y (Finished h) todo is = let none = h.unsorted Remote refl in absurd (cc)
+lane_sorted : (w : About) (ch : Channel) (y : Entry) → Phase w → in_todo w.parts ≡ None → w.parts (lane_part ch) ≡ Some y → IsPreprocessed w
+lane_sorted w channel.Local y (Free h) todo is = let none = h.unsorted Local refl in absurd (cc)
+lane_sorted w channel.Remote y (Free h) todo is = let none = h.unsorted Remote refl in absurd (cc)
+lane_sorted w ch y (Queued h) todo is = let here = h.todo_there in absurd (cc)
+lane_sorted w ch y (Sorted h) todo is = h
+lane_sorted w channel.Local y (Finished h) todo is = let none = h.unsorted Local refl in absurd (cc)
+lane_sorted w channel.Remote y (Finished h) todo is = let none = h.unsorted Remote refl in absurd (cc)
 
 pub records_are_routed : RecordsAreRouted
-records_are_routed controls d before has legal n todo ch file is =
+records_are_routed d before legal n todo ch file is =
     let s = after d before in
-    let I = always controls d before has legal in
+    let I = always d before legal in
     let q = queue s I.role in
     let y : Entry = record { number = file; file = s.disk.files file } in
     let filed : (about q n).parts (lane_part ch) ≡ Some y = find_some s.disk.names s.disk.files (Of (lane_part ch) n) file is in
-    let pre = lane_sorted controls (about q n) ch y (I.sound.fine n) (todo_absent s.disk.names s.disk.files n todo) filed in
-    let marked = lane_there controls (about q n) pre.taken.injection ch y filed (pre.lanes ch) in (
+    let pre = lane_sorted (about q n) ch y (I.sound.fine n) (todo_absent s.disk.names s.disk.files n todo) filed in
+    let marked = lane_there (about q n) pre.taken.injection ch y filed (pre.lanes ch) in (
       pre.taken.injection,
       pre.taken.lives,
       pre.taken.accepted,
       record {
         marked = marked.present;
         routed = λ records read.
-            records_are controls pre.taken.injection ch (s.disk.files file).bytes records I.control.no_nul pre.taken.valid pre.taken.spots marked.present
+            records_are pre.taken.injection ch (s.disk.files file).bytes records pre.no_nul pre.taken.valid pre.taken.spots marked.present
             (they_are (s.disk.files file).bytes records read);
       },
     )
@@ -217,23 +216,23 @@ module _ (q : Queue) (a : List ℕ) (args : Arguments) where
   mine_at row n e h = absurd (cc)
 
 -- what a living injector relies on
-pub relies_by : (controls : Controls) (now : ℕ) (q : Queue) (a : List ℕ) (program : Program) (past : List Own) (life : Life) (args : Arguments) → program ≡ Injector args → life ≡ Alive
-    → FaresBy controls now q a program past life → InTime now args → Relies q a args (inject_after args past)
-relies_by controls now q a (Injector other) past Alive args is alive F soon =
+pub relies_by : (now : ℕ) (q : Queue) (a : List ℕ) (program : Program) (past : List Own) (life : Life) (args : Arguments) → program ≡ Injector args → life ≡ Alive
+    → FaresBy now q a program past life → InTime now args → Relies q a args (inject_after args past)
+relies_by now q a (Injector other) past Alive args is alive F soon =
     let same : other ≡ args = cc in
     subst (λ (z : Arguments). InTime now z → Relies q a z (inject_after z past)) same (F.stands refl).relies soon
-relies_by controls now q a (Injector other) past life args is alive F soon = absurd (cc)
-relies_by controls now q a program past life args is alive F soon = absurd (cc)
+relies_by now q a (Injector other) past life args is alive F soon = absurd (cc)
+relies_by now q a program past life args is alive F soon = absurd (cc)
 
 pub injections_are_apart : InjectionsAreApart
-injections_are_apart controls d before has legal n a b one two =
+injections_are_apart d before legal n a b one two =
     let s = after d before in
-    let I = always controls d before has legal in
+    let I = always d before legal in
     let q = queue s I.role in
     let x = one.actor in
     let y = two.actor in
-    let first = mine_at q a one.args (inject_after one.args x.past) n one.number (relies_by controls s.now q a x.program x.past x.life one.args one.program one.alive (I.fares a x one.is) one.soon) in
-    let second = mine_at q b two.args (inject_after two.args y.past) n two.number (relies_by controls s.now q b y.program y.past y.life two.args two.program two.alive (I.fares b y two.is) two.soon) in
+    let first = mine_at q a one.args (inject_after one.args x.past) n one.number (relies_by s.now q a x.program x.past x.life one.args one.program one.alive (I.fares a x one.is) one.soon) in
+    let second = mine_at q b two.args (inject_after two.args y.past) n two.number (relies_by s.now q b y.program y.past y.life two.args two.program two.alive (I.fares b y two.is) two.soon) in
     by_role a b one.args two.args (sym first ∙ second)
   where
     by_role : (u v : List ℕ) (f g : Arguments) → AsMessage u f ≡ AsMessage v g → u ≡ v
@@ -289,14 +288,14 @@ whole_there s role a args n h =
     }
 
 pub links_are_of_whole_files : LinksAreOfWholeFiles
-links_are_of_whole_files controls d a own wrote before has legal x is args program n due =
+links_are_of_whole_files d a own wrote before legal x is args program n due =
     let s = after d before in
-    let I = always controls d before has legal.0 in
+    let I = always d before legal.0 in
     let may = legal.1 in
     let same : may.actor ≡ x = some_actor may.actor x (sym may.reads.is ∙ is) in
     let next = injector_due x.program x.past own.read own.ready args own.due program (subst (λ (y : Actor). next_of y.program y.past own.read own.ready ≡ own.due) same may.due) in
     let w = call_due (has_input own.ready) (is_late args own.read) (inject_due args (inject_after args x.past)) (call.Link (path (Of Intd n)) (path (Of Todo n))) (next ∙ due) in
     let soon = in_time_call s.now args.start own.read w.1 may.reads.no_stall in
     let row = link_row args (inject_after args x.past) n w.0 in
-    let relies = relies_by controls s.now (queue s I.role) a x.program x.past x.life args program (ap (λ (y : Actor). y.life) (sym same) ∙ may.reads.alive) (I.fares a x is) soon in
+    let relies = relies_by s.now (queue s I.role) a x.program x.past x.life args program (ap (λ (y : Actor). y.life) (sym same) ∙ may.reads.alive) (I.fares a x is) soon in
     whole_there s I.role a args n (subst (λ (z : Row). Relies (queue s I.role) a args z) row relies)

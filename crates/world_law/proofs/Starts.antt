@@ -1,13 +1,11 @@
 -- An injector starts, and a generation.
 use Rattle.std.specs.Prelude.{Contains, ◌∷◌, []}
 use Rattle.std.proofs.Common.{◌≡◌, inl, ℕ, List, Bool, true, false, Option, Some, None, refl, sym, ap, ◌∙◌, subst, ⊎_elim, codes, if◌then◌else◌}
-use Rattle.address_rules.specs.declared.controls.Controls.{Controls}
 use Rattle.call_fs.specs.Maps.{put_at}
 use Rattle.call_fs.specs.declared.past.Own.{Own}
 use Rattle.queue_law.proofs.Injectors.{injector_start}
 use Rattle.program_law.proofs.Sender.Asking.{texts_keep}
 use Rattle.program_law.proofs.Sender.Begins.{begins as sender_begins}
-use Rattle.program_law.proofs.Sender.ControlsRead.{controls_are_read}
 use Rattle.actor_names.specs.MailNames.{members}
 use Rattle.world_pipes.specs.Pipework.{Tenant, is_member}
 use Rattle.world_pipes.specs.Pipework.Tenant.{Remote, Runs}
@@ -27,16 +25,16 @@ use Rattle.world_law.proofs.Tenants.{GoesOn, KeepsChildren, child_kept_of, not_f
 
 -- One program starts
 
-started_runs : (controls : Controls) (s : State) (I : Inv controls s) (a : List ℕ) (program : Program) → s.actors a ≡ None → MayRun program
-    → Inv controls (happens s (Start a program))
-started_runs controls s I a (Injector args) new runs =
-    moved_keeps controls s I a (newborn (Injector args)) s.pipework tt (injector_start s.now (queue s I.role) a args)
+started_runs : (s : State) (I : Inv s) (a : List ℕ) (program : Program) → s.actors a ≡ None → MayRun program
+    → Inv (happens s (Start a program))
+started_runs s I a (Injector args) new runs =
+    moved_keeps s I a (newborn (Injector args)) s.pipework tt (injector_start s.now (queue s I.role) a args)
     (subst (λ (o : Option Actor). IsSeenAs o (newborn (Injector args))) (sym new) (record { awaits = refl; place = refl; lives = λ h. absurd (cc) }))
     (record { given = refl; answers = refl }) (subst (λ (o : Option Actor). GoesOn o (Injector args)) (sym new) tt) tt (λ b d t h. inl h) refl
-started_runs controls s I a other new runs = absurd runs
+started_runs s I a other new runs = absurd runs
 
 pub starts_keep : StartsKeep
-starts_keep a program controls s I may = started_runs controls s I a program may.new may.runs
+starts_keep a program s I may = started_runs s I a program may.new may.runs
 
 -- Four start together
 
@@ -46,7 +44,7 @@ no_member a apart = ⊎_elim
     (λ (other : is_member a ≡ false). other)
     (whether (is_member a))
 
-module _ (controls : Controls) (s : State) (I : Inv controls s) (first second third last : ℕ) where
+module _ (s : State) (I : Inv s) (first second third last : ℕ) where
   abbrev four : List ℕ → Option Actor
   four = with_four s.actors (Sender first) (Cleaner second) (LocalSpawner third) (RemoteSpawner last)
 
@@ -116,7 +114,7 @@ module _ (controls : Controls) (s : State) (I : Inv controls s) (first second th
   fed_then o program past life h =
       child_kept_of s then_state still_there I.tenants o (λ d t is. inl (not_freed (is_member o) (s.pipework.programs o d) t is)) program past life h
 
-  generation_keeps : Inv controls (happens s (Generation (Sender first ∷ Cleaner second ∷ LocalSpawner third ∷ RemoteSpawner last ∷ [])))
+  generation_keeps : Inv (happens s (Generation (Sender first ∷ Cleaner second ∷ LocalSpawner third ∷ RemoteSpawner last ∷ [])))
   unfolding put_at
   generation_keeps = record {
     role = I.role;
@@ -124,15 +122,12 @@ module _ (controls : Controls) (s : State) (I : Inv controls s) (first second th
     sound = I.sound;
     bounces = I.bounces;
     crew = each_member (λ o y. IsNamed o y.program) refl refl refl refl I.crew;
-    fares = each_member (λ o y. FaresBy controls s.now (queue s I.role) o y.program y.past y.life)
+    fares = each_member (λ o y. FaresBy s.now (queue s I.role) o y.program y.past y.life)
         (record {
-          stands = sender_begins controls s.now (queue s I.role) (codes "sender") None;
-          control = controls_are_read.begins (queue s I.role) (codes "sender") None;
+          stands = sender_begins s.now (queue s I.role) (codes "sender") None;
           texts = texts_keep.begins (queue s I.role) None;
         })
         tt refl tt I.fares;
-    control = I.control;
-    old = I.old;
     crewed = λ b x there it m member gone. each_is_there m member gone;
     tenants = λ b d t is. runs_then (is_member b) b d t refl is;
     child = each_member (λ o y. ChildBy then_state o y.program y.past y.life) tt tt tt tt (λ o y is. fed_then o y.program y.past y.life (I.child o y is));
@@ -162,14 +157,14 @@ is_remote (RemoteSpawner start) is = (start, refl)
 is_remote other is = absurd is
 
 pub generations_keep : GenerationsKeep
-generations_keep (sender ∷ clean ∷ lspawn ∷ rspawn ∷ []) controls s I may =
+generations_keep (sender ∷ clean ∷ lspawn ∷ rspawn ∷ []) s I may =
     let one = is_sender sender may.kinds.0 in
     let two = is_cleaner clean may.kinds.1.0 in
     let three = is_local lspawn may.kinds.1.1.0 in
     let four = is_remote rspawn may.kinds.1.1.1.0 in
-    subst (λ (p : Program). Inv controls (happens s (Generation (p ∷ clean ∷ lspawn ∷ rspawn ∷ [])))) (sym one.1)
-    (subst (λ (p : Program). Inv controls (happens s (Generation (Sender one.0 ∷ p ∷ lspawn ∷ rspawn ∷ [])))) (sym two.1)
-    (subst (λ (p : Program). Inv controls (happens s (Generation (Sender one.0 ∷ Cleaner two.0 ∷ p ∷ rspawn ∷ [])))) (sym three.1)
-    (subst (λ (p : Program). Inv controls (happens s (Generation (Sender one.0 ∷ Cleaner two.0 ∷ LocalSpawner three.0 ∷ p ∷ [])))) (sym four.1)
-    (generation_keeps controls s I one.0 two.0 three.0 four.0))))
-generations_keep crew controls s I may = absurd (are_four crew may.kinds)
+    subst (λ (p : Program). Inv (happens s (Generation (p ∷ clean ∷ lspawn ∷ rspawn ∷ [])))) (sym one.1)
+    (subst (λ (p : Program). Inv (happens s (Generation (Sender one.0 ∷ p ∷ lspawn ∷ rspawn ∷ [])))) (sym two.1)
+    (subst (λ (p : Program). Inv (happens s (Generation (Sender one.0 ∷ Cleaner two.0 ∷ p ∷ rspawn ∷ [])))) (sym three.1)
+    (subst (λ (p : Program). Inv (happens s (Generation (Sender one.0 ∷ Cleaner two.0 ∷ LocalSpawner three.0 ∷ p ∷ [])))) (sym four.1)
+    (generation_keeps s I one.0 two.0 three.0 four.0))))
+generations_keep crew s I may = absurd (are_four crew may.kinds)

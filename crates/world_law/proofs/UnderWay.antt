@@ -1,6 +1,5 @@
 -- A command is under way at a living cleaner only where its number rests.
 use Rattle.std.proofs.Common.{◌≡◌, inl, inr, ℕ, List, true, Option, Some, None, refl, sym, ap, ◌∙◌, subst, ⊎_elim, arith, codes}
-use Rattle.address_rules.specs.declared.controls.Controls.{Controls}
 use Rattle.call_fs.specs.Disk.{Among}
 use Rattle.call_fs.specs.declared.past.Own.{Own}
 use Rattle.program_law.specs.Errand.Errands.{texts_of, waiting, work_at}
@@ -37,11 +36,11 @@ use Rattle.world_law.proofs.Histories.{always}
 use Rattle.world_law.proofs.Standing.{mine_at, relies_by}
 
 -- the number at work at a row rests
-module _ (controls : Controls) (now : ℕ) (q : Queue) (command : Command) where
-  rests_as : (c : Command) → ◌≡◌ {A = Option Command} (Some c) (Some command) → RestsFor controls now q c → RestsFor controls now q command
-  rests_as c e h = let same : c ≡ command = (cc) in subst (λ (z : Command). RestsFor controls now q z) same h
+module _ (now : ℕ) (q : Queue) (command : Command) where
+  rests_as : (c : Command) → ◌≡◌ {A = Option Command} (Some c) (Some command) → RestsFor now q c → RestsFor now q command
+  rests_as c e h = let same : c ≡ command = (cc) in subst (λ (z : Command). RestsFor now q z) same h
 
-  row_rests : (row : Row) (p : Place) → StandsAt controls now q row p → work_at row ≡ Some command → RestsFor controls now q command
+  row_rests : (row : Row) (p : Place) → StandsAt now q row p → work_at row ≡ Some command → RestsFor now q command
   row_rests (at.UnlinkIntd c) p h works = rests_as c works h
   row_rests (at.UnlinkSecond c) p h works = rests_as c works (record { closed = h.closed; rest = h.rest.0 })
   row_rests at.FindPid p h works = absurd (cc)
@@ -54,22 +53,22 @@ module _ (controls : Controls) (now : ℕ) (q : Queue) (command : Command) where
 made_by : (b a : List ℕ) (words args : Arguments) → AsMessage b words ≡ AsMessage a args → words ≡ args
 made_by b a words args e = cc
 
-module _ (controls : Controls) (s : State) (I : Inv controls s) (lives : lives_in (s.actors (codes "clean")) ≡ true) (command : Command) where
+module _ (s : State) (I : Inv s) (lives : lives_in (s.actors (codes "clean")) ≡ true) (command : Command) where
   abbrev Rests : Type 0
-  Rests = RestsFor controls s.now (queue s I.role) command
+  Rests = RestsFor s.now (queue s I.role) command
 
   -- that of the command that waits
   given_rests : (waits : Option Command) → I.errands.waits ≡ waits → Among (text_of command) (texts_of waits) → Rests
   given_rests None e among = absurd among
   given_rests (Some c) e (inl same) =
       let it : command ≡ c = same_text command c same in
-      subst (λ (z : Command). RestsFor controls s.now (queue s I.role) z) (sym it) (I.errands.rests lives c e)
+      subst (λ (z : Command). RestsFor s.now (queue s I.role) z) (sym it) (I.errands.rests lives c e)
   given_rests (Some c) e (inr none) = absurd none
 
   by_program : (program : Program) (past : List Own) (life : Life) → s.actors (codes "clean") ≡ Some (record { program = program; past = past; life = life })
       → lives_by program life ≡ true → work_at (place_by program past).row ≡ Some command → Rests
   by_program (Cleaner began) past Alive is alive works =
-      row_rests controls s.now (queue s I.role) command (place_after past).row (place_after past) (I.fares (codes "clean") (record { program = Cleaner began; past = past; life = Alive }) is) works
+      row_rests s.now (queue s I.role) command (place_after past).row (place_after past) (I.fares (codes "clean") (record { program = Cleaner began; past = past; life = Alive }) is) works
   by_program (Cleaner began) past (Over status) is alive works = absurd (cc)
   by_program (Cleaner began) past Stopped is alive works = absurd (cc)
   by_program other past life is alive works = absurd (cc)
@@ -95,7 +94,7 @@ module _ (q : Queue) (a : List ℕ) (args : Arguments) where
   begun_at row n e h = absurd (cc)
 
 -- a number that is closed to injectors has none that may call still
-module _ (controls : Controls) (s : State) (I : Inv controls s) (n : ℕ) where
+module _ (s : State) (I : Inv s) (n : ℕ) where
   abbrev q : Queue
   q = queue s I.role
 
@@ -112,7 +111,7 @@ module _ (controls : Controls) (s : State) (I : Inv controls s) (n : ℕ) where
   closed_apart h a it =
       let y = it.actor in
       let row = inject_after it.args y.past in
-      let relies = relies_by controls s.now q a y.program y.past y.life it.args it.program it.alive (I.fares a y it.is) it.soon in
+      let relies = relies_by s.now q a y.program y.past y.life it.args it.program it.alive (I.fares a y it.is) it.soon in
       ⊎_elim
       (λ (over : IsOverdue s.now (q.role n)). overdue_apart (q.role n) refl over a it.args it.soon (mine_at q a it.args row n it.number relies))
       (λ (accepted : IsAccepted (about q n)).
@@ -125,22 +124,22 @@ module _ (controls : Controls) (s : State) (I : Inv controls s) (n : ℕ) where
       h.shut
 
 -- the number rests as the command needs
-number_rests : (controls : Controls) (s : State) (I : Inv controls s) (command : Command) → RestsFor controls s.now (queue s I.role) command → NumberRests controls s command
-number_rests controls s I command h =
+number_rests : (s : State) (I : Inv s) (command : Command) → RestsFor s.now (queue s I.role) command → NumberRests s command
+number_rests s I command h =
     let n = message_of command in
     record {
       mess = h.closed.mess.number;
       there = (found s.disk.names s.disk.files (Of Mess n) h.closed.mess h.closed.there).0;
-      left = closed_apart controls s I n h.closed;
+      left = closed_apart s I n h.closed;
       needs = h.rest;
     }
 
-each_rests : (controls : Controls) (s : State) → Inv controls s → lives_in (s.actors (codes "clean")) ≡ true → EachRests controls s
-each_rests controls s I lives command under_way = number_rests controls s I command (⊎_elim
+each_rests : (s : State) → Inv s → lives_in (s.actors (codes "clean")) ≡ true → EachRests s
+each_rests s I lives command under_way = number_rests s I command (⊎_elim
     (λ (among : Among (text_of command) (waiting (link_in s))).
-    given_rests controls s I lives command I.errands.waits refl (subst (λ (texts : List (List ℕ)). Among (text_of command) texts) I.errands.errand.texts among))
-    (λ (works : work_at (link_in s).place.row ≡ Some command). working_rests controls s I lives command (s.actors (codes "clean")) refl lives works)
+    given_rests s I lives command I.errands.waits refl (subst (λ (texts : List (List ℕ)). Among (text_of command) texts) I.errands.errand.texts among))
+    (λ (works : work_at (link_in s).place.row ≡ Some command). working_rests s I lives command (s.actors (codes "clean")) refl lives works)
     under_way)
 
 pub commands_rest : CommandsRest
-commands_rest controls d before has legal lives = each_rests controls (after d before) (always controls d before has legal) lives
+commands_rest d before legal lives = each_rests (after d before) (always d before legal) lives

@@ -1,7 +1,6 @@
 -- What a local delivery carried out, in one statement (dot-qmail(5), maildir(5)); and of which deliveries the successes are that are
 -- reported.
 use Rattle.std.specs.Prelude.{◌≡◌, ℕ, List, [], ◌∷◌, ◌++◌, map, Option, Some, None, bytes_eq, codes, if◌then◌else◌}
-use Rattle.address_rules.specs.declared.controls.Controls.{Controls}
 use Rattle.call_fs.specs.Disk.{Among, Disk, IsWhole}
 use Rattle.call_fs.specs.declared.calls.Answer.{Answer}
 use Rattle.call_fs.specs.declared.calls.Answer.TheVariants as answer
@@ -23,14 +22,13 @@ use Rattle.local_parts.specs.Forwarding.{forwards}
 use Rattle.local_parts.specs.Inputs.{message_in}
 use Rattle.local_parts.specs.Texts.{maildir_text}
 use Rattle.queue_inject.specs.Texts.{entered}
-use Rattle.queue_law.specs.Books.{Books, Injection, IsInjected}
-use Rattle.queue_law.specs.Routes.{Recipient, routed, spot_of}
+use Rattle.queue_law.specs.Books.{Books, Injection, IsInjected, routed_in, spot_in}
+use Rattle.queue_law.specs.Routes.{Recipient}
 use Rattle.send_core.specs.Past.{Account, Task, account, settle}
 use Rattle.send_known.specs.declared.channel.Channel.TheVariants.{Local}
 use Rattle.spawn_protocol.specs.declared.report.Report.{Report}
 use Rattle.spawn_protocol.specs.Report.{counted}
 use Rattle.send_runs.specs.Reports.{reports_at}
-use Rattle.program_law.specs.Sender.Control.{AreControls}
 use Rattle.world_events.specs.declared.event.Program.TheVariants.{Delivery, Sender}
 use Rattle.mail_world.specs.History.{Actor, Event, Legal, after, netstring}
 use Rattle.mail_world.specs.History.Event.{Act}
@@ -143,12 +141,12 @@ HearsTrue d h past own = AreTrue d h (reports_at Local past own) (account Local 
 
 -- Each report that a sender takes of the local spawner is of an attempt in flight, and a K report comes of such a delivery.
 abbrev pub KReportsAreCarried : Type 0
-KReportsAreCarried = (controls : Controls) (d : Disk) (a : List ℕ) (own : Own) (wrote : ℕ) (before : List Event) → AreControls controls d
+KReportsAreCarried = (d : Disk) (a : List ℕ) (own : Own) (wrote : ℕ) (before : List Event)
     → Legal d (Act a own wrote ∷ before) → (x : Actor) → (after d before).actors a ≡ Some x → (start : ℕ) → x.program ≡ Sender start
     → own.due ≡ needs.Take port.Lspawn → (bytes : List ℕ) → own.came ≡ came.Took bytes → HearsTrue d before x.past own
 
 -- Each recipient of a local address that is accounted for as delivered has a delivery for its routed address, of the message as entered.
 abbrev pub DeliveredAreCarried : Type 0
-DeliveredAreCarried = (controls : Controls) (d : Disk) (before : List Event) → AreControls controls d → Legal d before → (i : Injection) → IsInjected (after d before).books i
-    → (r : Recipient i.args) → (spot_of controls i.args r).channel ≡ Local → Among (spot_of controls i.args r) i.ledger.delivered
-    → WasCarried d before (routed controls i.args r) (entered i.args)
+DeliveredAreCarried = (d : Disk) (before : List Event) → Legal d before → (i : Injection) → IsInjected (after d before).books i
+    → (r : Recipient i.args) → (spot_in i r).channel ≡ Local → Among (spot_in i r) i.ledger.delivered
+    → WasCarried d before (routed_in i r) (entered i.args)

@@ -1,7 +1,6 @@
 -- What local deliveries did: the injections of their forwards, which were accepted; what each carried out that ended with 0; and of which
 -- files they make links.
 use Rattle.std.specs.Prelude.{◌≡◌, ℕ, List, [], ◌∷◌, ◌++◌, Some}
-use Rattle.address_rules.specs.declared.controls.Controls.{Controls}
 use Rattle.call_fs.specs.Disk.{Disk, IsWhole}
 use Rattle.call_fs.specs.declared.calls.CallData.TheVariants.{Link}
 use Rattle.call_fs.specs.declared.past.GotData.TheVariants as got
@@ -24,7 +23,6 @@ use Rattle.local_parts.specs.Texts.{forward_text, maildir_text}
 use Rattle.mail_world.specs.History.{Actor, Event, Legal, after, netstring}
 use Rattle.mail_world.specs.History.Event.{Act}
 use Rattle.mail_world.specs.History.Life.{Over}
-use Rattle.program_law.specs.Sender.Control.{AreControls}
 use Rattle.world_events.specs.declared.event.Program.TheVariants.{Delivery}
 
 -- An injection was accepted whose message and envelope are just this input: `3:abc,` and the envelope as a netstring are that of `abc`.
@@ -70,14 +68,14 @@ IsForwardedTo b args past message (address ∷ more) = IsForwardOf b args past m
 
 -- So it is of each delivery that ended with 0, with the addresses of the lines that it reached.
 abbrev pub ForwardsAreAddressed : Type 0
-ForwardsAreAddressed = (controls : Controls) (d : Disk) (before : List Event) → AreControls controls d → Legal d before → (a : List ℕ) (x : Actor) → (after d before).actors a ≡ Some x
+ForwardsAreAddressed = (d : Disk) (before : List Event) → Legal d before → (a : List ℕ) (x : Actor) → (after d before).actors a ≡ Some x
     → (start : ℕ) (args : LocalArgs) → x.program ≡ Delivery start args → x.life ≡ Over 0
     → (carried : IsCarried args x.past) × IsForwardedTo (after d before).books args x.past carried.message (forwards carried.reached)
 
 -- A delivery makes a link only of a file that holds the lines of a maildir and the message that it took, whole and on the disk: as the disk
 -- is then, whatever others did.
 abbrev pub DropsAreWhole : Type 0
-DropsAreWhole = (controls : Controls) (d : Disk) (a : List ℕ) (own : Own) (wrote : ℕ) (before : List Event) → AreControls controls d
+DropsAreWhole = (d : Disk) (a : List ℕ) (own : Own) (wrote : ℕ) (before : List Event)
     → Legal d (Act a own wrote ∷ before) → (x : Actor) → (after d before).actors a ≡ Some x → (start : ℕ) (args : LocalArgs) → x.program ≡ Delivery start args
     → (from to : List ℕ) → own.due ≡ needs.File (Link from to)
     → (message : List ℕ) × (message_in (taken x.past) ≡ Some message) × IsWhole (after d before).disk from (maildir_text args message)

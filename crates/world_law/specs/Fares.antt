@@ -1,7 +1,6 @@
 -- What each actor has, by its program: what an injector rests on and how it has fared, what a living cleaner and a living sender rely on,
 -- what a living spawner holds open, and what a delivery rests on and did.
 use Rattle.std.specs.Prelude.{◌≡◌, ℕ, List, true, None}
-use Rattle.address_rules.specs.declared.controls.Controls.{Controls}
 use Rattle.call_fs.specs.declared.past.Own.{Own}
 use Rattle.queue_clean.specs.Table.{place_after}
 use Rattle.send_core.specs.declared.desk.Desk.{Desk}
@@ -21,7 +20,6 @@ use Rattle.queue_law.specs.Injectors.{InjectorFares}
 use Rattle.queue_law.specs.Numbers.{Queue}
 use Rattle.queue_law.specs.Passes.{HasOpen}
 use Rattle.program_law.specs.Sender.Asking.{TextsStand}
-use Rattle.program_law.specs.Sender.ControlFiles.{ControlStands}
 use Rattle.program_law.specs.Sender.Stands.{SenderStands}
 use Rattle.world_events.specs.declared.event.Program.{Program}
 use Rattle.world_events.specs.declared.event.Program.TheVariants.{Injector, Cleaner, Sender, LocalSpawner, RemoteSpawner, Delivery}
@@ -35,10 +33,9 @@ abbrev pub IfAlive : Life → Type 0 → Type 0
 IfAlive Alive T = T
 IfAlive life T = Unit {0}
 
--- the sender with this desk has what it relies on, of the queue and of the control files, and its requests are those of records
-pub record SenderFares (controls : Controls) (now : ℕ) (q : Queue) (a : List ℕ) (d : Desk) : Type 0 where
-  pub stands : SenderStands controls now q a d
-  pub control : ControlStands q a d.row d.book
+-- the sender with this desk has what it relies on, and its requests are those of records
+pub record SenderFares (now : ℕ) (q : Queue) (a : List ℕ) (d : Desk) : Type 0 where
+  pub stands : SenderStands now q a d
   pub texts : TextsStand q d
 
 -- what a spawner holds open at a row, as it serves requests
@@ -65,10 +62,10 @@ pub record DeliveryFares (q : Queue) (a : List ℕ) (args : LocalArgs) (past : L
   pub forwards : AreForwarded q.books past
   pub well : is_well life ≡ true → IsCarried args past
 
-abbrev pub FaresBy : Controls → ℕ → Queue → List ℕ → Program → List Own → Life → Type 0
-FaresBy controls now q a (Injector args) past life = InjectorFares now q a args past (is_alive life) (is_well life)
-FaresBy controls now q a (Cleaner start) past life = IfAlive life (CleanerStands controls now q (place_after past))
-FaresBy controls now q a (Sender start) past life = IfAlive life (SenderFares controls now q a (sender_after None past))
-FaresBy controls now q a (LocalSpawner start) past life = IfAlive life (LspawnHolds q a (local_after past))
-FaresBy controls now q a (RemoteSpawner start) past life = IfAlive life (SpawnerHolds q a (spawn_after past).row)
-FaresBy controls now q a (Delivery start args) past life = DeliveryFares q a args past life
+abbrev pub FaresBy : ℕ → Queue → List ℕ → Program → List Own → Life → Type 0
+FaresBy now q a (Injector args) past life = InjectorFares now q a args past (is_alive life) (is_well life)
+FaresBy now q a (Cleaner start) past life = IfAlive life (CleanerStands now q (place_after past))
+FaresBy now q a (Sender start) past life = IfAlive life (SenderFares now q a (sender_after None past))
+FaresBy now q a (LocalSpawner start) past life = IfAlive life (LspawnHolds q a (local_after past))
+FaresBy now q a (RemoteSpawner start) past life = IfAlive life (SpawnerHolds q a (spawn_after past).row)
+FaresBy now q a (Delivery start args) past life = DeliveryFares q a args past life

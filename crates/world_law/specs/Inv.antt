@@ -1,7 +1,6 @@
--- What holds of the whole system after each event: of the queue, of each actor, of the control files, and of what the sender asks of its
+-- What holds of the whole system after each event: of the queue, of each actor, and of what the sender asks of its
 -- cleaner.
 use Rattle.std.specs.Prelude.{◌≡◌, ℕ, List, [], ◌∷◌, Bool, true, Option, Some, None, codes, Contains}
-use Rattle.address_rules.specs.declared.controls.Controls.{Controls}
 use Rattle.call_fs.specs.declared.past.GotData.{GotData}
 use Rattle.call_fs.specs.declared.past.GotData.TheVariants as got
 use Rattle.call_fs.specs.declared.past.NeedData.{NeedData}
@@ -28,26 +27,24 @@ use Rattle.actor_names.specs.MailNames.{members}
 use Rattle.mail_world.specs.History.{Actor, IsFed, Life, MayRun, State}
 use Rattle.mail_world.specs.History.Life.{Alive}
 use Rattle.mail_world.specs.Untouched.{queue}
-use Rattle.program_law.specs.Sender.Control.{AreControls}
-use Rattle.program_law.specs.Sender.ControlFiles.{AreOld}
 use Rattle.world_law.specs.Bounces.{BouncesAreQueued}
 use Rattle.world_law.specs.Crew.{IsNamed, lives_in, link_in}
 use Rattle.world_law.specs.Fares.{FaresBy}
 
 -- Of what the sender asks of its cleaner at most one command is under way, which is the one that it waits for; and the numbers of those
 -- commands are as they need.
-pub record ErrandRests (controls : Controls) (now : ℕ) (q : Queue) (cleans : Bool) (x : Link) : Type 0 where
+pub record ErrandRests (now : ℕ) (q : Queue) (cleans : Bool) (x : Link) : Type 0 where
   pub waits : Option Command
   pub errand : Errand waits x
   -- the number of the command that waits for a living cleaner rests
-  pub rests : cleans ≡ true → WaitsAtRest controls now q waits
+  pub rests : cleans ≡ true → WaitsAtRest now q waits
   -- while the sender waits for the answer to `todo/N`, no injector touches N
   pub asked : (n : ℕ) → x.awaits ≡ Answer (Todo n) → IsClosed now q n
   -- and `+` says that N is preprocessed
-  pub told : (n : ℕ) → x.awaits ≡ Answer (Todo n) → SaysWell x → RestsAs now q n (IsPreprocessed controls)
+  pub told : (n : ℕ) → x.awaits ≡ Answer (Todo n) → SaysWell x → RestsAs now q n IsPreprocessed
 
-abbrev pub ErrandsRest : Controls → State → (ℕ → Role) → Type 0
-ErrandsRest controls s role = ErrandRests controls s.now (queue s role) (lives_in (s.actors (codes "clean"))) (link_in s)
+abbrev pub ErrandsRest : State → (ℕ → Role) → Type 0
+ErrandsRest s role = ErrandRests s.now (queue s role) (lives_in (s.actors (codes "clean"))) (link_in s)
 
 -- which programs start an actor: a sender the injector of a bounce, the local spawner a delivery, and that the injector of its forwards, as
 -- its user
@@ -98,28 +95,25 @@ ChildBy s a program past life = Unit {0}
 abbrev pub ChildrenFare : State → Type 0
 ChildrenFare s = (a : List ℕ) (x : Actor) → s.actors a ≡ Some x → ChildBy s a x.program x.past x.life
 
-pub record Inv (controls : Controls) (s : State) : Type 0 where
+pub record Inv (s : State) : Type 0 where
   -- what each file number was made as
   pub role : ℕ → Role
   -- the present moment is one that a clock may tell
   pub moment : IsMoment s.now
   -- Each name suits what its file was made as. Each number is free, queued, preprocessed or finished, by its files and by the newest
   -- injection of it. Of an accepted injection whose life is over nothing is owed.
-  pub sound : Sound controls (queue s role)
+  pub sound : Sound (queue s role)
   -- each bounce in a ledger was accepted, and returns the message of that ledger
-  pub bounces : BouncesAreQueued controls s.books
+  pub bounces : BouncesAreQueued s.books
   -- each member has the name of its program
   pub crew : (a : List ℕ) (x : Actor) → s.actors a ≡ Some x → IsNamed a x.program
   -- with one that doesn't start alone each member is there
   pub crewed : (a : List ℕ) (x : Actor) → s.actors a ≡ Some x → (MayRun x.program → ⊥) → (m : List ℕ) → Contains members m → s.actors m ≡ None → ⊥
   -- each actor has what it rests on
-  pub fares : (a : List ℕ) (x : Actor) → s.actors a ≡ Some x → FaresBy controls s.now (queue s role) a x.program x.past x.life
-  -- the control files say what these controls say, and nobody changes them
-  pub control : AreControls controls s.disk
-  pub old : AreOld (queue s role)
+  pub fares : (a : List ℕ) (x : Actor) → s.actors a ≡ Some x → FaresBy s.now (queue s role) a x.program x.past x.life
   -- who runs in a slot was started there by who may start it: only the sender, the local spawner and deliveries start actors
   pub tenants : (a : List ℕ) (d : ℕ) (t : Tenant) → s.pipework.programs a d ≡ Some t → IsTenantOf s a d t
   -- after an actor gave to its child, until its next event, that child was given what it was started for
   pub child : ChildrenFare s
   -- the sender and its cleaner
-  pub errands : ErrandsRest controls s role
+  pub errands : ErrandsRest s role

@@ -1,6 +1,5 @@
 -- What an event of a legal history leaves as it was, besides that each state is safe.
 use Rattle.std.specs.Prelude.{◌≡◌, ℕ, List, ◌∷◌, true, false, Option, Some}
-use Rattle.address_rules.specs.declared.controls.Controls.{Controls}
 use Rattle.call_fs.specs.Disk.{Disk, Open}
 use Rattle.program_law.specs.Delivery.Leaves.{LeavesButDrops}
 use Rattle.queue_law.specs.Books.{Injection, IsInjected, IsLater}
@@ -12,7 +11,6 @@ use Rattle.world_events.specs.declared.event.Program.{Program}
 use Rattle.world_events.specs.declared.event.Program.TheVariants.{Cleaner, Delivery, Sender}
 use Rattle.mail_world.specs.History.{Event, Legal, State, after, happens}
 use Rattle.mail_world.specs.Untouched.{IsOther, about_in, doer, is_halt}
-use Rattle.program_law.specs.Sender.Control.{AreControls}
 
 -- what an event of a program leaves of what isn't the queue's: all, except that a cleaner takes old names in `pid` away, and that a delivery
 -- puts files into maildirs
@@ -37,4 +35,4 @@ pub record LeavesMost (s : State) (e : Event) : Type 0 where
 
 -- so does each event of a legal history
 abbrev pub EventsLeave : Type 0
-EventsLeave = (controls : Controls) (d : Disk) (e : Event) (before : List Event) → AreControls controls d → Legal d (e ∷ before) → LeavesMost (after d before) e
+EventsLeave = (d : Disk) (e : Event) (before : List Event) → Legal d (e ∷ before) → LeavesMost (after d before) e

@@ -20,6 +20,8 @@ pub mod PidNames
 pub mod UnderWay
 -- of which reports the ledgers have recipients as delivered, and as failed
 pub mod Reported
+-- by which controls messages are routed and recipients named
+pub mod Routed
 -- the lives of message numbers
 pub mod Lives
 -- how recipients are accounted for, by what happened

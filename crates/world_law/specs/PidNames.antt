@@ -1,6 +1,5 @@
 -- When a cleaner takes a name in `pid` away, and what no injector has then (qmail-clean(8)).
 use Rattle.std.specs.Prelude.{◌≡◌, ◌⊎◌, ℕ, ◌+◌, ◌<◌, List, ◌∷◌, ◌++◌, Option, Some, None}
-use Rattle.address_rules.specs.declared.controls.Controls.{Controls}
 use Rattle.call_fs.specs.Disk.{Disk}
 use Rattle.call_fs.specs.declared.calls.CallData.TheVariants.{Stat, Unlink}
 use Rattle.call_fs.specs.declared.past.NeedData.TheVariants as needs
@@ -14,7 +13,6 @@ use Rattle.queue_law.specs.Injectors.{InTime}
 use Rattle.queue_limits.specs.declared.times.TheConstants.{PID_NAME_AGE}
 use Rattle.queue_paths.specs.Names.{path}
 use Rattle.queue_paths.specs.Names.Name.{Pid}
-use Rattle.program_law.specs.Sender.Control.{AreControls}
 use Rattle.world_events.specs.declared.event.Program.TheVariants.{Cleaner, Injector}
 use Rattle.mail_world.specs.History.{Actor, Event, Legal, State, after}
 use Rattle.mail_world.specs.History.Event.{Act}
@@ -67,7 +65,7 @@ pub record IsLeftOver (s : State) (pid start seq : ℕ) : Type 0 where
 -- A cleaner takes a name in `pid` away only directly after a stat of it, at which its file was so old; and if it is an injector's name, it is
 -- left over.
 abbrev pub PidsAreOld : Type 0
-PidsAreOld = (controls : Controls) (d : Disk) (a : List ℕ) (own : Own) (wrote : ℕ) (before : List Event) → AreControls controls d → Legal d (Act a own wrote ∷ before)
+PidsAreOld = (d : Disk) (a : List ℕ) (own : Own) (wrote : ℕ) (before : List Event) → Legal d (Act a own wrote ∷ before)
     → (x : Actor) → (after d before).actors a ≡ Some x → (began : ℕ) → x.program ≡ Cleaner began
     → (part : List ℕ) → own.due ≡ needs.File (Unlink (pid_path part))
     → WasOldFile d before a part (after d before).now × ((pid start seq : ℕ) → path (Pid pid start seq) ≡ pid_path part → IsLeftOver (after d before) pid start seq)

@@ -10,23 +10,15 @@ use Rattle.send_runs.specs.Reports.{HasNoReport, WasGiven, WasReported}
 use Rattle.world_events.specs.declared.event.Program.TheVariants.{Sender}
 use Rattle.mail_world.specs.History.{Actor, Event, Legal, after}
 use Rattle.mail_world.specs.History.Event.{Act}
-use Rattle.world_law.specs.Lives.{IsInLife}
+use Rattle.world_law.specs.Lives.{IsInLife, SenderDid}
 
 -- With the newest of these events a sender took a final report of this record of message N: K if it was delivered to; if it failed D, or any letter
 -- but K of a pass that began after the message's lifetime. By its own past it had given a request for this record in the report's slot, and
 -- neither before that event nor among the reports that came with it was another one of that slot taken since.
 pub record IsTaken (d : Disk) (h : List Event) (delivered : Bool) (n : ℕ) (s : Spot) : Type 0 where
-  pub name : List ℕ
-  pub own : Own
-  pub wrote : ℕ
-  pub earlier : List Event
-  pub all : h ≡ Act name own wrote ∷ earlier
-  pub sender : Actor
-  pub is : (after d earlier).actors name ≡ Some sender
-  pub start : ℕ
-  pub program : sender.program ≡ Sender start
-  pub reported : WasReported sender.past own delivered s.channel n s.place
-  pub given : WasGiven s.channel sender.past reported.report.slot reported.task
+  pub event : SenderDid d h
+  pub reported : WasReported event.sender.past event.own delivered s.channel n s.place
+  pub given : WasGiven s.channel event.sender.past reported.report.slot reported.task
   pub first : HasNoReport reported.report.slot reported.earlier
 
 -- so it was in the life of this injection

@@ -1,6 +1,5 @@
 -- What a spawner has in hand, by its own place and whatever has become of the sender, is of messages in S5.
 use Rattle.std.specs.Prelude.{◌≡◌, ℕ, List, [], ◌∷◌, ◌++◌, flat_map, true, Option, Some, None, codes}
-use Rattle.address_rules.specs.declared.controls.Controls.{Controls}
 use Rattle.call_fs.specs.Disk.{Among, Disk}
 use Rattle.call_fs.specs.Maps.{put}
 use Rattle.call_fs.specs.declared.past.GotData.{GotData}
@@ -17,7 +16,6 @@ use Rattle.queue_states.specs.States.{state_of}
 use Rattle.remote_spawn.specs.Table.{place_after as remote_after}
 use Rattle.send_known.specs.declared.channel.Channel.{Channel}
 use Rattle.send_known.specs.declared.channel.Channel.TheVariants as channel
-use Rattle.program_law.specs.Sender.Control.{AreControls}
 use Rattle.spawn_protocol.specs.declared.inbox.Intake.TheVariants as intake
 use Rattle.spawn_protocol.specs.declared.request.Request.{Request}
 use Rattle.spawn_protocol.specs.Request.{request_text}
@@ -74,6 +72,6 @@ pub record HoldsStanding (s : State) (p : Place) (started : ℕ → Option Reque
 
 -- So it is while a spawner lives, the local one and the remote one, also once the sender has ended or was stopped.
 abbrev pub RequestsStand : Type 0
-RequestsStand = (controls : Controls) (d : Disk) (before : List Event) → AreControls controls d → Legal d before → (c : Channel)
+RequestsStand = (d : Disk) (before : List Event) → Legal d before → (c : Channel)
     → (y : Actor) → (after d before).actors (spawner_name c) ≡ Some y → y.life ≡ Alive → IsSpawner c y.program
     → HoldsStanding (after d before) (stands_after c y.past) (started_after c y.past) ((after d before).pipework.pipes (spawner_name c) port.Input).bytes

@@ -1,6 +1,5 @@
 -- What else holds in each state of a legal history: of the numbers that a sender has in hand, of the channel files, and of injectors at work.
 use Rattle.std.specs.Prelude.{◌≡◌, ◌⊎◌, ℕ, List, ◌∷◌, ◌++◌, flat_map, Bool, true, false, Option, Some, None, Contains, codes}
-use Rattle.address_rules.specs.declared.controls.Controls.{Controls}
 use Rattle.call_fs.specs.Disk.{Among, Disk, IsSynced}
 use Rattle.call_fs.specs.declared.calls.CallData.{CallData}
 use Rattle.call_fs.specs.declared.calls.CallData.TheVariants.{Link}
@@ -19,11 +18,11 @@ use Rattle.queue_inject.specs.declared.row.Row.TheVariants as at
 use Rattle.queue_inject.specs.Table.{place_after as inject_after}
 use Rattle.queue_inject.specs.Texts.{intd_text, message_text}
 use Rattle.queue_law.specs.Accounts.{AreOfRecipients}
-use Rattle.queue_law.specs.Books.{Injection}
+use Rattle.queue_law.specs.Books.{Injection, lane_in}
 use Rattle.queue_law.specs.Injectors.{InTime}
 use Rattle.queue_law.specs.Numbers.Role.{AsOld}
 use Rattle.queue_law.specs.Marks.{IsMarked}
-use Rattle.queue_law.specs.Routes.{lane_part, lane_text}
+use Rattle.queue_law.specs.Routes.{lane_part}
 use Rattle.queue_paths.specs.Names.{path, split_text}
 use Rattle.queue_paths.specs.Names.Name.{Of}
 use Rattle.queue_paths.specs.Names.Part.{Intd, Mess, Todo}
@@ -41,7 +40,6 @@ use Rattle.send_jobs.specs.Sending.{lane}
 use Rattle.send_jobs.specs.Slots.{attempt_in}
 use Rattle.send_links.specs.Records.{records_of}
 use Rattle.send_parts.specs.declared.rows.SweepRow.TheVariants.{Give}
-use Rattle.program_law.specs.Sender.Control.{AreControls}
 use Rattle.program_law.specs.Sender.Rows.{IsAged}
 use Rattle.spawn_protocol.specs.declared.inbox.Intake.TheVariants as intake
 use Rattle.spawn_protocol.specs.declared.request.Request.{Request}
@@ -75,23 +73,23 @@ pub record HandsStand (s : State) (d : Desk) : Type 0 where
 
 -- What a living sender has in hand stands.
 abbrev pub HandsAlwaysStand : Type 0
-HandsAlwaysStand = (controls : Controls) (d : Disk) (before : List Event) → AreControls controls d → Legal d before → (a : List ℕ) (x : Actor) → (after d before).actors a ≡ Some x
+HandsAlwaysStand = (d : Disk) (before : List Event) → Legal d before → (a : List ℕ) (x : Actor) → (after d before).actors a ≡ Some x
     → x.life ≡ Alive → (start : ℕ) → x.program ≡ Sender start → HandsStand (after d before) (sender_after None x.past)
 
 -- Channel files
 
 -- A channel file holds the text that preprocessing wrote for these recipients, except that `D` may stand at the place of one that was reported
 -- delivered, or whose note is synced. If it is read as records, then each is that of a recipient, and each recipient of the channel has one.
-pub record HoldsItsRecords (controls : Controls) (i : Injection) (ch : Channel) (bytes : List ℕ) : Type 0 where
-  pub marked : IsMarked (lane_text controls i.args ch) i.ledger ch bytes
-  pub routed : (records : List Record) → records_of bytes ≡ Some records → AreOfRecipients controls i ch records
+pub record HoldsItsRecords (i : Injection) (ch : Channel) (bytes : List ℕ) : Type 0 where
+  pub marked : IsMarked (lane_in i ch) i.ledger ch bytes
+  pub routed : (records : List Record) → records_of bytes ≡ Some records → AreOfRecipients i ch records
 
 -- After todo is gone so does each channel file, for the recipients of the accepted injection of its number that go to that channel, with their
 -- routed addresses.
 abbrev pub RecordsAreRouted : Type 0
-RecordsAreRouted = (controls : Controls) (d : Disk) (before : List Event) → AreControls controls d → Legal d before → (n : ℕ) → in_todo (parts_of (after d before).disk.names n) ≡ None
+RecordsAreRouted = (d : Disk) (before : List Event) → Legal d before → (n : ℕ) → in_todo (parts_of (after d before).disk.names n) ≡ None
     → (ch : Channel) (file : ℕ) → (after d before).disk.names (path (Of (lane_part ch) n)) ≡ Some file
-    → (i : Injection) × ((after d before).books.living n ≡ Some i) × (i.accepted ≡ true) × HoldsItsRecords controls i ch ((after d before).disk.files file).bytes
+    → (i : Injection) × ((after d before).books.living n ≡ Some i) × (i.accepted ≡ true) × HoldsItsRecords i ch ((after d before).disk.files file).bytes
 
 -- Injectors
 
@@ -120,7 +118,7 @@ pub record IsInjecting (s : State) (a : List ℕ) (n : ℕ) : Type 0 where
 
 -- No two injectors are at one number.
 abbrev pub InjectionsAreApart : Type 0
-InjectionsAreApart = (controls : Controls) (d : Disk) (before : List Event) → AreControls controls d → Legal d before → (n : ℕ) (a b : List ℕ)
+InjectionsAreApart = (d : Disk) (before : List Event) → Legal d before → (n : ℕ) (a b : List ℕ)
     → IsInjecting (after d before) a n → IsInjecting (after d before) b n → a ≡ b
 
 -- An injector makes a call within a day and the longest stall of its start.
@@ -139,7 +137,7 @@ pub record AreWhole (d : Disk) (args : Arguments) (n : ℕ) : Type 0 where
 
 -- So they are before an injector makes the link to todo.
 abbrev pub LinksAreOfWholeFiles : Type 0
-LinksAreOfWholeFiles = (controls : Controls) (d : Disk) (a : List ℕ) (own : Own) (wrote : ℕ) (before : List Event) → AreControls controls d → Legal d (Act a own wrote ∷ before)
+LinksAreOfWholeFiles = (d : Disk) (a : List ℕ) (own : Own) (wrote : ℕ) (before : List Event) → Legal d (Act a own wrote ∷ before)
     → (x : Actor) → (after d before).actors a ≡ Some x → (args : Arguments) → x.program ≡ Injector args
     → (n : ℕ) → own.due ≡ needs.File (Link (path (Of Intd n)) (path (Of Todo n))) → AreWhole (after d before).disk args n
 
@@ -150,7 +148,7 @@ IsOut d ch t = ((slot : ℕ) × (attempt_in (lane ch d.slots).slots slot ≡ Som
 -- The attempts that a sender had in flight or still to give are of numbers in S5 also once it has ended or was stopped, until a new generation
 -- starts: so long a spawner may be at work on them.
 abbrev pub FlightsStand : Type 0
-FlightsStand = (controls : Controls) (d : Disk) (before : List Event) → AreControls controls d → Legal d before → (x : Actor) → (after d before).actors (codes "sender") ≡ Some x
+FlightsStand = (d : Disk) (before : List Event) → Legal d before → (x : Actor) → (after d before).actors (codes "sender") ≡ Some x
     → (start : ℕ) → x.program ≡ Sender start → (ch : Channel) (t : Attempt) → IsOut (sender_after None x.past) ch t → state_of (after d before).disk t.n ≡ S5
 
 -- The local spawner
@@ -203,7 +201,7 @@ goes_on row = true
 
 -- So it is while both the sender and the local spawner live, and neither has ended or lost a link.
 abbrev pub RequestsAreOfFlights : Type 0
-RequestsAreOfFlights = (controls : Controls) (d : Disk) (before : List Event) → AreControls controls d → Legal d before
+RequestsAreOfFlights = (d : Disk) (before : List Event) → Legal d before
     → (x : Actor) → (after d before).actors (codes "sender") ≡ Some x → x.life ≡ Alive → (start : ℕ) → x.program ≡ Sender start → is_on (sender_after None x.past).row ≡ true
     → (y : Actor) → (after d before).actors (codes "lspawn") ≡ Some y → y.life ≡ Alive → (begun : ℕ) → y.program ≡ LocalSpawner begun → goes_on (local_after y.past).work.row ≡ true
     → HoldsFlights (after d before) (sender_after None x.past) (local_after y.past).work ((after d before).pipework.pipes (codes "lspawn") port.Input).bytes
@@ -212,6 +210,6 @@ RequestsAreOfFlights = (controls : Controls) (d : Disk) (before : List Event) �
 
 -- A sweep gives the cleaner a message to remove only if its file was written last more than 36 hours ago.
 abbrev pub SweepsAreOld : Type 0
-SweepsAreOld = (controls : Controls) (d : Disk) (a : List ℕ) (own : Own) (wrote : ℕ) (before : List Event) → AreControls controls d → Legal d (Act a own wrote ∷ before)
+SweepsAreOld = (d : Disk) (a : List ℕ) (own : Own) (wrote : ℕ) (before : List Event) → Legal d (Act a own wrote ∷ before)
     → (x : Actor) → (after d before).actors a ≡ Some x → (start : ℕ) → x.program ≡ Sender start
     → (split n : ℕ) → row_now (sender_after None x.past) own.read own.ready ≡ Sweep (Give split n) → IsAged (after d before).now (queue (after d before) (λ i. AsOld)) n

@@ -3,11 +3,12 @@ ghost use Rattle.std.specs.Prelude.{false, true};
 ghost use Rattle.world_law.specs.Bounces.{BouncesAreAccepted, BouncesAreReadLast, ReturnedRecipientsAreNamed};
 ghost use Rattle.world_law.specs.Carried.{DeliveredAreCarried, DeliveriesAreApart, KReportsAreCarried};
 ghost use Rattle.world_law.specs.Deliveries.{DropsAreWhole, ForwardsAreAddressed};
-ghost use Rattle.world_law.specs.Headline.{AttemptsAreSound, Headline, SafeWithoutGenerations, WorldsAreSafe};
+ghost use Rattle.world_law.specs.Headline.{AttemptsAreSound, Headline, WorldsAreSafe};
 ghost use Rattle.world_law.specs.Leaves.{EventsLeave};
 ghost use Rattle.world_law.specs.Laws.{Always, ChildrenKeep, CleanersKeep, DeliveriesKeep, EndsKeep, GenerationsKeep, HaltsKeep, HistoriesAreSafe, InjectorsKeep, InvBegins, LocalsKeep, MomentsKeep, RemotesKeep, ReportsKeep, SendersKeep, StartsKeep, StopsKeep};
 ghost use Rattle.world_law.specs.PidNames.{PidsAreOld};
 ghost use Rattle.world_law.specs.Reported.{LedgersAreOfReports, TakenAreEntered, WereTaken};
+ghost use Rattle.world_law.specs.Routed.{LedgersAreRouted};
 ghost use Rattle.world_law.specs.Spawned.{RequestsStand};
 ghost use Rattle.world_law.specs.Standing.{FlightsStand, HandsAlwaysStand, InjectionsAreApart, InjectionsAreInTime, LinksAreOfWholeFiles, RecordsAreRouted, RequestsAreOfFlights, SweepsAreOld};
 ghost use Rattle.world_law.specs.UnderWay.{CommandsRest};
@@ -91,15 +92,10 @@ pub fn histories_are_safe()
 {}
 
 /// The promise of the queue holds after each prefix of a legal history, however the calls interleave and wherever a program or the
-/// machine stops: no accepted message is lost, each attempt is sound, each recipient that was returned is named in an accepted bounce,
+/// machine stops, whatever the control files say: no accepted message is lost, each attempt is sound, each recipient that was returned is named in an accepted bounce,
 /// and each local delivery whose success was reported was carried out.
 pub fn headline()
     ensures { Headline }
-{}
-
-/// If no generation was started that holds whatever the control files are.
-pub fn safe_without_generations()
-    ensures { SafeWithoutGenerations }
 {}
 
 /// So is each prefix of what happened in a world, by what its disk tells.
@@ -186,6 +182,11 @@ pub fn taken_have_failed()
 /// So what the ledger of a message has of its recipients is just what the reports say that senders took in the life of the message.
 pub fn ledgers_are_of_reports()
     ensures { LedgersAreOfReports }
+{}
+
+/// And each is routed, and names its recipients, by the controls of the senders that last asked for it in that life.
+pub fn ledgers_are_routed()
+    ensures { LedgersAreRouted }
 {}
 
 /// Of a local delivery that ended with 0 the injection of its forwards was accepted: it is from whom the delivery forwards, to just

@@ -5,15 +5,15 @@
 //! # What is claimed
 //!
 //! - What holds of the whole system (`Inv`): what holds of the queue; each member of a generation has the name of
-//!   its program; what each actor relies on by its program (`FaresBy`). The control files were there at the
-//!   beginning and say what the controls say; and of what the sender asks of its cleaner at most one command is
-//!   under way, whose number rests (`ErrandRests`). It holds of each opening disk. By it each state that a legal
-//!   history leads to is safe (`SafeState`): each number is in S1 to S5, and message files are as entered. And each recipient of each
-//!   accepted injection is accounted for by the ledgers (`Accounted` of queue_law). The laws: `inv_begins`,
-//!   `histories_are_safe`.
-//! - What the promise says of recipients is told by what happened, and reads no ledger (`IsAccounted` in
-//!   `specs/Ledger.antt`). It is told by the reports that senders took in the life of the message
-//!   (`specs/Lives.antt`, `specs/Reported.antt`), by what its bounce file held, and by the unlink of that.
+//!   its program; what each actor relies on by its program (`FaresBy`); and of what the sender asks of its cleaner
+//!   at most one command is under way, whose number rests (`ErrandRests`). Nothing of it is said of control files.
+//!   It holds of each opening disk. By it each state that a legal history leads to is safe (`SafeState`): each
+//!   number is in S1 to S5, and message files are as entered. And each recipient of each accepted injection is
+//!   accounted for by the ledgers (`Accounted` of queue_law). The laws: `inv_begins`, `histories_are_safe`.
+//! - What the promise says of recipients is told by what happened (`IsAccounted` in `specs/Ledger.antt`): by the
+//!   reports that senders took in the life of the message (`specs/Lives.antt`, `specs/Reported.antt`), by what its
+//!   bounce file held, and by the unlink of that. A ledger only tells whose controls route the message and name
+//!   its recipients; and each sender's are what it read of the control files (`Promise.controls`).
 //! - A ledger has a recipient as delivered, or as failed, exactly if a sender took a report that says so in the
 //!   life of the message. It had given a request for the recipient's record in a slot, and the next report of that
 //!   slot was final, and said `K`, or not. The laws: `delivered_were_taken`, `failed_were_taken` (by `WereTaken`),
@@ -68,9 +68,10 @@
 //! - The headline: the promise holds of every prefix of such a history, with generations, stops, moments and
 //!   machine stops of any survival among the events. The promise (`Promise`) is that the state is safe and each
 //!   recipient accounted for by what happened (`Safe`), and what is said here of attempts, of reports and of
-//!   deliveries. Each disk has controls (`controls_exist` of
-//!   program_law), so they are no premise. The promise holds too of each prefix of what happened in a world, by what
-//!   its disk tells: the laws `headline`, `worlds_are_safe`.
+//!   deliveries. Nothing is asked of the control files: a message is routed, and its recipients are named, by what
+//!   the sender had read of them that last asked for it in the life of the message, and ledgers have the same: the
+//!   law `ledgers_are_routed`, by `LedgersAreRouted`. The promise holds too of each prefix of what happened in a
+//!   world, by what its disk tells: the laws `headline`, `worlds_are_safe`.
 //! - Whatever a sender gives a spawner in such a history, also if the giving fails, is the request for a record
 //!   that reads `T` in its channel file as it is then. It has the sender of the injection whose life lasts, and is
 //!   for the lowest slot in which nothing is in flight, by the sender's past. By that past its record comes next of
@@ -116,12 +117,9 @@
 //!   names in `pid` that the cleaner takes away, and the files that a local delivery puts into maildirs. An event
 //!   that is neither a sender's nor a cleaner's leaves all that concerns a preprocessed number: the law
 //!   `events_leave`, by `LeavesMost`.
-//! - If no generation was started every prefix of a legal history is safe whatever the control files are: the law
-//!   `safe_without_generations`.
-//! - Each prefix of what happened in a world is safe, with generations too, with the controls of its opening disk;
-//!   and if no generation was started, whatever controls are meant, and each accepted message waits in todo. Each
-//!   world whose disk tells has a history that led to it from some disk, of which all of this holds if that disk is
-//!   an opening one: `each_world_is_safe`: `safe`, `alone`, `waiting`, `happened`.
+//! - Each prefix of what happened in a world is safe, with generations too; and if no generation was started, each
+//!   accepted message waits in todo. Each world whose disk tells has a history that led to it from some disk, of
+//!   which all of this holds if that disk is an opening one: `each_world_is_safe`: `safe`, `waiting`, `happened`.
 #![tactic(auto)]
 
 mod laws;
@@ -135,8 +133,8 @@ pub use laws::{
     histories_are_safe, injections_are_apart, injections_are_in_time, injectors_keep, inv_begins,
     k_reports_are_carried, ledgers_are_of_reports, links_are_of_whole_files, locals_keep,
     moments_keep, pids_are_old, records_are_routed, remotes_keep, reports_keep,
-    requests_are_of_flights, requests_stand, returned_recipients_are_named,
-    safe_without_generations, senders_keep, starts_keep, stops_keep, sweeps_are_old,
-    taken_are_delivered, taken_have_failed, worlds_are_safe,
+    requests_are_of_flights, requests_stand, returned_recipients_are_named, senders_keep,
+    starts_keep, stops_keep, sweeps_are_old, taken_are_delivered, taken_have_failed,
+    worlds_are_safe,
 };
 pub use worlds::each_world_is_safe;

@@ -56,7 +56,7 @@ attempt_there n dying (s ∷ rs) r w unmade = ⊎_elim
 -- Places of records
 
 -- at least this place, and each after the one before
-abbrev Rises : ℕ → List Record → Type 0
+abbrev pub Rises : ℕ → List Record → Type 0
 Rises k [] = Unit {0}
 Rises k (r ∷ rs) = (k ≤ r.place) × Rises (r.place + 1) rs
 
@@ -64,7 +64,7 @@ rises_from : (j k : ℕ) (rs : List Record) → j ≤ k → Rises k rs → Rises
 rises_from j k [] le h = tt
 rises_from j k (r ∷ rs) le h = let low = h.0 in (omega (arith, low, le), h.1)
 
-abbrev Placed : ℕ → List Record → Type 0
+abbrev pub Placed : ℕ → List Record → Type 0
 Placed k rs = (before rest : List Record) (it : Record) → rs ≡ before ++ it ∷ rest → it.place ≡ k + length (flat_map text_of before)
 
 placed_tail : (k : ℕ) (r : Record) (rs : List Record) → Placed k (r ∷ rs) → Placed (k + length (text_of r)) rs
@@ -73,7 +73,7 @@ placed_tail k r rs h before rest it e =
     let sum = length-append (text_of r) (flat_map text_of before) in
     omega arith
 
-rises : (k : ℕ) (rs : List Record) → Placed k rs → Rises k rs
+pub rises : (k : ℕ) (rs : List Record) → Placed k rs → Rises k rs
 rises k [] h = tt
 rises k (r ∷ rs) h =
     let here = h [] rs r refl in

@@ -9,7 +9,7 @@ use Rattle.call_fs.specs.declared.modes.Mode.{Mode}
 use Rattle.call_fs.specs.Disk.{Open as OpenFile}
 use Rattle.queue_paths.specs.Names.{Part}
 use Rattle.queue_paths.specs.Names.Name.{Of}
-use Rattle.queue_paths.specs.Names.Part.{Bounce, Info, Mess}
+use Rattle.queue_paths.specs.Names.Part.{Bounce, Mess}
 use Rattle.queue_paths.specs.Parts.{in_todo}
 use Rattle.send_known.specs.declared.known.Known.{Known}
 use Rattle.send_known.specs.Known.{sender_of}
@@ -25,7 +25,7 @@ use Rattle.queue_law.specs.Ready.{IsSpent}
 use Rattle.queue_law.specs.Rests.{RestsAs, Spares}
 use Rattle.queue_law.specs.Steps.{Elsewhere}
 use Rattle.queue_law.proofs.Rests.{closed_later}
-use Rattle.program_law.specs.Sender.Rows.{FinishStands, IsAged, HasMade, HasNotesRead, HasText, IsReadIn, ReturnHolds, SweepStands}
+use Rattle.program_law.specs.Sender.Rows.{FinishStands, IsAged, HasMade, HasNotesRead, HasText, HasFile, IsReadIn, ReturnHolds, SweepStands}
 use Rattle.program_law.specs.Sender.Points.{PointsAreLeftAlone, Spared, number_in}
 
 spent_spared : (now : ℕ) (k : Option ℕ) (q r : Queue) → Spares now k q r → (n : ℕ) → k ≢ Some n → RestsAs now q n IsSpent → RestsAs now r n IsSpent
@@ -52,19 +52,23 @@ module _ (controls : Controls) (a : List ℕ) (q r : Queue) (n : ℕ) (same : ab
   open_kept : (fd : ℕ) → HasOpen q a fd → HasOpen r a fd
   open_kept fd h = (h.0, opens fd h.0 h.1)
 
+  file_kept : (part : Part) (fd : ℕ) → HasFile q a part n how.Read fd → HasFile r a part n how.Read fd
+  file_kept part fd h = record { file = h.file; there = part_kept part ∙ h.there; opened = opens fd (record { number = h.file.number; mode = Mode.Opened how.Read }) h.opened }
+
   read_kept : (part : Part) (fd : ℕ) (text : List ℕ) → IsReadIn q a part n fd text → IsReadIn r a part n fd text
+  unfolding file_kept
   read_kept part fd text h = record {
-    held = record { file = h.held.file; there = part_kept part ∙ h.held.there; opened = opens fd (record { number = h.held.file.number; mode = Mode.Opened how.Read }) h.held.opened };
+    held = file_kept part fd h.held;
     begins = h.begins;
   }
 
   return_kept : (row : ReturnRow) (it : Returning) (sender : List ℕ) → ReturnHolds controls q a row it n sender → ReturnHolds controls r a row it n sender
   return_kept back.Open it sender h = absurd h
   return_kept (back.ReadNotes fd) it sender h = (read_kept Bounce fd.0 it.notes h.0, h.1)
-  return_kept (back.CloseNotes fd) it sender h = (open_kept fd.0 h.0, (text_kept Bounce it.notes h.1.0, h.1.1))
-  return_kept back.OpenMessage it sender h = (subst (λ (w : About). HasNotesRead w it.notes) (sym same) h.0, h.1)
-  return_kept (back.ReadMessage fd) it sender h = (subst (λ (w : About). HasNotesRead w it.notes) (sym same) h.0, read_kept Mess fd.0 it.message h.1)
-  return_kept (back.CloseMessage fd) it sender h = (subst (λ (w : About). HasNotesRead w it.notes) (sym same) h.0, (open_kept fd.0 h.1.0, text_kept Mess it.message h.1.1))
+  return_kept (back.CloseNotes fd) it sender h = (file_kept Bounce fd.0 h.0, (text_kept Bounce it.notes h.1.0, h.1.1))
+  return_kept back.OpenMessage it sender h = (subst (λ (w : About). HasNotesRead controls w it.notes) (sym same) h.0, h.1)
+  return_kept (back.ReadMessage fd) it sender h = (subst (λ (w : About). HasNotesRead controls w it.notes) (sym same) h.0, read_kept Mess fd.0 it.message h.1)
+  return_kept (back.CloseMessage fd) it sender h = (subst (λ (w : About). HasNotesRead controls w it.notes) (sym same) h.0, (open_kept fd.0 h.1.0, text_kept Mess it.message h.1.1))
   return_kept (back.Shut fd) it sender h = open_kept fd.0 h
   return_kept back.Start it sender h = subst (λ (w : About). HasMade controls w sender it.input) (sym same) h
   return_kept (back.Give pid) it sender h = subst (λ (w : About). HasMade controls w sender it.input) (sym same) h

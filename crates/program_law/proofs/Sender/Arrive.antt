@@ -4,7 +4,6 @@ use Rattle.std.specs.Prelude.{All, Contains, ◌||◌, not, if◌then◌else◌,
 use Rattle.std.specs.Option.{option_map}
 use Rattle.std.proofs.lemmas.Bool.{and_parts, leb-true}
 use Rattle.std.proofs.lemmas.List.Elements.{All-head, All-weaker}
-use Rattle.address_rules.specs.declared.controls.Controls.{Controls}
 use Rattle.call_fs.specs.declared.program.Ready.{Ready}
 use Rattle.mail_bytes.specs.Moments.{IsMoment}
 use Rattle.retry_schedule.specs.Due.{first_due}
@@ -115,9 +114,9 @@ found p (k ∷ ks) n e = by_test (found p ks n) (p k) refl e
     by_test more true t eq = (k, at_head k ks, some_same k.n n eq, t)
     by_test more false t eq = let w = more eq in (w.0, in_tail k w.0 ks w.1, w.2, w.3)
 
-module _ (controls : Controls) (now read : ℕ) (q : Queue) (a : List ℕ) (not_later : read ≤ now) (told : IsMoment read) where
-  at_row : (p : Point) (b : Book) (s : Slots) (pass : Works) → Stands controls now q a (at.Turn p) b s pass
-      → (row : Row) → IsPlain row → RowStands controls now q a row b s pass → Stands controls now q a row b s pass
+module _ (now read : ℕ) (q : Queue) (a : List ℕ) (not_later : read ≤ now) (told : IsMoment read) where
+  at_row : (p : Point) (b : Book) (s : Slots) (pass : Works) → Stands now q a (at.Turn p) b s pass
+      → (row : Row) → IsPlain row → RowStands now q a row b s pass → Stands now q a row b s pass
   at_row p b s pass h row plain rests = record {
     knows = record {
       known = All-weaker (λ (k : Known). Knows (at.Turn p) (about q k.n) k) (λ (k : Known). Knows row (about q k.n) k) (λ k. known_on p row (about q k.n) k)
@@ -130,13 +129,13 @@ module _ (controls : Controls) (now read : ℕ) (q : Queue) (a : List ℕ) (not_
       marks = subst (λ (f : First). All (λ (m : Mark). IsEntered (about q m.attempt.n) ch m) (waiting f (lane ch s).marks)) (sym (plain.first ch)) l.marks;
     };
     apart = h.apart;
-    controls_are = λ _. h.controls_are tt;
+    no_nul = λ _. h.no_nul tt;
     rests = rests;
   }
 
-  module _ (d : Desk) (ready : Ready) (p : Point) (h : Stands controls now q a (at.Turn p) d.book d.slots (works d)) where
+  module _ (d : Desk) (ready : Ready) (p : Point) (h : Stands now q a (at.Turn p) d.book d.slots (works d)) where
     abbrev Good : Row → Type 0
-    Good row = IsPlain row × RowStands controls now q a row d.book d.slots (works d)
+    Good row = IsPlain row × RowStands now q a row d.book d.slots (works d)
 
     abbrev GoodIf : Option Row → Type 0
     GoodIf None = Unit {0}
@@ -238,8 +237,8 @@ module _ (controls : Controls) (now read : ℕ) (q : Queue) (a : List ℕ) (not_
     point_good point.Finish r = or_good (finishing d read) (from_sweep d read ready) (finish_good r (next_idle read d) refl) (λ _. from_sweep_good r)
     point_good point.Sweep r = from_sweep_good r
 
-  arrived_at : (row : Row) (d : Desk) (ready : Ready) → Stands controls now q a row d.book d.slots (works d)
-      → Stands controls now q a (arrive row d read ready) d.book d.slots (works d)
+  arrived_at : (row : Row) (d : Desk) (ready : Ready) → Stands now q a row d.book d.slots (works d)
+      → Stands now q a (arrive row d read ready) d.book d.slots (works d)
   arrived_at (at.Turn p) d ready h = let g = point_good d ready p h p h.rests in at_row p d.book d.slots (works d) h (from_point p d read ready) g.0 g.1
   arrived_at (at.Start row) d ready h = h
   arrived_at (at.TakeLink c) d ready h = h
@@ -253,5 +252,5 @@ module _ (controls : Controls) (now read : ℕ) (q : Queue) (a : List ℕ) (not_
   arrived_at (at.Sweep row) d ready h = h
   arrived_at (at.Ended status) d ready h = h
 
-  pub arrived : (d : Desk) (ready : Ready) → SenderStands controls now q a d → StandsAt controls now q a (arrive d.row d read ready) d
+  pub arrived : (d : Desk) (ready : Ready) → SenderStands now q a d → StandsAt now q a (arrive d.row d read ready) d
   arrived d ready h = arrived_at d.row d ready h

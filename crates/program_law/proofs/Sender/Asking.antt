@@ -2,7 +2,6 @@
 use Rattle.std.proofs.Common.{◌≡◌, ℕ, ◌≤◌, List, [], ◌∷◌, ◌==◌, Bool, true, false, Option, Some, None, option_map, refl, sym, ap, ◌∙◌, subst, arith, eqb-true, eq-eqb}
 use Rattle.std.specs.Prelude.{All, Contains}
 use Rattle.std.proofs.lemmas.List.Elements.{All-head, All-tail}
-use Rattle.address_rules.specs.declared.controls.Controls.{Controls}
 use Rattle.bounce_record.specs.declared.note_row.NoteRow.{NoteRow}
 use Rattle.bounce_record.specs.declared.note_row.NoteRow.TheVariants as written
 use Rattle.bounce_record.specs.declared.return_row.ReturnRow.{ReturnRow}
@@ -141,18 +140,18 @@ enters : (q : Queue) (n : ℕ) (line : Line) (d : Desk) → TextsStand q d → T
 enters q n line d h = on_queue q (entered_queue q n line) d (λ ch a sender _ w. entered_sender q n line a.n sender w) h
 
 -- an attempt that is still to be given is at a message that is preprocessed
-left_serves : (controls : Controls) (now : ℕ) (q : Queue) (a : List ℕ) (d : Desk) → SenderStands controls now q a d → (ch : Channel) (t : Attempt)
+left_serves : (now : ℕ) (q : Queue) (a : List ℕ) (d : Desk) → SenderStands now q a d → (ch : Channel) (t : Attempt)
     → Contains (lane ch d.slots).left t → IsSettledIn (about q t.n)
-left_serves controls now q a d h ch t w =
+left_serves now q a d h ch t w =
     let l = h.lanes ch in
     let one = contained_counts (is_at t.n t.place) (lane ch d.slots).left t w (at_itself t) in
     let held : 1 ≤ in_hand (first_at d.row ch) t.n t.place (lane ch d.slots) = omega (arith, one) in
     let job = the_job (job_of t.n (lane ch d.slots).jobs) (l.tied.owned t.n t.place held) in
     (l.jobs t.n job.0 job.1).sorted
 
-others : (controls : Controls) (now : ℕ) (q r : Queue) (a : List ℕ) (d : Desk) → SparesSorted q r → SenderStands controls now q a d → TextsStand q d → TextsStand r d
-others controls now q r a d spares stands h = on_queue q r d (λ ch t sender w who.
-    let same : about r t.n ≡ about q t.n = same_about q r spares t.n (left_serves controls now q a d stands ch t w) in
+others : (now : ℕ) (q r : Queue) (a : List ℕ) (d : Desk) → SparesSorted q r → SenderStands now q a d → TextsStand q d → TextsStand r d
+others now q r a d spares stands h = on_queue q r d (λ ch t sender w who.
+    let same : about r t.n ≡ about q t.n = same_about q r spares t.n (left_serves now q a d stands ch t w) in
     (who.0, ap (λ (z : About). z.living) same ∙ who.1, who.2)) h
 
 -- A sender that begins
@@ -177,7 +176,7 @@ begins q turns = record { texts = none; first = idle; due = nothing; reads = tt 
 
 -- Each row
 
--- what a past has to tell of a desk, as the desk has it: the births of its messages, and its controls
+-- what a past has to tell of a desk, as the desk has it: the births of its messages, and its
 abbrev facts_of : Desk → Facts
 facts_of d = record { letter = None; births = record none_born { of = births_in d.book.messages.known }; papers = Told d.book.controls }
 
@@ -235,8 +234,8 @@ module _ (q : Queue) (d : Desk) (h : TextsStand q d) where
   arrives_known read found (at.Sweep row) w = w
   arrives_known read found (at.Ended status) w = w
 
-  module _ (controls : Controls) (now : ℕ) (a : List ℕ) where
-    none_left : (row : StartRow) → StandsAt controls now q a (at.Start row) d → HasNoneLeft (SenderIs q) row d
+  module _ (now : ℕ) (a : List ℕ) where
+    none_left : (row : StartRow) → StandsAt now q a (at.Start row) d → HasNoneLeft (SenderIs q) row d
     none_left (start.GreetRemote limit) w =
         let l = w.lanes Local in
         let r = w.lanes Remote in
@@ -255,7 +254,7 @@ module _ (q : Queue) (d : Desk) (h : TextsStand q d) where
     none_left start.Over w = tt
     none_left (start.Ended status) w = tt
 
-    at_row : (row : Row) (read : ℕ) (came : GotData) → StandsAt controls now q a row d → IsKnownAt row d.book.messages.known → Then (SenderIs q) (act row read came d)
+    at_row : (row : Row) (read : ℕ) (came : GotData) → StandsAt now q a row d → IsKnownAt row d.book.messages.known → Then (SenderIs q) (act row read came d)
     at_row (at.Start row) read came w known = started_then (SenderIs q) row (said came) d (none_left row w) kept
     at_row (at.Turn p) read came w known = (kept, h.reads)
     at_row (at.TakeLink c) read came w known = took_then (SenderIs q) (facts_of d) (said came).way (said came).bytes c d (base (at.TakeLink c) (λ n x. x) w.knows)
@@ -301,21 +300,21 @@ is_ready q d t = record { texts = texts; first = first; due = due; reads = t.1 }
   due Local n e = t.0.1.0 n e
   due Remote n e = t.0.1.1 n e
 
-goes_on : (controls : Controls) (now : ℕ) (q : Queue) (a : List ℕ) (d : Desk) (read : ℕ) (found : Ready) (came : GotData) → read ≤ now → IsMoment read
-    → SenderStands controls now q a d → TextsStand q d → TextsStand q (moved_by (row_now d read found) read came d)
-goes_on controls now q a d read found came soon moment stands h =
+goes_on : (now : ℕ) (q : Queue) (a : List ℕ) (d : Desk) (read : ℕ) (found : Ready) (came : GotData) → read ≤ now → IsMoment read
+    → SenderStands now q a d → TextsStand q d → TextsStand q (moved_by (row_now d read found) read came d)
+goes_on now q a d read found came soon moment stands h =
     let row = row_now d read found in
-    is_ready q (act row read came d) (at_row q d h controls now a row read came (arrived controls now read q a soon moment d found stands) (arrives_known q d h read found d.row h.reads))
+    is_ready q (act row read came d) (at_row q d h now a row read came (arrived now read q a soon moment d found stands) (arrives_known q d h read found d.row h.reads))
 
 pub texts_keep : TextsKeep
 texts_keep = record { begins = begins; goes_on = goes_on; enters = enters; others = others }
 
 -- What is given
 
-module _ (controls : Controls) (now : ℕ) (q : Queue) (a : List ℕ) (d : Desk) (h : TextsStand q d) where
-  request_for : (ch : Channel) (text : List ℕ) → StandsAt controls now q a (at.Request ch) d → first_text (link ch d).requests ≡ text → IsRequestFor q ch d text
+module _ (now : ℕ) (q : Queue) (a : List ℕ) (d : Desk) (h : TextsStand q d) where
+  request_for : (ch : Channel) (text : List ℕ) → StandsAt now q a (at.Request ch) d → first_text (link ch d).requests ≡ text → IsRequestFor q ch d text
   request_for ch text w is =
-      let asked = (requests controls now q a ch d 0 came.End w).asked in
+      let asked = (requests now q a ch d 0 came.End w).asked in
       let slot = the (lowest (lane ch d.slots).slots) w.rests.1.1 in
       let ready : addressed (Some slot.0) (link ch d).requests ≡ (link ch d).requests = subst (λ (o : Option ℕ). addressed o (link ch d).requests ≡ (link ch d).requests) slot.1 (h.first ch) in
       let t = asked_first (SenderIs q) slot.0 asked.attempt (link ch d).requests (lane ch d.slots).left (all_asked q (link ch d).requests (lane ch d.slots).left (h.texts ch)) asked.next_is ready in
@@ -457,10 +456,10 @@ same_request Local Remote d text e = absurd (cc)
 same_request Remote Local d text e = absurd (cc)
 
 pub requests_are_texts : RequestsAreTexts
-requests_are_texts controls now q a d read found ch text soon moment stands h due =
-    by_request d (λ (row : Row). StandsAt controls now q a row d → due_at row d ≡ needs.Give (port_of ch) text → IsRequestFor q ch d text)
+requests_are_texts now q a d read found ch text soon moment stands h due =
+    by_request d (λ (row : Row). StandsAt now q a row d → due_at row d ≡ needs.Give (port_of ch) text → IsRequestFor q ch d text)
     (λ c w e.
     let same = same_request c ch d text e in
-    request_for controls now q a d h ch text (subst (λ (x : Channel). StandsAt controls now q a (at.Request x) d) same.0 w) (subst (λ (x : Channel). first_text (link x d).requests ≡ text) same.0 same.1))
+    request_for now q a d h ch text (subst (λ (x : Channel). StandsAt now q a (at.Request x) d) same.0 w) (subst (λ (x : Channel). first_text (link x d).requests ≡ text) same.0 same.1))
     (λ row none w e. absurd (none_given ch text (due_at row d) e none))
-    (row_now d read found) (arrived controls now read q a soon moment d found stands) due
+    (row_now d read found) (arrived now read q a soon moment d found stands) due

@@ -2,7 +2,6 @@
 use Rattle.std.proofs.Common.{◌≡◌, ℕ, List, [], Option, Some, refl, arith}
 use Rattle.std.specs.Prelude.{All, IfSome, IsSome}
 use Rattle.std.proofs.lemmas.List.Elements.{All-nil}
-use Rattle.address_rules.specs.declared.controls.Controls.{Controls}
 use Rattle.send_core.specs.Desk.{due_on, never}
 use Rattle.send_core.specs.Table.{begun}
 use Rattle.send_jobs.specs.declared.attempts.Mark.{Mark}
@@ -35,8 +34,8 @@ none_tied files = record {
   accounted = λ n job e. absurd (cc);
 }
 
-module _ (controls : Controls) (now : ℕ) (q : Queue) (a : List ℕ) (turns : Option ℕ) where
-  pub begins : SenderStands controls now q a (begun turns)
+module _ (now : ℕ) (q : Queue) (a : List ℕ) (turns : Option ℕ) where
+  pub begins : SenderStands now q a (begun turns)
   begins = record {
     knows = record {
       known = All-nil (λ (k : Known). Knows (begun turns).row (about q k.n) k);
@@ -44,7 +43,7 @@ module _ (controls : Controls) (now : ℕ) (q : Queue) (a : List ℕ) (turns : O
     };
     lanes = λ ch. on_lane ch;
     apart = λ ch. none_apart ch;
-    controls_are = λ h. absurd h;
+    no_nul = λ h. absurd h;
     rests = (λ ch. bare ch, (λ ch. no_jobs ch, tt));
   }
     where

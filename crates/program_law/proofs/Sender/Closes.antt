@@ -1,6 +1,5 @@
 -- The number that an event of a sender concerns is one that no injector touches any more.
 use Rattle.std.proofs.Common.{◌≡◌, inr, ℕ, Option, Some, None, subst}
-use Rattle.address_rules.specs.declared.controls.Controls.{Controls}
 use Rattle.send_known.specs.declared.channel.Channel.{Channel}
 use Rattle.queue_law.specs.Numbers.{IsTaken, Queue, Sound, about}
 use Rattle.queue_law.specs.Rests.{IsClosed}
@@ -14,13 +13,13 @@ pub one_closed : (now : ℕ) (q : Queue) (m : ℕ) → IsClosed now q m → (n :
 one_closed now q m c n e = let same : m ≡ n = cc in subst (IsClosed now q) same c
 
 -- a number whose message is accepted, while that is there
-pub taken_closed : (controls : Controls) (now : ℕ) (q : Queue) (n : ℕ) → IsTaken controls (about q n) → IsClosed now q n
-taken_closed controls now q n h = record {
+pub taken_closed : (now : ℕ) (q : Queue) (n : ℕ) → IsTaken (about q n) → IsClosed now q n
+taken_closed now q n h = record {
   mess = h.mess;
   there = h.mess_there;
   shut = inr (record { injection = h.injection; lives = h.lives; accepted = h.accepted });
 }
 
 -- a preprocessed number, of which a channel file is there
-pub lane_closed : (controls : Controls) (now : ℕ) (q : Queue) (n : ℕ) (ch : Channel) → Sound controls q → HasLane (about q n) ch → IsClosed now q n
-lane_closed controls now q n ch G l = taken_closed controls now q n (sorted_of_lane controls (about q n) ch (G.fine n) l).taken
+pub lane_closed : (now : ℕ) (q : Queue) (n : ℕ) (ch : Channel) → Sound q → HasLane (about q n) ch → IsClosed now q n
+lane_closed now q n ch G l = taken_closed now q n (sorted_of_lane (about q n) ch (G.fine n) l).taken

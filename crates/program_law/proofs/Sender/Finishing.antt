@@ -1,9 +1,9 @@
 -- The events of a finish, over all that the sender relies on.
+use Rattle.address_rules.specs.Nuls.{HaveNoNul}
 use Rattle.std.proofs.Common.{◌≡◌, ◌≢◌, ℕ, List, get_or, true, false, Option, Some, None, refl, sym, subst}
 use Rattle.std.specs.Prelude.{All, position}
 use Rattle.std.proofs.lemmas.List.Elements.{All-contains, All-set, All-weaker}
 use Rattle.std.proofs.lemmas.List.Quantifiers.{position-Some}
-use Rattle.address_rules.specs.declared.controls.Controls.{Controls}
 use Rattle.call_fs.specs.declared.calls.CallData.{CallData}
 use Rattle.call_fs.specs.declared.calls.Told.{Told}
 use Rattle.bounce_record.specs.declared.return_row.ReturnRow.{ReturnRow}
@@ -34,7 +34,7 @@ use Rattle.send_parts.specs.declared.rows.FinishRow.{FinishRow}
 use Rattle.send_parts.specs.declared.rows.FinishRow.TheVariants as finish
 use Rattle.send_parts.specs.Finish.{finish_to, remove_given, removed as gone_row}
 use Rattle.send_parts.specs.Replies.{said}
-use Rattle.queue_law.specs.Books.{Child}
+use Rattle.queue_law.specs.Entered.{Child}
 use Rattle.queue_law.specs.Numbers.{About, Queue, about, Sound}
 use Rattle.queue_law.specs.Routes.{lane_part}
 use Rattle.queue_law.specs.Senders.{called_queue}
@@ -57,32 +57,32 @@ use Rattle.program_law.proofs.Sender.Returns.{finishes_lead, returns_go_on}
 use Rattle.program_law.proofs.Sender.Turning.{past_finish_on}
 
 -- what a sender relies on at a row of a finish
-record AtFinish (controls : Controls) (now : ℕ) (q : Queue) (a : List ℕ) (row : FinishRow) (n : ℕ) (d : Desk) : Type 0 where
+record AtFinish (now : ℕ) (q : Queue) (a : List ℕ) (row : FinishRow) (n : ℕ) (d : Desk) : Type 0 where
   knows : KnowsEach q (at.Finish row n) d.book.messages.known
   due : AllServe q d.book.messages
   lanes : OnBoth q d.slots
   apart : DueApart d.book.messages d.slots
-  controls_are : d.book.controls ≡ controls
+  no_nul : HaveNoNul d.book.controls
   bare : HasNoMarks d.slots
-  rests : FinishStands controls now q a row n d.book.messages.known d.bounce
+  rests : FinishStands d.book.controls now q a row n d.book.messages.known d.bounce
 
-at_finish : (controls : Controls) (now : ℕ) (q : Queue) (a : List ℕ) (row : FinishRow) (n : ℕ) (d : Desk) → StandsAt controls now q a (at.Finish row n) d → AtFinish controls now q a row n d
-at_finish controls now q a row n d h = record {
+at_finish : (now : ℕ) (q : Queue) (a : List ℕ) (row : FinishRow) (n : ℕ) (d : Desk) → StandsAt now q a (at.Finish row n) d → AtFinish now q a row n d
+at_finish now q a row n d h = record {
   knows = h.knows.known;
   due = h.knows.due;
   lanes = λ ch. let l = h.lanes ch in record { tied = l.tied; jobs = l.jobs; marks = l.marks };
   apart = h.apart;
-  controls_are = h.controls_are tt;
+  no_nul = h.no_nul tt;
   bare = h.rests.0;
   rests = h.rests.1;
 }
 
-stands_there : (controls : Controls) (now : ℕ) (q : Queue) (a : List ℕ) (row : FinishRow) (n : ℕ) (d : Desk) → AtFinish controls now q a row n d → StandsAt controls now q a (at.Finish row n) d
-stands_there controls now q a row n d h = record {
+stands_there : (now : ℕ) (q : Queue) (a : List ℕ) (row : FinishRow) (n : ℕ) (d : Desk) → AtFinish now q a row n d → StandsAt now q a (at.Finish row n) d
+stands_there now q a row n d h = record {
   knows = record { known = h.knows; due = h.due };
   lanes = λ ch. let l = h.lanes ch in record { tied = l.tied; jobs = l.jobs; marks = l.marks };
   apart = h.apart;
-  controls_are = λ _. h.controls_are;
+  no_nul = λ _. h.no_nul;
   rests = (h.bare, h.rests);
 }
 
@@ -101,13 +101,13 @@ off_at q n moment ks (Some i) e h =
     let it : IsKnown (about q k.n) k = h i nobody w.0 in
     All-set (λ (x : Known). IsKnown (about q x.n) x) ks i (record k { finish_at = moment }) (record { sorted = it.sorted; sender_is = it.sender_is; gone = gone_still (about q k.n) k moment it }) h
 
-put_off_on : (controls : Controls) (q : Queue) (n moment : ℕ) (d : Desk) → OnDesk controls q d → OnDesk controls q (put_off_to n moment d)
-put_off_on controls q n moment d h = record {
+put_off_on : (q : Queue) (n moment : ℕ) (d : Desk) → OnDesk q d → OnDesk q (put_off_to n moment d)
+put_off_on q n moment d h = record {
   known = off_at q n moment d.book.messages.known (position (is_of n) d.book.messages.known) refl h.known;
   due = λ ch. due_of ch;
   lanes = h.lanes;
   apart = λ ch. apart_of ch;
-  controls_are = h.controls_are;
+  no_nul = h.no_nul;
 }
   where
     due_of : (ch : Channel) → All (λ (e : ℕ × ℕ). Serves (about q e.1) ch) (due_on ch (put_off_to n moment d).book.messages)
@@ -129,14 +129,14 @@ all_known q row n ks stays h = All-weaker (λ (k : Known). Knows (at.Finish row 
 forgot_known : (q : Queue) (n : ℕ) (ks : List Known) → KnowsEach q (at.Finish finish.Take n) ks → All (λ (k : Known). IsKnown (about q k.n) k) (known.forgotten n ks)
 forgot_known q n ks h = all_known q finish.Later n (known.forgotten n ks) (λ m l. l.0) (chores_stand.forgets q (at.Finish finish.Take n) (at.Finish finish.Later n) n ks refl h)
 
-forgot_on : (controls : Controls) (q : Queue) (n : ℕ) (d : Desk) → KnowsEach q (at.Finish finish.Take n) d.book.messages.known → AllServe q d.book.messages → OnBoth q d.slots
-    → DueApart d.book.messages d.slots → d.book.controls ≡ controls → OnDesk controls q (forgot n d)
-forgot_on controls q n d knows due lanes apart same = record {
+forgot_on : (q : Queue) (n : ℕ) (d : Desk) → KnowsEach q (at.Finish finish.Take n) d.book.messages.known → AllServe q d.book.messages → OnBoth q d.slots
+    → DueApart d.book.messages d.slots → HaveNoNul d.book.controls → OnDesk q (forgot n d)
+forgot_on q n d knows due lanes apart same = record {
   known = forgot_known q n d.book.messages.known knows;
   due = λ ch. due_of ch;
   lanes = lanes;
   apart = λ ch. apart_of ch;
-  controls_are = same;
+  no_nul = same;
 }
   where
     due_of : (ch : Channel) → All (λ (e : ℕ × ℕ). Serves (about q e.1) ch) (due_on ch (forgotten n d.book.messages))
@@ -149,18 +149,18 @@ forgot_on controls q n d knows due lanes apart same = record {
 
 -- Where a step leads
 
-module _ (controls : Controls) (now : ℕ) (q : Queue) (a : List ℕ) (n read : ℕ) where
-  later_on : (d : Desk) → AtFinish controls now q a finish.Later n d → SenderStands controls now q a (finish_at finish.Later n read d)
-  later_on d h = past_finish_on controls now q a read (put_off_to n (later read) d)
-      (put_off_on controls q n (later read) d (record {
+module _ (now : ℕ) (q : Queue) (a : List ℕ) (n read : ℕ) where
+  later_on : (d : Desk) → AtFinish now q a finish.Later n d → SenderStands now q a (finish_at finish.Later n read d)
+  later_on d h = past_finish_on now q a read (put_off_to n (later read) d)
+      (put_off_on q n (later read) d (record {
         known = all_known q finish.Later n d.book.messages.known (λ m l. l.0) h.knows;
         due = h.due;
         lanes = h.lanes;
         apart = h.apart;
-        controls_are = h.controls_are;
+        no_nul = h.no_nul;
       })) h.bare
 
-  lost_on : (row : FinishRow) (d : Desk) → AtFinish controls now q a row n d → SenderStands controls now q a (finish_at finish.Lost n read d)
+  lost_on : (row : FinishRow) (d : Desk) → AtFinish now q a row n d → SenderStands now q a (finish_at finish.Lost n read d)
   lost_on row d h = record {
     knows = record {
       known = All-weaker (λ (k : Known). Knows (at.Finish row n) (about q k.n) k) (λ (k : Known). Knows (at.Ended 81) (about q k.n) k) (λ k _. Leaves tt) d.book.messages.known h.knows;
@@ -168,35 +168,35 @@ module _ (controls : Controls) (now : ℕ) (q : Queue) (a : List ℕ) (n read : 
     };
     lanes = λ ch. let l = h.lanes ch in record { tied = l.tied; jobs = l.jobs; marks = l.marks };
     apart = h.apart;
-    controls_are = λ _. h.controls_are;
+    no_nul = λ _. h.no_nul;
     rests = tt;
   }
 
   forgets_at : (d : Desk) → KnowsEach q (at.Finish finish.Take n) d.book.messages.known → AllServe q d.book.messages → OnBoth q d.slots → DueApart d.book.messages d.slots
-      → d.book.controls ≡ controls → HasNoMarks d.slots → SenderStands controls now q a (finish_at finish.Over n read d)
-  forgets_at d knows due lanes apart same bare = past_finish_on controls now q a read (forgot n d) (forgot_on controls q n d knows due lanes apart same) bare
+      → HaveNoNul d.book.controls → HasNoMarks d.slots → SenderStands now q a (finish_at finish.Over n read d)
+  forgets_at d knows due lanes apart same bare = past_finish_on now q a read (forgot n d) (forgot_on q n d knows due lanes apart same) bare
 
-  over_on : (d : Desk) → AtFinish controls now q a finish.Over n d → SenderStands controls now q a (finish_at finish.Over n read d)
+  over_on : (d : Desk) → AtFinish now q a finish.Over n d → SenderStands now q a (finish_at finish.Over n read d)
   over_on d h = forgets_at d
       (All-weaker (λ (k : Known). Knows (at.Finish finish.Over n) (about q k.n) k) (λ (k : Known). Knows (at.Finish finish.Take n) (about q k.n) k) (λ k w. still k w) d.book.messages.known h.knows)
-      h.due h.lanes h.apart h.controls_are h.bare
+      h.due h.lanes h.apart h.no_nul h.bare
     where
       still : (k : Known) → Knows (at.Finish finish.Over n) (about q k.n) k → Knows (at.Finish finish.Take n) (about q k.n) k
       still k (Stays it) = Stays it
       still k (Leaves l) = absurd l.0
 
-  next_leads : (row : FinishRow) (d : Desk) → AtFinish controls now q a row n d → SenderStands controls now q a (finish_at row n read d)
-  next_leads finish.OpenBounce d h = stands_there controls now q a finish.OpenBounce n d h
-  next_leads finish.Return d h = stands_there controls now q a finish.Return n d h
-  next_leads finish.UnlinkInfo d h = stands_there controls now q a finish.UnlinkInfo n d h
-  next_leads finish.Give d h = stands_there controls now q a finish.Give n d h
-  next_leads finish.Take d h = stands_there controls now q a finish.Take n d h
+  next_leads : (row : FinishRow) (d : Desk) → AtFinish now q a row n d → SenderStands now q a (finish_at row n read d)
+  next_leads finish.OpenBounce d h = stands_there now q a finish.OpenBounce n d h
+  next_leads finish.Return d h = stands_there now q a finish.Return n d h
+  next_leads finish.UnlinkInfo d h = stands_there now q a finish.UnlinkInfo n d h
+  next_leads finish.Give d h = stands_there now q a finish.Give n d h
+  next_leads finish.Take d h = stands_there now q a finish.Take n d h
   next_leads finish.Later d h = later_on d h
   next_leads finish.Over d h = over_on d h
   next_leads finish.Lost d h = lost_on finish.Lost d h
 
-  taken_leads : (w : Way) (d : Desk) → AtFinish controls now q a finish.Take n d → SenderStands controls now q a (finish_at (gone_row w) n read d)
-  taken_leads way.Fine d h = forgets_at d h.knows h.due h.lanes h.apart h.controls_are h.bare
+  taken_leads : (w : Way) (d : Desk) → AtFinish now q a finish.Take n d → SenderStands now q a (finish_at (gone_row w) n read d)
+  taken_leads way.Fine d h = forgets_at d h.knows h.due h.lanes h.apart h.no_nul h.bare
   taken_leads way.Over d h = lost_on finish.Take d h
   taken_leads way.Absent d h = lost_on finish.Take d h
   taken_leads way.NoMemory d h = lost_on finish.Take d h
@@ -206,14 +206,14 @@ module _ (controls : Controls) (now : ℕ) (q : Queue) (a : List ℕ) (n read : 
   given k (Stays it) = Stays it
   given k (Leaves l) = Leaves (tt, l.1)
 
-  given_leads : (w : Way) (d : Desk) → AtFinish controls now q a finish.Give n d → SenderStands controls now q a (finish_at (remove_given w) n read d)
-  given_leads way.Fine d h = stands_there controls now q a finish.Take n d (record {
+  given_leads : (w : Way) (d : Desk) → AtFinish now q a finish.Give n d → SenderStands now q a (finish_at (remove_given w) n read d)
+  given_leads way.Fine d h = stands_there now q a finish.Take n d (record {
     knows = All-weaker (λ (k : Known). Knows (at.Finish finish.Give n) (about q k.n) k) (λ (k : Known). Knows (at.Finish finish.Take n) (about q k.n) k) (λ k w. given k w)
         d.book.messages.known h.knows;
     due = h.due;
     lanes = h.lanes;
     apart = h.apart;
-    controls_are = h.controls_are;
+    no_nul = h.no_nul;
     bare = h.bare;
     rests = h.rests.0;
   })
@@ -232,64 +232,64 @@ unserved q n ks h idle ch s =
     absurd (cc)
 
 -- what a step of a finish leads to, with another return
-module _ (controls : Controls) (now : ℕ) (q : Queue) (a : List ℕ) (row : FinishRow) (n : ℕ) (d : Desk) (h : StandsAt controls now q a (at.Finish row n) d)
+module _ (now : ℕ) (q : Queue) (a : List ℕ) (row : FinishRow) (n : ℕ) (d : Desk) (h : StandsAt now q a (at.Finish row n) d)
     (stays : (m : ℕ) → IsLeaving (at.Finish row n) m → ⊥) (idle : IsIdle n d.book.messages.known) where
   abbrev ks : List Known
   ks = d.book.messages.known
 
-  there : (r : Queue) (next : FinishRow) (back : Returning) → ((m : ℕ) → m ≢ n → about r m ≡ about q m) → FinishStands controls now r a next n ks back
-      → KnowsEach r (at.Finish next n) ks → AtFinish controls now r a next n (record d { bounce = back })
+  there : (r : Queue) (next : FinishRow) (back : Returning) → ((m : ℕ) → m ≢ n → about r m ≡ about q m) → FinishStands d.book.controls now r a next n ks back
+      → KnowsEach r (at.Finish next n) ks → AtFinish now r a next n (record d { bounce = back })
   there r next back same stands knows =
-      let was = at_finish controls now q a row n d h in
+      let was = at_finish now q a row n d h in
       let none = unserved q n ks (all_known q row n ks stays h.knows.known) idle in
       record {
         knows = knows;
         due = due_far q r n same d.book.messages none was.due;
         lanes = λ ch. lane_far q r n same ch (lane ch d.slots) (none ch) (was.lanes ch) (was.bare ch);
         apart = was.apart;
-        controls_are = was.controls_are;
+        no_nul = was.no_nul;
         bare = was.bare;
         rests = stands;
       }
 
-  leads_then : (r : Queue) (next : FinishRow) (back : Returning) → FinishLeads controls now a q r n next ks back → AtFinish controls now r a next n (record d { bounce = back })
+  leads_then : (r : Queue) (next : FinishRow) (back : Returning) → FinishLeads d.book.controls now a q r n next ks back → AtFinish now r a next n (record d { bounce = back })
   leads_then r next back f = there r next back (far_if now a n f.number q r f.leads.elsewhere f.only) f.stands f.knows
 
 -- the turn isn't an idle one
-busied : (controls : Controls) (now : ℕ) (q : Queue) (a : List ℕ) (next : FinishRow) (n : ℕ) (d : Desk) → AtFinish controls now q a next n d
-    → AtFinish controls now q a next n (record d { busy = true })
-busied controls now q a next n d h = record { knows = h.knows; due = h.due; lanes = h.lanes; apart = h.apart; controls_are = h.controls_are; bare = h.bare; rests = h.rests }
+busied : (now : ℕ) (q : Queue) (a : List ℕ) (next : FinishRow) (n : ℕ) (d : Desk) → AtFinish now q a next n d
+    → AtFinish now q a next n (record d { busy = true })
+busied now q a next n d h = record { knows = h.knows; due = h.due; lanes = h.lanes; apart = h.apart; no_nul = h.no_nul; bare = h.bare; rests = h.rests }
 
-module _ (controls : Controls) (now : ℕ) (q : Queue) (a : List ℕ) (child : Option Child) where
+module _ (now : ℕ) (q : Queue) (a : List ℕ) (child : Option Child) where
   abbrev Leads : FinishRow → ℕ → Desk → ℕ → CallData → Told → ℕ → Type 0
-  Leads row n d read call told wrote = SenderLeads controls now a q
-      (booked_queue child (booked_at (at.Finish row n) (Answered told) d) (called_queue q a read call told.answer wrote q.role)) (act (at.Finish row n) read (Answered told) d)
+  Leads row n d read call told wrote = SenderLeads now a q
+      (booked_queue child d.book.controls (booked_at (at.Finish row n) (Answered told) d) (called_queue q a read call told.answer wrote q.role)) (act (at.Finish row n) read (Answered told) d)
 
-  pub finishes : Sound controls q → (row : FinishRow) (n : ℕ) (d : Desk) (read : ℕ) (call : CallData) (told : Told) (wrote : ℕ) → StandsAt controls now q a (at.Finish row n) d
+  pub finishes : Sound q → (row : FinishRow) (n : ℕ) (d : Desk) (read : ℕ) (call : CallData) (told : Told) (wrote : ℕ) → StandsAt now q a (at.Finish row n) d
       → due_at (at.Finish row n) d ≡ needs.File call → Fits q.disk call told.answer wrote → IsReadBy q.disk call told → Leads row n d read call told wrote
   finishes G finish.OpenBounce n d read call told wrote h due fits given =
       let it = bounce_on n read (Answered told) (return_begun n) d.book in
       let r : Queue = called_queue q a read call told.answer wrote q.role in
-      let f = finishes_lead.opens controls now q a n d.book read call told wrote G h.knows.known h.rests.1 (h.controls_are tt) due fits in
-      let w = leads_then controls now q a finish.OpenBounce n d h (λ m l. l.0) h.rests.1 r (returned_to it.row) it f in
+      let f = finishes_lead.opens now q a n d.book read call told wrote G h.knows.known h.rests.1 due fits in
+      let w = leads_then now q a finish.OpenBounce n d h (λ m l. l.0) h.rests.1 r (returned_to it.row) it f in
       record {
         number = f.number;
         closed = f.closed;
         leads = f.leads;
-        stands = next_leads controls now r a n read (returned_to it.row) (record d { bounce = it; busy = true }) (busied controls now r a (returned_to it.row) n (record d { bounce = it }) w);
+        stands = next_leads now r a n read (returned_to it.row) (record d { bounce = it; busy = true }) (busied now r a (returned_to it.row) n (record d { bounce = it }) w);
       }
   finishes G finish.Return n d read call told wrote h due fits given =
       let it = bounce_on n read (Answered told) d.bounce d.book in
-      let r : Queue = booked_queue child (booked_at (at.Finish finish.Return n) (Answered told) d) (called_queue q a read call told.answer wrote q.role) in
-      let f = finishes_lead.returns controls now q a child n d.book d.bounce read call told wrote G h.knows.known h.rests.1 (h.controls_are tt) due fits given in
-      let w = leads_then controls now q a finish.Return n d h (λ m l. l.0) h.rests.1.idle r (returned_to it.row) it f in
-      record { number = f.number; closed = f.closed; leads = f.leads; stands = next_leads controls now r a n read (returned_to it.row) (record d { bounce = it }) w }
+      let r : Queue = booked_queue child d.book.controls (booked_at (at.Finish finish.Return n) (Answered told) d) (called_queue q a read call told.answer wrote q.role) in
+      let f = finishes_lead.returns now q a child n d.book d.bounce read call told wrote G h.knows.known h.rests.1 due fits given in
+      let w = leads_then now q a finish.Return n d h (λ m l. l.0) h.rests.1.idle r (returned_to it.row) it f in
+      record { number = f.number; closed = f.closed; leads = f.leads; stands = next_leads now r a n read (returned_to it.row) (record d { bounce = it }) w }
   finishes G finish.UnlinkInfo n d read call told wrote h due fits given =
       let next : FinishRow = finish_to finish.UnlinkInfo (said (Answered told)).way in
       let r : Queue = called_queue q a read call told.answer wrote q.role in
-      let f = finishes_lead.ends controls now q a n d.book.messages.known d.bounce read call told wrote G h.knows.known h.rests.1 due fits in
-      let w = leads_then controls now q a finish.UnlinkInfo n d h (λ m l. l.0) h.rests.1.0 r next d.bounce f in
-      record { number = f.number; closed = f.closed; leads = f.leads; stands = next_leads controls now r a n read next d w }
+      let f = finishes_lead.ends d.book.controls now q a n d.book.messages.known d.bounce read call told wrote G h.knows.known h.rests.1 due fits in
+      let w = leads_then now q a finish.UnlinkInfo n d h (λ m l. l.0) h.rests.1.0 r next d.bounce f in
+      record { number = f.number; closed = f.closed; leads = f.leads; stands = next_leads now r a n read next d w }
   finishes G finish.Give n d read call told wrote h due fits given = absurd (cc)
   finishes G finish.Take n d read call told wrote h due fits given = absurd (cc)
   finishes G finish.Later n d read call told wrote h due fits given = absurd (cc)
@@ -346,20 +346,20 @@ taken_there back.Discard it port due = absurd (cc)
 taken_there back.Over it port due = absurd (cc)
 taken_there back.Failed it port due = absurd (cc)
 
-module _ (controls : Controls) (now : ℕ) (q : Queue) (a : List ℕ) where
+module _ (now : ℕ) (q : Queue) (a : List ℕ) where
   -- a step of a return that is no call, before its injector's status
-  goes_on : (n : ℕ) (d : Desk) (read : ℕ) (came : GotData) → StandsAt controls now q a (at.Finish finish.Return n) d → IsBeforeStatus d.bounce.row
-      → SenderStands controls now q a (act (at.Finish finish.Return n) read came d)
+  goes_on : (n : ℕ) (d : Desk) (read : ℕ) (came : GotData) → StandsAt now q a (at.Finish finish.Return n) d → IsBeforeStatus d.bounce.row
+      → SenderStands now q a (act (at.Finish finish.Return n) read came d)
   goes_on n d read came h before =
       let it = bounce_on n read came d.bounce d.book in
-      let stands = returns_go_on.steps controls now q a n d.book d.bounce read came h.knows.known h.rests.1 before in
+      let stands = returns_go_on.steps now q a n d.book d.bounce read came h.knows.known h.rests.1 before in
       let knows = each_on q (at.Finish finish.Return n) (at.Finish (returned_to it.row) n) d.book.messages.known (λ m l. l.0) h.knows.known in
-      next_leads controls now q a n read (returned_to it.row) (record d { bounce = it })
-      (there controls now q a finish.Return n d h (λ m l. l.0) h.rests.1.idle q (returned_to it.row) it (λ m far. refl) stands knows)
+      next_leads now q a n read (returned_to it.row) (record d { bounce = it })
+      (there now q a finish.Return n d h (λ m l. l.0) h.rests.1.idle q (returned_to it.row) it (λ m far. refl) stands knows)
 
-  pub finish_gives : (row : FinishRow) (n : ℕ) (d : Desk) (read : ℕ) (port : Port) (bytes : List ℕ) (came : GotData) → StandsAt controls now q a (at.Finish row n) d
-      → due_at (at.Finish row n) d ≡ needs.Give port bytes → SenderStands controls now q a (act (at.Finish row n) read came d)
-  finish_gives finish.Give n d read port bytes came h due = given_leads controls now q a n read (said came).way d (at_finish controls now q a finish.Give n d h)
+  pub finish_gives : (row : FinishRow) (n : ℕ) (d : Desk) (read : ℕ) (port : Port) (bytes : List ℕ) (came : GotData) → StandsAt now q a (at.Finish row n) d
+      → due_at (at.Finish row n) d ≡ needs.Give port bytes → SenderStands now q a (act (at.Finish row n) read came d)
+  finish_gives finish.Give n d read port bytes came h due = given_leads now q a n read (said came).way d (at_finish now q a finish.Give n d h)
   finish_gives finish.OpenBounce n d read port bytes came h due = absurd (cc)
   finish_gives finish.Return n d read port bytes came h due = goes_on n d read came h (given_there d.bounce.row d.bounce port bytes due)
   finish_gives finish.UnlinkInfo n d read port bytes came h due = absurd (cc)
@@ -368,8 +368,8 @@ module _ (controls : Controls) (now : ℕ) (q : Queue) (a : List ℕ) where
   finish_gives finish.Over n d read port bytes came h due = absurd (cc)
   finish_gives finish.Lost n d read port bytes came h due = absurd (cc)
 
-  pub finish_starts : (row : FinishRow) (n : ℕ) (d : Desk) (read : ℕ) (asked : ChildData) (came : GotData) → StandsAt controls now q a (at.Finish row n) d
-      → due_at (at.Finish row n) d ≡ needs.Start asked → SenderStands controls now q a (act (at.Finish row n) read came d)
+  pub finish_starts : (row : FinishRow) (n : ℕ) (d : Desk) (read : ℕ) (asked : ChildData) (came : GotData) → StandsAt now q a (at.Finish row n) d
+      → due_at (at.Finish row n) d ≡ needs.Start asked → SenderStands now q a (act (at.Finish row n) read came d)
   finish_starts finish.Return n d read asked came h due = goes_on n d read came h (started_there d.bounce.row d.bounce asked due)
   finish_starts finish.Give n d read asked came h due = absurd (cc)
   finish_starts finish.OpenBounce n d read asked came h due = absurd (cc)
@@ -381,24 +381,24 @@ module _ (controls : Controls) (now : ℕ) (q : Queue) (a : List ℕ) where
 
   -- what a taking leads to: of a return one step that enters the bounce, if its injector ended with 0
   pub record FinishTakes (child : Option Child) (row : FinishRow) (n : ℕ) (d : Desk) (read : ℕ) (came : GotData) : Type 0 where
-    pub through : LeadsThrough controls now a q (booked_queue child (booked_at (at.Finish row n) came d) q)
-    pub sound : Sound controls (booked_queue child (booked_at (at.Finish row n) came d) q)
-    pub stands : SenderStands controls now (booked_queue child (booked_at (at.Finish row n) came d) q) a (act (at.Finish row n) read came d)
+    pub through : LeadsThrough now a q (booked_queue child d.book.controls (booked_at (at.Finish row n) came d) q)
+    pub sound : Sound (booked_queue child d.book.controls (booked_at (at.Finish row n) came d) q)
+    pub stands : SenderStands now (booked_queue child d.book.controls (booked_at (at.Finish row n) came d) q) a (act (at.Finish row n) read came d)
 
-  pub finish_takes : Sound controls q → (child : Option Child) (row : FinishRow) (n : ℕ) (d : Desk) (read : ℕ) (port : Port) (came : GotData) → StandsAt controls now q a (at.Finish row n) d
+  pub finish_takes : Sound q → (child : Option Child) (row : FinishRow) (n : ℕ) (d : Desk) (read : ℕ) (port : Port) (came : GotData) → StandsAt now q a (at.Finish row n) d
       → due_at (at.Finish row n) d ≡ needs.Take port → HasChild (booked_at (at.Finish row n) came d) child → FinishTakes child row n d read came
   finish_takes G child finish.Take n d read port came h due has =
-      record { through = StaysSo q; sound = G; stands = taken_leads controls now q a n read (said came).way d (at_finish controls now q a finish.Take n d h) }
+      record { through = StaysSo q; sound = G; stands = taken_leads now q a n read (said came).way d (at_finish now q a finish.Take n d h) }
   finish_takes G child finish.Return n d read port came h due has =
       let it = bounce_on n read came d.bounce d.book in
-      let r : Queue = booked_queue child (booked_at (at.Finish finish.Return n) came d) q in
+      let r : Queue = booked_queue child d.book.controls (booked_at (at.Finish finish.Return n) came d) q in
       let await = taken_there d.bounce.row d.bounce port due in
-      let f = returns_go_on.takes controls now q a child n await.0 d.book d.bounce read came G h.knows.known h.rests.1 (h.controls_are tt) await.1 has in
+      let f = returns_go_on.takes now q a child n await.0 d.book d.bounce read came G h.knows.known h.rests.1 await.1 has in
       record {
         through = Goes q r r n f.closed f.leads (StaysSo r);
         sound = f.leads.sound;
-        stands = next_leads controls now r a n read (returned_to it.row) (record d { bounce = it })
-            (there controls now q a finish.Return n d h (λ m l. l.0) h.rests.1.idle r (returned_to it.row) it (λ m far. about_same now a (Some n) q r f.leads.elsewhere m (λ e. far (some_same m n (sym e)))) f.stands f.knows);
+        stands = next_leads now r a n read (returned_to it.row) (record d { bounce = it })
+            (there now q a finish.Return n d h (λ m l. l.0) h.rests.1.idle r (returned_to it.row) it (λ m far. about_same now a (Some n) q r f.leads.elsewhere m (λ e. far (some_same m n (sym e)))) f.stands f.knows);
       }
   finish_takes G child finish.OpenBounce n d read port came h due has = absurd (cc)
   finish_takes G child finish.UnlinkInfo n d read port came h due has = absurd (cc)

@@ -259,11 +259,6 @@ take_leads way.Absent row = tt
 take_leads way.Broken row = tt
 take_leads way.NoMemory row = tt
 
-return_leads : (row : ReturnRow) → (AwaitsIn row → ⊥) → NotAwaiting (returned_to row) row
-return_leads back.Over none = tt
-return_leads back.Failed none = tt
-return_leads row none = none
-
 -- Each step of a return
 
 abbrev Calm : Returning → Type 0

@@ -2,7 +2,6 @@
 use Rattle.std.proofs.Common.{◌≡◌, ◌≢◌, ℕ, List, [], ◌++◌, Bool, true, false, Option, Some, None, refl, ap, ◌∙◌, subst, arith}
 use Rattle.std.specs.Prelude.{if◌then◌else◌, ◌==◌, ◌%◌, slice_get}
 use Rattle.std.proofs.lemmas.List.{append-nil}
-use Rattle.address_rules.specs.declared.controls.Controls.{Controls}
 use Rattle.call_fs.specs.declared.past.GotData.{GotData}
 use Rattle.call_fs.specs.declared.past.GotData.TheVariants as came
 use Rattle.call_fs.specs.declared.calls.CallData.TheVariants as call
@@ -24,29 +23,29 @@ use Rattle.queue_law.specs.Cleaners.{number_at, Rests, row_of, waiting, CleanerS
 use Rattle.queue_law.proofs.Cleaners.{next_stands}
 use Rattle.program_law.specs.Sender.Commands.{WaitsAtRest, IsNoCall, CleanersGoOn}
 
-module _ (controls : Controls) (now : ℕ) (q : Queue) (waits : Option Command) (x : Link) (E : Errand waits x) (W : WaitsAtRest controls now q waits) where
+module _ (now : ℕ) (q : Queue) (waits : Option Command) (x : Link) (E : Errand waits x) (W : WaitsAtRest now q waits) where
   command_rests : (bytes rest text : List ℕ) (o : Option Command) → command_of text ≡ o → x.given ≡ bytes ++ rest
-      → slice_get (commands (x.place.taken ++ bytes)) x.place.begun ≡ Some text → Rests controls now q (first_row o)
+      → slice_get (commands (x.place.taken ++ bytes)) x.place.begun ≡ Some text → Rests now q (first_row o)
   command_rests bytes rest text None read offered got = tt
   command_rests bytes rest text (Some c) read offered got = W c (next_waits waits x bytes rest text c E offered got read).waiting_is
 
   text_rests : (bytes rest : List ℕ) (o : Option (List ℕ)) → x.given ≡ bytes ++ rest
-      → slice_get (commands (x.place.taken ++ bytes)) x.place.begun ≡ o → Rests controls now q (row_of o)
+      → slice_get (commands (x.place.taken ++ bytes)) x.place.begun ≡ o → Rests now q (row_of o)
   text_rests bytes rest None offered got = tt
   text_rests bytes rest (Some text) offered got = command_rests bytes rest text (command_of text) refl offered got
 
   -- the command that comes next rests
-  next_rests : (bytes rest : List ℕ) → x.given ≡ bytes ++ rest → Rests controls now q (row_of (slice_get (commands (x.place.taken ++ bytes)) x.place.begun))
+  next_rests : (bytes rest : List ℕ) → x.given ≡ bytes ++ rest → Rests now q (row_of (slice_get (commands (x.place.taken ++ bytes)) x.place.begun))
   next_rests bytes rest offered = text_rests bytes rest (slice_get (commands (x.place.taken ++ bytes)) x.place.begun) offered refl
 
-  none_taken : Rests controls now q (waiting x.place)
-  none_taken = subst (λ (t : List ℕ). Rests controls now q (row_of (slice_get (commands t) x.place.begun))) (append-nil x.place.taken) (next_rests [] x.given refl)
+  none_taken : Rests now q (waiting x.place)
+  none_taken = subst (λ (t : List ℕ). Rests now q (row_of (slice_get (commands t) x.place.begun))) (append-nil x.place.taken) (next_rests [] x.given refl)
 
   abbrev Stands : Row → ℕ → GotData → Type 0
-  Stands row read got = CleanerStands controls now q (goes_on (leads_to row read got) x.place)
+  Stands row read got = CleanerStands now q (goes_on (leads_to row read got) x.place)
 
   takes : (got : GotData) (read : ℕ) → IsOffered x.given (due_at at.TakeInput x.place.name read) got → Stands at.TakeInput read got
-  takes (came.Took bytes) read offered = next_stands controls now q (record x.place { taken = x.place.taken ++ bytes }) (next_rests bytes offered.0 offered.1)
+  takes (came.Took bytes) read offered = next_stands now q (record x.place { taken = x.place.taken ++ bytes }) (next_rests bytes offered.0 offered.1)
   takes came.End read offered = tt
   takes (came.Answered told) read offered = tt
   takes (came.Ended status) read offered = tt
@@ -56,9 +55,9 @@ module _ (controls : Controls) (now : ℕ) (q : Queue) (waits : Option Command) 
   takes came.Failed read offered = tt
   takes came.Memory read offered = tt
 
-  scans : (scan : Bool) → CleanerStands controls now q (if scan then record x.place { row = at.FindPid; name = [] } else next_command x.place)
+  scans : (scan : Bool) → CleanerStands now q (if scan then record x.place { row = at.FindPid; name = [] } else next_command x.place)
   scans true = none_taken
-  scans false = next_stands controls now q x.place none_taken
+  scans false = next_stands now q x.place none_taken
 
   gives : (reply : Reply) (got : GotData) (read : ℕ) → Stands (at.Answer reply) read got
   gives reply came.Gave read = scans (x.place.begun % ROUND == 0)
@@ -88,11 +87,11 @@ module _ (controls : Controls) (now : ℕ) (q : Queue) (waits : Option Command) 
   step (at.Answer reply) got read uncalled offered = gives reply got read
   step (at.Ended status) got read uncalled offered = tt
 
-goes_on_so : (controls : Controls) (now : ℕ) (q : Queue) (waits : Option Command) (x : Link) (event : Own) → Errand waits x → WaitsAtRest controls now q waits
+goes_on_so : (now : ℕ) (q : Queue) (waits : Option Command) (x : Link) (event : Own) → Errand waits x → WaitsAtRest now q waits
     → event.due ≡ due_at x.place.row x.place.name event.read → IsNoCall event.due → IsOffered x.given event.due event.came
-    → CleanerStands controls now q (goes_on (leads_to x.place.row event.read event.came) x.place)
-goes_on_so controls now q waits x event E W due uncalled offered =
-    step controls now q waits x E W x.place.row event.came event.read (subst IsNoCall due uncalled) (subst (λ (d : NeedData). IsOffered x.given d event.came) due offered)
+    → CleanerStands now q (goes_on (leads_to x.place.row event.read event.came) x.place)
+goes_on_so now q waits x event E W due uncalled offered =
+    step now q waits x E W x.place.row event.came event.read (subst IsNoCall due uncalled) (subst (λ (d : NeedData). IsOffered x.given d event.came) due offered)
 
 -- While the sender waits for nothing
 

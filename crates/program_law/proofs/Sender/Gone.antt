@@ -5,8 +5,6 @@ use Rattle.std.proofs.lemmas.Bool.{eq-eqb, eqb-true}
 use Rattle.std.proofs.lemmas.Bool.Decides.{eqb_tells}
 use Rattle.std.proofs.lemmas.List.Elements.{All-head, All-tail, All-set, All-weaker}
 use Rattle.std.proofs.lemmas.List.Quantifiers.{position-Some}
-use Rattle.address_rules.specs.declared.controls.Controls.{Controls}
-use Rattle.address_rules.specs.Nuls.{HaveNoNul}
 use Rattle.call_fs.specs.declared.calls.Answer.{Answer}
 use Rattle.call_fs.specs.declared.calls.Answer.TheVariants as answer
 use Rattle.call_fs.specs.declared.calls.CallData.{CallData}
@@ -73,9 +71,9 @@ use Rattle.program_law.proofs.Sender.Texts.{they_are}
 
 -- All of a finished file is delivered
 
-may_drop : (controls : Controls) (q : Queue) (c : Channel) (n : ℕ) (l : Lane) (job : Job) → HaveNoNul controls → Sound controls q → OnLane q c l
-    → job_over n l ≡ Some job → job.unmarked ≡ false → MayDrop controls (about q n) c
-may_drop controls q c n l job none G h over clean =
+may_drop : (q : Queue) (c : Channel) (n : ℕ) (l : Lane) (job : Job) → Sound q → OnLane q c l
+    → job_over n l ≡ Some job → job.unmarked ≡ false → MayDrop (about q n) c
+may_drop q c n l job G h over clean =
     let serves = h.jobs n job (over_there n l job over) in
     let lane : HasLane (about q n) c = record {
       no_todo = serves.sorted.no_todo;
@@ -84,14 +82,14 @@ may_drop controls q c n l job none G h over clean =
       injection = serves.sorted.injection;
       lives = serves.sorted.lives;
     } in
-    let pre : IsPreprocessed controls (about q n) = sorted_of_lane controls (about q n) c (G.fine n) lane in
+    let pre : IsPreprocessed (about q n) = sorted_of_lane (about q n) c (G.fine n) lane in
     let i : Injection = pre.taken.injection in
-    let marked = lane_there controls (about q n) i c serves.file serves.there (pre.lanes c) in
+    let marked = lane_there (about q n) i c serves.file serves.there (pre.lanes c) in
     let it = h.tied.accounted n job (over_there n l job over) in
     let all = done_all (files_of q c) l n job h.tied over clean it.records it.there in
     let read = sym (ap records_at serves.there) ∙ it.there in
     let are = they_are serves.file.file.bytes it.records read in
-    let of = records_are controls i c serves.file.file.bytes it.records none pre.taken.valid pre.taken.spots marked.present are in
+    let of = records_are i c serves.file.file.bytes it.records pre.no_nul pre.taken.valid pre.taken.spots marked.present are in
     record {
       lane = record { no_todo = serves.sorted.no_todo; file = serves.file; there = serves.there; injection = i; lives = pre.taken.lives };
       each = λ r on.
@@ -264,22 +262,22 @@ module _ (q r : Queue) (n : ℕ) (books : r.books ≡ q.books) where
   both_remote gone others s h one Remote = lane_without q r Remote n books gone others Remote (ended n s.remote) one (λ k job e. ended_far n Remote Remote s.remote k job e)
   both_remote gone others s h one Local = lane_without q r Remote n books gone others Local s.local (h Local) (λ k job e. local_far k n)
 
-module _ (controls : Controls) (q r : Queue) (books : r.books ≡ q.books) where
-  done_on : (c : Channel) (n : ℕ) (job : Job) (d : Desk) → OnDesk controls q d → job_over n (lane c d.slots) ≡ Some job
-      → look r (Of (lane_part c) n) ≡ None → ((y : Name) → y ≢ Of (lane_part c) n → look r y ≡ look q y) → OnDesk controls r (done_with c n d)
+module _ (q r : Queue) (books : r.books ≡ q.books) where
+  done_on : (c : Channel) (n : ℕ) (job : Job) (d : Desk) → OnDesk q d → job_over n (lane c d.slots) ≡ Some job
+      → look r (Of (lane_part c) n) ≡ None → ((y : Name) → y ≢ Of (lane_part c) n → look r y ≡ look q y) → OnDesk r (done_with c n d)
   done_on Local n job d h over gone others = record {
     known = local_off r n d.book.messages.known (position (is_of n) d.book.messages.known) refl gone (all_known q r Local n books gone others d.book.messages.known h.known);
     due = due_local q r n books gone others d.book.messages h.due;
     lanes = both_local q r n books gone others d.slots h.lanes (ended_on q Local d.slots.local (h.lanes Local) n job over);
     apart = apart_gone Local n d.book.messages d.slots h.apart;
-    controls_are = h.controls_are;
+    no_nul = h.no_nul;
   }
   done_on Remote n job d h over gone others = record {
     known = remote_off r n d.book.messages.known (position (is_of n) d.book.messages.known) refl gone (all_known q r Remote n books gone others d.book.messages.known h.known);
     due = due_remote q r n books gone others d.book.messages h.due;
     lanes = both_remote q r n books gone others d.slots h.lanes (ended_on q Remote d.slots.remote (h.lanes Remote) n job over);
     apart = apart_gone Remote n d.book.messages d.slots h.apart;
-    controls_are = h.controls_are;
+    no_nul = h.no_nul;
   }
 
 -- The event
@@ -298,59 +296,59 @@ point_ended c n (point.Pass ch may) s h = bare_ended c n s h
 point_ended c n point.Finish s h = bare_ended c n s h
 point_ended c n point.Sweep s h = bare_ended c n s h
 
-pub desk_grown : (controls : Controls) (q r : Queue) (d : Desk) → Grows q r → OnDesk controls q d → OnDesk controls r d
-desk_grown controls q r d g h = record {
+pub desk_grown : (q r : Queue) (d : Desk) → Grows q r → OnDesk q d → OnDesk r d
+desk_grown q r d g h = record {
   known = known_all q r g d.book.messages h.known;
   due = due_all q r g d.book.messages h.due;
   lanes = λ ch. lane_grown q r g ch (lane ch d.slots) (h.lanes ch);
   apart = h.apart;
-  controls_are = h.controls_are;
+  no_nul = h.no_nul;
 }
 
 pub file_call : (x y : CallData) → needs.File x ≡ needs.File y → x ≡ y
 file_call x y e = cc
 
-module _ (controls : Controls) (now : ℕ) (q : Queue) (a : List ℕ) (none : HaveNoNul controls) (G : Sound controls q) where
-  module _ (c : Channel) (n : ℕ) (p : Point) (d : Desk) (read wrote : ℕ) (on : OnDesk controls q d) (all : IsAllDone c n d.slots) (rests : PointStands p d.slots) where
+module _ (now : ℕ) (q : Queue) (a : List ℕ) (G : Sound q) where
+  module _ (c : Channel) (n : ℕ) (p : Point) (d : Desk) (read wrote : ℕ) (on : OnDesk q d) (all : IsAllDone c n d.slots) (rests : PointStands p d.slots) where
     abbrev after : Answer → Queue
     after told = called_queue q a read (Unlink (path (Of (lane_part c) n))) told wrote q.role
 
-    may : MayDrop controls (about q n) c
-    may = may_drop controls q c n (lane c d.slots) all.job none G (on.lanes c) all.over all.none_left
+    may : MayDrop (about q n) c
+    may = may_drop q c n (lane c d.slots) all.job G (on.lanes c) all.over all.none_left
 
-    done_leads : Fits q.disk (Unlink (path (Of (lane_part c) n))) answer.Done wrote → SenderLeads controls now a q (after answer.Done) (done_with c n (stands_at d p))
+    done_leads : Fits q.disk (Unlink (path (Of (lane_part c) n))) answer.Done wrote → SenderLeads now a q (after answer.Done) (done_with c n (stands_at d p))
     done_leads fits =
         let one = unlinks_one q a read (Of (lane_part c) n) answer.Done wrote fits in
         let next : Desk = done_with c n (stands_at d p) in
-        let there : OnDesk controls (after answer.Done) (done_with c n d) = done_on controls q (after answer.Done) refl c n all.job d on all.over (one.gone refl) one.others in
+        let there : OnDesk (after answer.Done) (done_with c n d) = done_on q (after answer.Done) refl c n all.job d on all.over (one.gone refl) one.others in
         record {
           number = Some n;
-          closed = one_closed now q n (lane_closed controls now q n c G may.lane);
-          leads = drops_keep controls now q a G read n c answer.Done wrote may fits;
+          closed = one_closed now q n (lane_closed now q n c G may.lane);
+          leads = drops_keep now q a G read n c answer.Done wrote may fits;
           stands = done_stands c (after answer.Done) there;
         }
       where
-        done_stands : (c : Channel) (r : Queue) → OnDesk controls r (done_with c n d) → SenderStands controls now r a (done_with c n (stands_at d p))
-        done_stands Local r h = stand controls now r a (at.Turn p) (done_with Local n d) (λ ch. refl) h (point_ended Local n p d.slots rests)
-        done_stands Remote r h = stand controls now r a (at.Turn p) (done_with Remote n d) (λ ch. refl) h (point_ended Remote n p d.slots rests)
+        done_stands : (c : Channel) (r : Queue) → OnDesk r (done_with c n d) → SenderStands now r a (done_with c n (stands_at d p))
+        done_stands Local r h = stand now r a (at.Turn p) (done_with Local n d) (λ ch. refl) h (point_ended Local n p d.slots rests)
+        done_stands Remote r h = stand now r a (at.Turn p) (done_with Remote n d) (λ ch. refl) h (point_ended Remote n p d.slots rests)
 
     failed_leads : (told : Answer) → Fits q.disk (Unlink (path (Of (lane_part c) n))) told wrote → Grows q (after told)
-        → SenderLeads controls now a q (after told) (due_again c n (later read) (stands_at d p))
+        → SenderLeads now a q (after told) (due_again c n (later read) (stands_at d p))
     failed_leads told fits g =
         let r = after told in
-        let grown = desk_grown controls q r d g on in
+        let grown = desk_grown q r d g on in
         let l = grown.lanes c in
-        let again = due_again_on controls r c n (later read) d grown (l.jobs n all.job (over_there n (lane c d.slots) all.job all.over)) (ended_on r c (lane c d.slots) l n all.job all.over) in
+        let again = due_again_on r c n (later read) d grown (l.jobs n all.job (over_there n (lane c d.slots) all.job all.over)) (ended_on r c (lane c d.slots) l n all.job all.over) in
         record {
           number = Some n;
-          closed = one_closed now q n (lane_closed controls now q n c G may.lane);
-          leads = drops_keep controls now q a G read n c told wrote may fits;
+          closed = one_closed now q n (lane_closed now q n c G may.lane);
+          leads = drops_keep now q a G read n c told wrote may fits;
           stands = again_stands c r again;
         }
       where
-        again_stands : (c : Channel) (r : Queue) → OnDesk controls r (due_again c n (later read) d) → SenderStands controls now r a (due_again c n (later read) (stands_at d p))
-        again_stands Local r h = stand controls now r a (at.Turn p) (due_again Local n (later read) d) (λ ch. refl) h (point_ended Local n p d.slots rests)
-        again_stands Remote r h = stand controls now r a (at.Turn p) (due_again Remote n (later read) d) (λ ch. refl) h (point_ended Remote n p d.slots rests)
+        again_stands : (c : Channel) (r : Queue) → OnDesk r (due_again c n (later read) d) → SenderStands now r a (due_again c n (later read) (stands_at d p))
+        again_stands Local r h = stand now r a (at.Turn p) (due_again Local n (later read) d) (λ ch. refl) h (point_ended Local n p d.slots rests)
+        again_stands Remote r h = stand now r a (at.Turn p) (due_again Remote n (later read) d) (λ ch. refl) h (point_ended Remote n p d.slots rests)
 
     same_looks : (told : Answer) → effect q.disk read (Unlink (path (Of (lane_part c) n))) told wrote ≡ q.disk → Grows q (after told)
     same_looks told e = record {
@@ -358,7 +356,7 @@ module _ (controls : Controls) (now : ℕ) (q : Queue) (a : List ℕ) (none : Ha
       lives = λ k i there. (i, there, refl, grown_same i.ledger);
     }
 
-    by_answer : (told : Answer) (bytes : List ℕ) → Fits q.disk (Unlink (path (Of (lane_part c) n))) told wrote → SenderLeads controls now a q (after told) (unlinked (answered told bytes).way c n p read d)
+    by_answer : (told : Answer) (bytes : List ℕ) → Fits q.disk (Unlink (path (Of (lane_part c) n))) told wrote → SenderLeads now a q (after told) (unlinked (answered told bytes).way c n p read d)
     by_answer answer.Done bytes fits = done_leads fits
     by_answer (answer.Refused why.NotThere) bytes fits = failed_leads (answer.Refused why.NotThere) fits (same_looks (answer.Refused why.NotThere) refl)
     by_answer (answer.Refused why.Fault) bytes fits = failed_leads (answer.Refused why.Fault) fits (same_looks (answer.Refused why.Fault) refl)
@@ -371,11 +369,11 @@ module _ (controls : Controls) (now : ℕ) (q : Queue) (a : List ℕ) (none : Ha
     by_answer (answer.Name k) bytes fits = absurd fits
     by_answer answer.NoName bytes fits = absurd fits
 
-  pub files_go : (c : Channel) (n : ℕ) (p : Point) (d : Desk) (read : ℕ) (call : CallData) (told : Told) (wrote : ℕ) → StandsAt controls now q a (at.UnlinkFile c n p) d
+  pub files_go : (c : Channel) (n : ℕ) (p : Point) (d : Desk) (read : ℕ) (call : CallData) (told : Told) (wrote : ℕ) → StandsAt now q a (at.UnlinkFile c n p) d
       → due_at (at.UnlinkFile c n p) d ≡ needs.File call → Fits q.disk call told.answer wrote
-      → SenderLeads controls now a q (called_queue q a read call told.answer wrote q.role) (act (at.UnlinkFile c n p) read (Answered told) d)
+      → SenderLeads now a q (called_queue q a read call told.answer wrote q.role) (act (at.UnlinkFile c n p) read (Answered told) d)
   files_go c n p d read call told wrote h due fits =
-      let on = on_of controls now q a (at.UnlinkFile c n p) d (record { first = λ ch. refl; controls_read = tt }) (λ k w. w) h in
+      let on = on_of now q a (at.UnlinkFile c n p) d (record { first = λ ch. refl; controls_read = tt }) (λ k w. w) h in
       let same : call ≡ Unlink (path (Of (lane_part c) n)) = sym (file_call (Unlink (path (name_of (file_of c n)))) call due) ∙ ap Unlink (lane_name c n) in
       let go = by_answer c n p d read wrote on h.rests.0 h.rests.1 told.answer told.bytes (subst (λ x. Fits q.disk x told.answer wrote) same fits) in
-      subst (λ x. SenderLeads controls now a q (called_queue q a read x told.answer wrote q.role) (unlinked (answered told.answer told.bytes).way c n p read d)) (sym same) go
+      subst (λ x. SenderLeads now a q (called_queue q a read x told.answer wrote q.role) (unlinked (answered told.answer told.bytes).way c n p read d)) (sym same) go

@@ -12,7 +12,7 @@ use Rattle.program_law.specs.Sender.Knows.{has_file, IsThereIf}
 use Rattle.program_law.specs.Sender.Searches.{UnlinksLeaveLearned, DoneIsKnown}
 
 pub done_is_known : DoneIsKnown
-done_is_known controls now q n k R E =
+done_is_known now q n k R E =
     let P = R.rest in
     record {
       known = record {

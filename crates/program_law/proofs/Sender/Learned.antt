@@ -2,7 +2,6 @@
 use Rattle.std.proofs.Common.{◌≡◌, ℕ, List, ◌∷◌, get_or, set, insert, take, drop, Bool, true, false, Option, Some, None, refl}
 use Rattle.std.specs.Prelude.{if◌then◌else◌, All, IsSome, position}
 use Rattle.std.proofs.lemmas.List.Elements.{All-append, All-cons, All-drop, All-push, All-set, All-take}
-use Rattle.address_rules.specs.declared.controls.Controls.{Controls}
 use Rattle.send_core.specs.declared.desk.Desk.{Desk}
 use Rattle.send_core.specs.Desk.{due_on}
 use Rattle.send_known.specs.declared.channel.Channel.{Channel}
@@ -50,13 +49,13 @@ pub apart_more : (k : Known) (due : ℕ) (m : Messages) (s : Slots) → ((ch : C
 apart_more k due m s free h ch = due_more (λ c. IsApart (lane c s).jobs) k due m (λ c there some. absurd (no_some (job_of k.n (lane c s).jobs) (free c) some)) h ch
 
 -- of a message that no job is on
-pub learned_on : (controls : Controls) (q : Queue) (k : Known) (due : ℕ) (d : Desk) → OnDesk controls q d → IsKnown (about q k.n) k
+pub learned_on : (q : Queue) (k : Known) (due : ℕ) (d : Desk) → OnDesk q d → IsKnown (about q k.n) k
     → ((ch : Channel) → has_file ch k ≡ true → Serves (about q k.n) ch) → ((ch : Channel) → HasNoJob ch k.n d.slots)
-    → OnDesk controls q (record d { book = record d.book { messages = learned k due d.book.messages } })
-learned_on controls q k due d h it serves free = record {
+    → OnDesk q (record d { book = record d.book { messages = learned k due d.book.messages } })
+learned_on q k due d h it serves free = record {
   known = known_more (λ (x : Known). IsKnown (about q x.n) x) k due d.book.messages it h.known;
   due = λ ch. due_more (λ c (e : ℕ × ℕ). Serves (about q e.1) c) k due d.book.messages serves h.due ch;
   lanes = h.lanes;
   apart = apart_more k due d.book.messages d.slots free h.apart;
-  controls_are = h.controls_are;
+  no_nul = h.no_nul;
 }

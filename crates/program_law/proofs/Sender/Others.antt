@@ -21,7 +21,6 @@ use Rattle.send_parts.specs.declared.row.Row.{Row}
 use Rattle.send_parts.specs.declared.row.Row.TheVariants as at
 use Rattle.send_jobs.specs.declared.attempts.Mark.{Mark}
 use Rattle.send_known.specs.declared.channel.Channel.{Channel}
-use Rattle.send_known.specs.declared.channel.Channel.TheVariants.{Local, Remote}
 use Rattle.send_jobs.specs.declared.jobs.Job.{Job}
 use Rattle.send_jobs.specs.declared.slots.Slots.{Slots}
 use Rattle.send_jobs.specs.Jobs.{job_of}
@@ -140,53 +139,52 @@ module _ (q r : Queue) (spares : SparesSorted q r) where
     bounce_kept : (n fd : ℕ) → IsSettledIn (about q n) → HoldsBounce q a n fd → HoldsBounce r a n fd
     bounce_kept n fd s h = record { file = h.file; there = same_look Bounce n s ∙ h.there; mode = h.mode; opened = opens fd (record { number = h.file.number; mode = h.mode }) h.opened }
 
-    done_kept : (n : ℕ) (ch : Channel) (place : ℕ) → IsDoneIn (about q n) ch place → IsDoneIn (about r n) ch place
-    done_kept n ch place h = subst (λ (w : About). IsDoneIn w ch place) (sym (same_about n h.sorted)) h
+    done_kept : (by : Controls) (n : ℕ) (ch : Channel) (place : ℕ) → IsDoneIn by (about q n) ch place → IsDoneIn by (about r n) ch place
+    done_kept by n ch place h = subst (λ (w : About). IsDoneIn by w ch place) (sym (same_about n h.sorted)) h
 
-    module _ (controls : Controls) where
-      names_kept : (n : ℕ) (bytes : List ℕ) → NamesNoted controls (about q n) bytes → NamesNoted controls (about r n) bytes
-      names_kept n bytes h = subst (λ (w : About). NamesNoted controls w bytes) (sym (same_about n h.sorted)) h
+    names_kept : (n : ℕ) (bytes : List ℕ) → NamesNoted (about q n) bytes → NamesNoted (about r n) bytes
+    names_kept n bytes h = subst (λ (w : About). NamesNoted w bytes) (sym (same_about n h.sorted)) h
 
-      note_kept : (row : NoteRow) (m : Marked) (name report text : List ℕ) → IsSettledIn (about q m.n) → NoteHolds controls q a row m name report text
-          → NoteHolds controls r a row m name report text
-      unfolding bounce_kept
-      note_kept written.Open m name report text s h = absurd h
-      note_kept written.Create m name report text s h = tt
-      note_kept (written.Stat fd) m name report text s h = bounce_kept m.n fd.0 s h
-      note_kept (written.Read fd place len) m name report text s h = record { held = bounce_kept m.n fd.0 s h.held; some = h.some; place_is = h.place_is; len_is = h.len_is }
-      note_kept (written.Append fd done) m name report text s h =
-          record { held = bounce_kept m.n fd.0 s h.held; base = h.base; names = names_kept m.n h.base h.names; rest = h.rest }
-      note_kept (written.Sync fd) m name report text s h =
-          record { held = bounce_kept m.n fd.0 s h.held; base = h.base; names = names_kept m.n h.base h.names; bytes = h.bytes }
-      note_kept (written.Close fd) m name report text s h = (open_kept fd.0 h.0, done_kept m.n m.channel m.place h.1)
-      note_kept (written.Shut fd) m name report text s h = open_kept fd.0 h
-      note_kept written.Written m name report text s h = absurd h
-      note_kept written.Failed m name report text s h = absurd h
+    note_kept : (controls : Controls) (row : NoteRow) (m : Marked) (name report text : List ℕ) → IsSettledIn (about q m.n) → NoteHolds controls q a row m name report text
+        → NoteHolds controls r a row m name report text
+    unfolding bounce_kept
+    note_kept controls written.Open m name report text s h = absurd h
+    note_kept controls written.Create m name report text s h = tt
+    note_kept controls (written.Stat fd) m name report text s h = bounce_kept m.n fd.0 s h
+    note_kept controls (written.Read fd place len) m name report text s h = record { held = bounce_kept m.n fd.0 s h.held; some = h.some; place_is = h.place_is; len_is = h.len_is }
+    note_kept controls (written.Append fd done) m name report text s h =
+        record { held = bounce_kept m.n fd.0 s h.held; base = h.base; names = names_kept m.n h.base h.names; rest = h.rest }
+    note_kept controls (written.Sync fd) m name report text s h =
+        record { held = bounce_kept m.n fd.0 s h.held; base = h.base; names = names_kept m.n h.base h.names; bytes = h.bytes }
+    note_kept controls (written.Close fd) m name report text s h = (open_kept fd.0 h.0, done_kept controls m.n m.channel m.place h.1)
+    note_kept controls (written.Shut fd) m name report text s h = open_kept fd.0 h
+    note_kept controls written.Written m name report text s h = absurd h
+    note_kept controls written.Failed m name report text s h = absurd h
 
-      mark_kept : (row : MarkRow) (m : Marked) (s : Slots) (w : Writing) → (row ≡ mark.Noting → IsSettledIn (about q m.n)) → MarkHolds controls q a row m s w
-          → MarkHolds controls r a row m s w
-      mark_kept mark.Note m s w sorted h = h
-      mark_kept mark.Noting m s w sorted h =
-          record { of = h.of; holds = note_kept w.row m (noted_name controls h.of.first) (told_report (Some h.of.failure)) w.text (sorted refl) h.holds }
-      mark_kept mark.Open m s w sorted h = done_kept m.n m.channel m.place h
-      mark_kept (mark.Write fd) m s w sorted h = (file_kept a (lane_part m.channel) m.n how.Write fd.0 h.1.sorted (opens fd.0) h.0, done_kept m.n m.channel m.place h.1)
-      mark_kept (mark.Close fd written) m s w sorted h = open_kept fd.0 h
+    mark_kept : (controls : Controls) (row : MarkRow) (m : Marked) (s : Slots) (w : Writing) → (row ≡ mark.Noting → IsSettledIn (about q m.n)) → MarkHolds controls q a row m s w
+        → MarkHolds controls r a row m s w
+    mark_kept controls mark.Note m s w sorted h = h
+    mark_kept controls mark.Noting m s w sorted h =
+        record { of = h.of; holds = note_kept controls w.row m (noted_name controls h.of.first) (told_report (Some h.of.failure)) w.text (sorted refl) h.holds }
+    mark_kept controls mark.Open m s w sorted h = done_kept controls m.n m.channel m.place h
+    mark_kept controls (mark.Write fd) m s w sorted h = (file_kept a (lane_part m.channel) m.n how.Write fd.0 h.1.sorted (opens fd.0) h.0, done_kept controls m.n m.channel m.place h.1)
+    mark_kept controls (mark.Close fd written) m s w sorted h = open_kept fd.0 h
 
-    row_kept : (controls : Controls) (now : ℕ) (row : Row) (b : Book) (s : Slots) (p : Works) → IsAmongSorted row → ((ch : Channel) → LaneStands q row ch s)
-        → RowStands controls now q a row b s p → RowStands controls now r a row b s p
-    row_kept controls now (at.Start row) b s p among lanes h = (h.0, (h.1.0, start_kept row b.read h.1.1))
-    row_kept controls now (at.Turn point) b s p among lanes h = h
-    row_kept controls now (at.TakeLink ch) b s p among lanes h = tt
-    row_kept controls now (at.Mark row m) b s p among lanes h = (h.0, mark_kept controls row m s p.note (λ noting. noting_serves q m s (subst (λ (z : MarkRow). LaneStands q (at.Mark z m) m.channel s) noting (lanes m.channel)) h.0) h.1)
-    row_kept controls now (at.UnlinkFile ch n point) b s p among lanes h = h
-    row_kept controls now (at.ReadFile ch n begun g) b s p among lanes h =
+    row_kept : (now : ℕ) (row : Row) (b : Book) (s : Slots) (p : Works) → IsAmongSorted row → ((ch : Channel) → LaneStands q row ch s)
+        → RowStands now q a row b s p → RowStands now r a row b s p
+    row_kept now (at.Start row) b s p among lanes h = (h.0, (h.1.0, start_kept row b.read h.1.1))
+    row_kept now (at.Turn point) b s p among lanes h = h
+    row_kept now (at.TakeLink ch) b s p among lanes h = tt
+    row_kept now (at.Mark row m) b s p among lanes h = (h.0, mark_kept b.controls row m s p.note (λ noting. noting_serves q m s (subst (λ (z : MarkRow). LaneStands q (at.Mark z m) m.channel s) noting (lanes m.channel)) h.0) h.1)
+    row_kept now (at.UnlinkFile ch n point) b s p among lanes h = h
+    row_kept now (at.ReadFile ch n begun g) b s p among lanes h =
         (h.0, (h.1.0, (serves_kept n ch h.1.1.0, reads_kept (lane_part ch) n g b.read h.1.1.0.sorted h.1.1.1)))
-    row_kept controls now (at.Request ch) b s p among lanes h = h
-    row_kept controls now (at.FindTodo search) b s p among lanes h = h
-    row_kept controls now at.InTodo b s p among lanes h = absurd among
-    row_kept controls now (at.Finish row n) b s p among lanes h = absurd among
-    row_kept controls now (at.Sweep row) b s p among lanes h = absurd among
-    row_kept controls now (at.Ended status) b s p among lanes h = tt
+    row_kept now (at.Request ch) b s p among lanes h = h
+    row_kept now (at.FindTodo search) b s p among lanes h = h
+    row_kept now at.InTodo b s p among lanes h = absurd among
+    row_kept now (at.Finish row n) b s p among lanes h = absurd among
+    row_kept now (at.Sweep row) b s p among lanes h = absurd among
+    row_kept now (at.Ended status) b s p among lanes h = tt
 
 pub knows_kept : (q r : Queue) (row : Row) (m : Messages) → SparesSorted q r → KnowsAll q row m → KnowsAll r row m
 knows_kept q r row m spares h = record {
@@ -204,8 +202,8 @@ lanes_kept q r row ch s spares h = record {
       h.marks;
 }
 
-pub rests_kept : (controls : Controls) (now : ℕ) (a o : List ℕ) (m : Option ℕ) (q r : Queue) → Elsewhere now o m q r → a ≢ o → SparesSorted q r
-    → (row : Row) (b : Book) (s : Slots) (p : Works) → IsAmongSorted row → ((ch : Channel) → LaneStands q row ch s) → RowStands controls now q a row b s p
-    → RowStands controls now r a row b s p
-rests_kept controls now a o m q r E far spares row b s p among lanes h =
-    row_kept q r spares a (λ fd how held. E.opens a fd how far held) controls now row b s p among lanes h
+pub rests_kept : (now : ℕ) (a o : List ℕ) (m : Option ℕ) (q r : Queue) → Elsewhere now o m q r → a ≢ o → SparesSorted q r
+    → (row : Row) (b : Book) (s : Slots) (p : Works) → IsAmongSorted row → ((ch : Channel) → LaneStands q row ch s) → RowStands now q a row b s p
+    → RowStands now r a row b s p
+rests_kept now a o m q r E far spares row b s p among lanes h =
+    row_kept q r spares a (λ fd how held. E.opens a fd how far held) now row b s p among lanes h

@@ -3,7 +3,6 @@ use Rattle.std.proofs.Common.{◌≡◌, ◌≢◌, ◌⊎◌, inl, inr, ℕ, Li
 use Rattle.std.specs.Prelude.{◌==◌, if◌then◌else◌, All, Contains, IsSome, is_none}
 use Rattle.std.proofs.lemmas.Bool.{and_parts, eq-eqb, eqb-true, ne_eqb, not-true}
 use Rattle.std.proofs.lemmas.List.Elements.{All-contains, All-contains_itself, All-weaker}
-use Rattle.address_rules.specs.declared.controls.Controls.{Controls}
 use Rattle.call_fs.specs.declared.calls.CallData.{CallData}
 use Rattle.call_fs.specs.declared.calls.Told.{Told}
 use Rattle.call_fs.specs.declared.past.GotData.TheVariants.{Answered}
@@ -141,19 +140,19 @@ bare_begun Local n begun records dying s h Remote = h Remote
 bare_begun Remote n begun records dying s h Local = h Local
 bare_begun Remote n begun records dying s h Remote = h Remote
 
-module _ (controls : Controls) (now : ℕ) (q : Queue) (a : List ℕ) (c : Channel) (n begun read : ℕ) (d : Desk) (h : OnDesk controls q d) (bare : HasNoMarks d.slots)
+module _ (now : ℕ) (q : Queue) (a : List ℕ) (c : Channel) (n begun read : ℕ) (d : Desk) (h : OnDesk q d) (bare : HasNoMarks d.slots)
     (none : HasNoJob c n d.slots) (serves : Serves (about q n) c) where
-  later_on : SenderStands controls now q a (put_later c n read d)
-  later_on = again controls now q a c n (later read) (point.Pass c false) d bare
-      (due_again_on controls q c n (later read) d h serves (none_on q c (lane c d.slots) (h.lanes c) n none))
+  later_on : SenderStands now q a (put_later c n read d)
+  later_on = again now q a c n (later read) (point.Pass c false) d bare
+      (due_again_on q c n (later read) d h serves (none_on q c (lane c d.slots) (h.lanes c) n none))
 
   module _ (text : HasText q (lane_part c) n d.book.read) where
     module _ (records : List Record) (are : records_of d.book.read ≡ Some records) where
       there : files_of q c n ≡ Some records
       there = ap records_at text.there ∙ ap records_of (sym text.text) ∙ are
 
-      begun_on : (ch : Channel) → c ≡ ch → is_free_for n (lane c d.slots) ≡ true → OnDesk controls q (has_begun c n begun records d)
-      begun_on Local e free = subst (λ (x : Channel). OnDesk controls q (has_begun x n begun records d)) (sym e) (record {
+      begun_on : (ch : Channel) → c ≡ ch → is_free_for n (lane c d.slots) ≡ true → OnDesk q (has_begun c n begun records d)
+      begun_on Local e free = subst (λ (x : Channel). OnDesk q (has_begun x n begun records d)) (sym e) (record {
         known = h.known;
         due = then_on q Local n never d.book.messages (subst (Serves (about q n)) e serves) h.due;
         lanes = lane_on q Local (begun_by n records begun (is_dying n begun d)) d.slots h.lanes
@@ -161,9 +160,9 @@ module _ (controls : Controls) (now : ℕ) (q : Queue) (a : List ℕ) (c : Chann
             (subst (λ (x : Channel). files_of q x n ≡ Some records) e there) (subst (Serves (about q n)) e serves)
             (subst (λ (x : Channel). is_free_for n (lane x d.slots) ≡ true) e free) (bare Local));
         apart = apart_begun Local n begun records (is_dying n begun d) d.book.messages d.slots h.apart;
-        controls_are = h.controls_are;
+        no_nul = h.no_nul;
       })
-      begun_on Remote e free = subst (λ (x : Channel). OnDesk controls q (has_begun x n begun records d)) (sym e) (record {
+      begun_on Remote e free = subst (λ (x : Channel). OnDesk q (has_begun x n begun records d)) (sym e) (record {
         known = h.known;
         due = then_on q Remote n never d.book.messages (subst (Serves (about q n)) e serves) h.due;
         lanes = lane_on q Remote (begun_by n records begun (is_dying n begun d)) d.slots h.lanes
@@ -171,7 +170,7 @@ module _ (controls : Controls) (now : ℕ) (q : Queue) (a : List ℕ) (c : Chann
             (subst (λ (x : Channel). files_of q x n ≡ Some records) e there) (subst (Serves (about q n)) e serves)
             (subst (λ (x : Channel). is_free_for n (lane x d.slots) ≡ true) e free) (bare Remote));
         apart = apart_begun Remote n begun records (is_dying n begun d) d.book.messages d.slots h.apart;
-        controls_are = h.controls_are;
+        no_nul = h.no_nul;
       })
 
       begun_bare : (ch : Channel) → HasNoMarks (has_begun ch n begun records d).slots
@@ -179,46 +178,46 @@ module _ (controls : Controls) (now : ℕ) (q : Queue) (a : List ℕ) (c : Chann
       begun_bare Remote = bare_begun Remote n begun records (is_dying n begun d) d.slots bare
 
       if_free : (b : Bool) → is_free_for n (lane c d.slots) ≡ b
-          → SenderStands controls now q a (if b then closed c n (point.Pass c false) (has_begun c n begun records d) else put_later c n read d)
-      if_free true e = closed_on controls now q a c n (point.Pass c false) (has_begun c n begun records d) (begun_on c refl e) (begun_bare c)
+          → SenderStands now q a (if b then closed c n (point.Pass c false) (has_begun c n begun records d) else put_later c n read d)
+      if_free true e = closed_on now q a c n (point.Pass c false) (has_begun c n begun records d) (begun_on c refl e) (begun_bare c)
       if_free false e = later_on
 
-    opened_on : (o : Option (List Record)) → records_of d.book.read ≡ o → SenderStands controls now q a (pass_opened o c n begun read d)
+    opened_on : (o : Option (List Record)) → records_of d.book.read ≡ o → SenderStands now q a (pass_opened o c n begun read d)
     opened_on None e = later_on
     opened_on (Some records) e = if_free records e (is_free_for n (lane c d.slots)) refl
 
   on_progress : (g : Reading) (s : Said) (p : Progress) → ReadsOn q a (lane_part c) n p d.book.read (kept g d.book.read ++ s.bytes)
-      → SenderStands controls now q a (file_read p c n begun g read s d)
+      → SenderStands now q a (file_read p c n begun g read s d)
   on_progress g s (Goes next) w =
       let e : Desk = record d { row = at.ReadFile c n begun next; book = record d.book { read = kept g d.book.read ++ s.bytes } } in
-      let on : OnDesk controls q e = record { known = h.known; due = h.due; lanes = h.lanes; apart = h.apart; controls_are = h.controls_are } in
-      stand controls now q a (at.ReadFile c n begun next) e (λ ch. refl) on (bare, (none, (serves, w)))
+      let on : OnDesk q e = record { known = h.known; due = h.due; lanes = h.lanes; apart = h.apart; no_nul = h.no_nul } in
+      stand now q a (at.ReadFile c n begun next) e (λ ch. refl) on (bare, (none, (serves, w)))
   on_progress g s Whole w = opened_on w (records_of d.book.read) refl
   on_progress g s Missing w = later_on
   on_progress g s Failed w = later_on
 
-busy_on : (controls : Controls) (now : ℕ) (q : Queue) (a : List ℕ) (d : Desk) → SenderStands controls now q a d → SenderStands controls now q a (busy d)
-busy_on controls now q a d h = h
+busy_on : (now : ℕ) (q : Queue) (a : List ℕ) (d : Desk) → SenderStands now q a d → SenderStands now q a (busy d)
+busy_on now q a d h = h
 
 lane_named : (c : Channel) (n : ℕ) → name_of (file_of c n) ≡ Of (lane_part c) n
 lane_named Local n = refl
 lane_named Remote n = refl
 
-module _ (controls : Controls) (now : ℕ) (q : Queue) (a : List ℕ) (G : Sound controls q) where
-  pub opens : (c : Channel) (n begun : ℕ) (g : Reading) (d : Desk) (read : ℕ) (call : CallData) (told : Told) (wrote : ℕ) → StandsAt controls now q a (at.ReadFile c n begun g) d
+module _ (now : ℕ) (q : Queue) (a : List ℕ) (G : Sound q) where
+  pub opens : (c : Channel) (n begun : ℕ) (g : Reading) (d : Desk) (read : ℕ) (call : CallData) (told : Told) (wrote : ℕ) → StandsAt now q a (at.ReadFile c n begun g) d
       → due_at (at.ReadFile c n begun g) d ≡ needs.File call → Fits q.disk call told.answer wrote → IsReadBy q.disk call told
-      → SenderLeads controls now a q (called_queue q a read call told.answer wrote q.role) (act (at.ReadFile c n begun g) read (Answered told) d)
+      → SenderLeads now a q (called_queue q a read call told.answer wrote q.role) (act (at.ReadFile c n begun g) read (Answered told) d)
   opens c n begun g d read call told wrote h due fits by =
-      let on = on_of controls now q a (at.ReadFile c n begun g) d (record { first = λ ch. refl; controls_read = tt }) (λ k w. w) h in
+      let on = on_of now q a (at.ReadFile c n begun g) d (record { first = λ ch. refl; controls_read = tt }) (λ k w. w) h in
       let r : Queue = called_queue q a read call told.answer wrote q.role in
-      let w = readings controls now q a G (lane_part c) n d.book.read read wrote (file_of c n) g call told (lane_named c n) h.rests.1.1.1 due fits by in
+      let w = readings now q a G (lane_part c) n d.book.read read wrote (file_of c n) g call told (lane_named c n) h.rests.1.1.1 due fits by in
       let grows = grown_by now a q r w.leads.elsewhere in
       let begins : ℕ = begun_at g begun read in
       record {
         number = None;
         closed = none_closed now q;
         leads = w.leads;
-        stands = busy_on controls now r a (file_read (read_on g (said (Answered told))) c n begins g read (said (Answered told)) d)
-            (on_progress controls now r a c n begins read d (desk_grown controls q r d grows on) h.rests.0 h.rests.1.0 (serves_grown q r grows n c h.rests.1.1.0)
+        stands = busy_on now r a (file_read (read_on g (said (Answered told))) c n begins g read (said (Answered told)) d)
+            (on_progress now r a c n begins read d (desk_grown q r d grows on) h.rests.0 h.rests.1.0 (serves_grown q r grows n c h.rests.1.1.0)
             g (said (Answered told)) (read_on g (said (Answered told))) w.reads);
       }

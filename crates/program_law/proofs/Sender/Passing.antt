@@ -36,7 +36,8 @@ use Rattle.todo_pass.specs.Sorting.{has, info_text}
 use Rattle.todo_pass.specs.Table.{Pass, place_after as pass_after, moved, due_by as pass_due}
 use Rattle.todo_pass.proofs.Ends.{files_are_made}
 use Rattle.todo_pass.proofs.Made.{numbered}
-use Rattle.queue_law.specs.Books.{own_call}
+use Rattle.queue_law.specs.Books.{own_call, with_line}
+use Rattle.queue_law.specs.Ledgers.Line.{Routes}
 use Rattle.queue_law.specs.Numbers.{Role, Entry, entry, Queue, look, about, Sound}
 use Rattle.queue_law.specs.Passes.{PassStands}
 use Rattle.queue_law.specs.Ready.{HasSynced}
@@ -47,7 +48,8 @@ use Rattle.queue_law.specs.Steps.{Elsewhere}
 use Rattle.queue_law.proofs.Begins.{rests_begin}
 use Rattle.queue_law.proofs.Looks.{find_none, find_some, found}
 use Rattle.queue_law.proofs.Passes.{passes_keep}
-use Rattle.queue_law.proofs.PassesMake.{passes_make, pass_is_left_alone}
+use Rattle.queue_law.proofs.PassesMake.{passes_make, pass_is_left_alone, passes_give as queue_gives}
+use Rattle.queue_law.proofs.Sends.{entered_living}
 use Rattle.program_law.specs.Sender.Knows.{has_file, IsThereIf}
 use Rattle.program_law.specs.Sender.InTodo.{PassGoesOn}
 use Rattle.program_law.specs.Sender.Searches.{SearchBegins, PassGoesTo, PassesGoOn, PassesGive}
@@ -88,7 +90,7 @@ leads_more controls n (event ∷ before) first d e h more =
 -- A pass of a number, at its place
 
 pub goes_at : (controls : Controls) (now : ℕ) (q : Queue) (a : List ℕ) (n : ℕ) (past : List Own) (p : Pass) (first : Disk) → p ≡ pass_after controls n past → IsRun controls n past
-    → LeadsTo controls n first past q.disk → PassStands controls now q a n (pass_after controls n past).row → PassGoesOn controls now q a p
+    → LeadsTo controls n first past q.disk → PassStands now q a n (pass_after controls n past).row → PassGoesOn controls now q a p
 goes_at controls now q a n past p first is run leads stands =
     let number : n ≡ p.n = sym (ap (λ (z : Pass). z.n) is ∙ numbered controls n past) in
     record {
@@ -97,7 +99,7 @@ goes_at controls now q a n past p first is run leads stands =
       run = subst (λ m. IsRun controls m past) number run;
       first = first;
       leads = subst (λ m. LeadsTo controls m first past q.disk) number leads;
-      stands = subst (λ m. PassStands controls now q a m p.row) number (subst (λ (z : Pass). PassStands controls now q a n z.row) (sym is) stands);
+      stands = subst (λ m. PassStands now q a m p.row) number (subst (λ (z : Pass). PassStands now q a n z.row) (sym is) stands);
     }
 
 -- The search
@@ -131,7 +133,7 @@ search_begins controls now q a read after text wrote n G fits number =
       first = q.disk;
       leads = nothing_else n (pass_after controls n []).row q.disk;
       stands = record {
-        rests = λ holds. rests_begin.queued controls now q n (entry q.disk.files w.0) G (todo_alone (about q n).parts ∙ find_some q.disk.names q.disk.files (Of Todo n) w.0 w.1);
+        rests = λ holds. rests_begin.queued now q n (entry q.disk.files w.0) G (todo_alone (about q n).parts ∙ find_some q.disk.names q.disk.files (Of Todo n) w.0 w.1);
         holds = tt;
       };
     }
@@ -145,10 +147,10 @@ module _ (controls : Controls) (now : ℕ) (q : Queue) (a : List ℕ) (p : Pass)
   n : ℕ
   n = p.n
 
-  at_place : PassStands controls now q a p.n (pass_after controls p.n h.past).row
-  at_place = subst (λ (z : Pass). PassStands controls now q a p.n z.row) h.is h.stands
+  at_place : PassStands now q a p.n (pass_after controls p.n h.past).row
+  at_place = subst (λ (z : Pass). PassStands now q a p.n z.row) h.is h.stands
 
-  calls : (read : ℕ) (call : CallData) (told : Told) (wrote : ℕ) → Sound controls q → pass_due p ≡ needs.File call → Fits q.disk call told.answer wrote
+  calls : (read : ℕ) (call : CallData) (told : Told) (wrote : ℕ) → Sound q → pass_due p ≡ needs.File call → Fits q.disk call told.answer wrote
       → IsReadBy q.disk call told
       → (role : ℕ → Role) × PassGoesTo controls now a q (called_queue q a read call told.answer wrote role) p (moved controls p read (came.Answered told))
   calls read call told wrote G due fits told_is =
@@ -176,7 +178,7 @@ module _ (controls : Controls) (now : ℕ) (q : Queue) (a : List ℕ) (p : Pass)
         run = h.run;
         first = h.first;
         leads = leads_more controls p.n h.past h.first q.disk r.disk h.leads (pass_is_left_alone.alone now a o m q r E far p.n row at_place.holds same);
-        stands = pass_is_left_alone.stands controls now a o m k q r E far S p.n other p.row h.stands;
+        stands = pass_is_left_alone.stands now a o m k q r E far S p.n other p.row h.stands;
       }
 
 pub passes_go_on : PassesGoOn
@@ -189,7 +191,7 @@ passes_go_on = record {
     run = h.run;
     first = h.first;
     leads = h.leads;
-    stands = pass_is_left_alone.later controls now m soon q a p.n p.row h.stands;
+    stands = pass_is_left_alone.later now m soon q a p.n p.row h.stands;
   };
 }
 
@@ -222,22 +224,24 @@ both P local remote channel.Local = local
 both P local remote channel.Remote = remote
 
 pub passes_give : PassesGive
-passes_give controls now q a p h at_give =
+passes_give controls now q a p plain G h at_give =
     let place : (pass_after controls p.n h.past).row ≡ at.Give = sym (ap (λ (z : Pass). z.row) h.is) ∙ at_give in
     let R = h.stands.rests (subst HoldsTodo (sym at_give) tt) in
-    let ready = passes_make controls p.n h.past h.first q h.run h.leads place R.rest in
+    let i = R.rest.taken.injection in
+    let made = passes_make controls p.n h.past h.first q h.run h.leads place R.rest in
+    let given = queue_gives controls now q a p.n plain G R made in
     let F = files_are_made controls p.n h.past h.first q.disk h.run h.leads (subst IsMadeRow (sym place) tt) in
     let C = subst (λ (z : Pass). IsComplete p.n z q.disk) (sym h.is) F.complete in
-    let args = ready.queued.taken.injection.args in
+    let args = i.args in
     let sorted = ap (λ (z : Pass). z.sorted) h.is ∙ F.sorted.2 in
     let info : p.sorted.info ≡ info_text p.sorted.sender =
     ap (λ (s : Texts). s.info) sorted ∙ ap info_text (sym (ap (λ (s : Texts). s.sender) sorted)) in
-    let same : info_text p.sorted.sender ≡ info_of args = sym info ∙ one_text q p.n p.sorted.info (info_of args) C.info ready.info in
+    let same : info_text p.sorted.sender ≡ info_of args = sym info ∙ one_text q p.n p.sorted.info (info_of args) C.info made.info in
     record {
-      rests = record { closed = R.closed; rest = ready };
+      given = given;
       learned = record {
-        injection = ready.queued.taken.injection;
-        lives = ready.queued.taken.lives;
+        injection = with_line (Routes controls) i;
+        lives = entered_living now q a G p.n (Routes controls) i R.rest.taken.lives;
         sender_is = one_sender p.sorted.sender (sender_of args) same;
         files = both (λ ch. IsThereIf (has_file ch (known_of p)) (look q (Of (lane_part ch) p.n)))
             (there_if q Local p.n p.sorted.local C.local) (there_if q Remote p.n p.sorted.remote C.remote);

@@ -51,9 +51,9 @@ use Rattle.program_law.proofs.Sender.Closes.{one_closed}
 
 -- The sweep
 
-module _ (controls : Controls) (now : ℕ) (q : Queue) (a : List ℕ) (read wrote : ℕ) (G : Sound controls q) where
-  reads : (asked : CallData) (told : Answer) → OnlyReads q a asked → Fits q.disk asked told wrote → LeadsOn controls now a None q (called_queue q a read asked told wrote q.role)
-  reads asked told may fits = reads_keep controls now q a G read asked told wrote may fits
+module _ (now : ℕ) (q : Queue) (a : List ℕ) (read wrote : ℕ) (G : Sound q) where
+  reads : (asked : CallData) (told : Answer) → OnlyReads q a asked → Fits q.disk asked told wrote → LeadsOn now a None q (called_queue q a read asked told wrote q.role)
+  reads asked told may fits = reads_keep now q a G read asked told wrote may fits
 
   module _ (b : Book) (soon : read ≤ now) where
     abbrev known : List Known
@@ -73,7 +73,7 @@ module _ (controls : Controls) (now : ℕ) (q : Queue) (a : List ℕ) (read wrot
     over_stands false split = tt
 
     abbrev Leads : CallData → Answer → SweepRow → Type 0
-    Leads asked told next = SweepLeads controls now a q (called_queue q a read asked told wrote q.role) next known
+    Leads asked told next = SweepLeads now a q (called_queue q a read asked told wrote q.role) next known
 
     abbrev Steps : SweepRow → CallData → Type 0
     Steps row asked = (told : Answer) (bytes : List ℕ) → Fits q.disk asked told wrote → Leads asked told (sweep_to row read (answered told bytes) b)
@@ -109,7 +109,7 @@ module _ (controls : Controls) (now : ℕ) (q : Queue) (a : List ℕ) (read wrot
           (λ old.
           let mess = entry q.disk.files stat.number in
           let there = find_some q.disk.names q.disk.files (Of Mess n) stat.number fits.number in
-          let aged = subst (λ m. m + 129600 < now) fits.moment_is old in (rests_begin.old controls now q n mess G there aged, record { mess = mess; there = there; old = aged }));
+          let aged = subst (λ m. m + 129600 < now) fits.moment_is old in (rests_begin.old now q n mess G there aged, record { mess = mess; there = there; old = aged }));
     }
     stat_mess split n h (answer.Refused why.NotThere) bytes fits =
         record { leads = reads (call.Stat (path (Of Mess n))) (answer.Refused why.NotThere) tt fits; stands = tt }
@@ -135,7 +135,7 @@ module _ (controls : Controls) (now : ℕ) (q : Queue) (a : List ℕ) (read wrot
         record { leads = reads (call.Stat (path (Of Info n))) (answer.Refused why.NotThere) tt fits; stands = tt }
     stat_info split n false h (answer.Refused why.NotThere) bytes fits = record {
       leads = reads (call.Stat (path (Of Info n))) (answer.Refused why.NotThere) tt fits;
-      stands = (h.0, (rests_begin.spent controls now q n G h.1.0.0 (h.1.1 refl) (find_none q.disk.names q.disk.files (Of Info n) fits), h.1.0.1));
+      stands = (h.0, (rests_begin.spent now q n G h.1.0.0 (h.1.1 refl) (find_none q.disk.names q.disk.files (Of Info n) fits), h.1.0.1));
     }
     stat_info split n todo h (answer.Refused why.Fault) bytes fits =
         record { leads = reads (call.Stat (path (Of Info n))) (answer.Refused why.Fault) tt fits; stands = tt }
@@ -156,8 +156,8 @@ module _ (controls : Controls) (now : ℕ) (q : Queue) (a : List ℕ) (read wrot
     sweep_at sweep.Lost words asked h due = absurd (cc)
 
 pub sweeps_lead : SweepsLead
-sweeps_lead controls now q a row b words read asked told wrote G h soon due fits =
-    sweep_at controls now q a read wrote G b soon row words asked h due told.answer told.bytes fits
+sweeps_lead now q a row b words read asked told wrote G h soon due fits =
+    sweep_at now q a read wrote G b soon row words asked h due told.answer told.bytes fits
 
 -- The finish
 
@@ -175,17 +175,17 @@ each_on q row next known stays h =
     All-weaker (λ (k : Known). Knows row (about q k.n) k) (λ (k : Known). Knows next (about q k.n) k) (λ k it. knows_on row next (about q k.n) k (stays k.n) it) known h
 
 -- a number without todo whose info file is there has its message, which is accepted
-has_message : (controls : Controls) (now : ℕ) (q : Queue) (n : ℕ) → Phase controls (about q n) → MayEnd (about q n) → IsClosed now q n
-has_message controls now q n (Free h) may = let none = h.unsorted Info refl in let there = may.there in absurd (cc)
-has_message controls now q n (Queued h) may = let none = may.no_todo in let there = h.todo_there in absurd (cc)
-has_message controls now q n (Sorted h) may = record {
+has_message : (now : ℕ) (q : Queue) (n : ℕ) → Phase (about q n) → MayEnd (about q n) → IsClosed now q n
+has_message now q n (Free h) may = let none = h.unsorted Info refl in let there = may.there in absurd (cc)
+has_message now q n (Queued h) may = let none = may.no_todo in let there = h.todo_there in absurd (cc)
+has_message now q n (Sorted h) may = record {
   mess = h.taken.mess;
   there = h.taken.mess_there;
   shut = inr (record { injection = h.taken.injection; lives = h.taken.lives; accepted = h.taken.accepted });
 }
-has_message controls now q n (Finished h) may = let none = h.unsorted Info refl in let there = may.there in absurd (cc)
+has_message now q n (Finished h) may = let none = h.unsorted Info refl in let there = may.there in absurd (cc)
 
-module _ (controls : Controls) (now : ℕ) (q : Queue) (a : List ℕ) (read wrote : ℕ) (G : Sound controls q) (n : ℕ) (known : List Known) (back : Returning) where
+module _ (controls : Controls) (now : ℕ) (q : Queue) (a : List ℕ) (read wrote : ℕ) (G : Sound q) (n : ℕ) (known : List Known) (back : Returning) where
   abbrev FinishSteps : CallData → Type 0
   FinishSteps asked = (told : Answer) (bytes : List ℕ) → Fits q.disk asked told wrote
       → FinishLeads controls now a q (called_queue q a read asked told wrote q.role) n (finish_to finish.UnlinkInfo (answered told bytes).way) known back
@@ -201,9 +201,9 @@ module _ (controls : Controls) (now : ℕ) (q : Queue) (a : List ℕ) (read wrot
       let may = may_end idle bare each in
       let asked = call.Unlink (path (Of Info n)) in
       let r = called_queue q a read asked answer.Done wrote q.role in
-      let leads = ends_keep controls now q a G read n answer.Done wrote may fits in
+      let leads = ends_keep now q a G read n answer.Done wrote may fits in
       let one = unlinks_one q a read (Of Info n) answer.Done wrote fits in
-      let closed = has_message controls now q n (G.fine n) may in
+      let closed = has_message now q n (G.fine n) may in
       record {
         number = Some n;
         only = inr refl;
@@ -211,7 +211,7 @@ module _ (controls : Controls) (now : ℕ) (q : Queue) (a : List ℕ) (read wrot
         leads = leads;
         stands = (
           idle,
-          rests_begin.spent controls now r n leads.sound
+          rests_begin.spent now r n leads.sound
               (record { mess = closed.mess; there = one.others (Of Mess n) (λ s. cc) ∙ closed.there; shut = ⊎_elim (λ over. inl over) (λ (s : IsAccepted (about q n)). inr (record { injection = s.injection; lives = s.lives; accepted = s.accepted })) closed.shut })
               (todo_same (about q n).parts (about r n).parts (λ part is. one.others (Of part n) (todo_apart part n (Of Info n) is refl)) ∙ may.no_todo) (one.gone refl),
         );
@@ -226,23 +226,23 @@ module _ (controls : Controls) (now : ℕ) (q : Queue) (a : List ℕ) (read wrot
   unlink_info idle bare each (answer.Refused why.NotThere) bytes fits = record {
     number = Some n;
     only = inr refl;
-    closed = one_closed now q n (has_message controls now q n (G.fine n) (may_end idle bare each));
-    leads = ends_keep controls now q a G read n (answer.Refused why.NotThere) wrote (may_end idle bare each) fits;
+    closed = one_closed now q n (has_message now q n (G.fine n) (may_end idle bare each));
+    leads = ends_keep now q a G read n (answer.Refused why.NotThere) wrote (may_end idle bare each) fits;
     stands = tt;
     knows = each_on q (at.Finish finish.UnlinkInfo n) (at.Finish finish.Later n) known (λ m is. is.0) each;
   }
   unlink_info idle bare each (answer.Refused why.Fault) bytes fits = record {
     number = Some n;
     only = inr refl;
-    closed = one_closed now q n (has_message controls now q n (G.fine n) (may_end idle bare each));
-    leads = ends_keep controls now q a G read n (answer.Refused why.Fault) wrote (may_end idle bare each) fits;
+    closed = one_closed now q n (has_message now q n (G.fine n) (may_end idle bare each));
+    leads = ends_keep now q a G read n (answer.Refused why.Fault) wrote (may_end idle bare each) fits;
     stands = tt;
     knows = each_on q (at.Finish finish.UnlinkInfo n) (at.Finish finish.Later n) known (λ m is. is.0) each;
   }
   unlink_info idle bare each told bytes fits = absurd fits
 
 pub ends_lead : (controls : Controls) (now : ℕ) (q : Queue) (a : List ℕ) (n : ℕ) (known : List Known) (back : Returning) (read : ℕ) (asked : CallData) (told : Told) (wrote : ℕ)
-    → Sound controls q → KnowsEach q (at.Finish finish.UnlinkInfo n) known → FinishStands controls now q a finish.UnlinkInfo n known back
+    → Sound q → KnowsEach q (at.Finish finish.UnlinkInfo n) known → FinishStands controls now q a finish.UnlinkInfo n known back
     → due_by (finish_step finish.UnlinkInfo n) [] ≡ needs.File asked → Fits q.disk asked told.answer wrote
     → FinishLeads controls now a q (called_queue q a read asked told.answer wrote q.role) n (finish_to finish.UnlinkInfo (answered told.answer told.bytes).way) known back
 ends_lead controls now q a n known back read asked told wrote G each h due fits =
@@ -270,6 +270,6 @@ forgets q rest n (k ∷ known) each =
 pub chores_stand : ChoresStand
 chores_stand = record {
   finish_gives = λ controls now q a n known back h. h.1;
-  sweep_gives = λ controls now q a split n known h. h.1.0;
+  sweep_gives = λ now q a split n known h. h.1.0;
   forgets = λ q row rest n known is each. forgets q rest n known (subst (λ z. KnowsEach q z known) is each);
 }

@@ -3,7 +3,6 @@ use Rattle.std.proofs.Common.{◌≡◌, ℕ, ◌≤◌, ◌<◌, List, [], ◌+
 use Rattle.std.specs.Prelude.{if◌then◌else◌, nat_lt}
 use Rattle.std.proofs.lemmas.Bool.{ltb-true}
 use Rattle.std.proofs.lemmas.List.{take_all, take_at, take-append-drop}
-use Rattle.address_rules.specs.declared.controls.Controls.{Controls}
 use Rattle.call_fs.specs.declared.calls.Answer.{Answer}
 use Rattle.call_fs.specs.declared.calls.Answer.TheVariants as answer
 use Rattle.call_fs.specs.declared.calls.CallData.{CallData}
@@ -56,7 +55,7 @@ piece_ends bytes before k e size lt =
     let all : length rest ≤ k = omega (arith, size, lt, long) in
     ap (λ t. before ++ t) (take_all k rest all) ∙ split_at bytes before e
 
-module _ (controls : Controls) (now : ℕ) (q : Queue) (a : List ℕ) (G : Sound controls q) (part : Part) (n : ℕ) (before : List ℕ) (read wrote : ℕ) where
+module _ (now : ℕ) (q : Queue) (a : List ℕ) (G : Sound q) (part : Part) (n : ℕ) (before : List ℕ) (read wrote : ℕ) where
   abbrev after : CallData → Answer → Queue
   after c told = called_queue q a read c told wrote q.role
 
@@ -69,11 +68,11 @@ module _ (controls : Controls) (now : ℕ) (q : Queue) (a : List ℕ) (G : Sound
       record { held = record { file = entry q.disk.files w.0; there = find_some q.disk.names q.disk.files (Of part n) w.0 w.1; opened = w.2 }; begins = refl }
 
   at_opening : (told : Answer) (bytes : List ℕ) → Fits q.disk opening told wrote
-      → ReadingLeads controls now a q (after opening told) part n (read_on Opening (answered told bytes)) before (kept Opening before ++ (answered told bytes).bytes)
-  at_opening (answer.Opened fd) bytes fits = record { leads = reads_keep controls now q a G read opening (answer.Opened fd) wrote tt fits; reads = opened_on fd fits }
-  at_opening (answer.Refused why.NotThere) bytes fits = record { leads = reads_keep controls now q a G read opening (answer.Refused why.NotThere) wrote tt fits; reads = tt }
-  at_opening (answer.Refused why.Fault) bytes fits = record { leads = reads_keep controls now q a G read opening (answer.Refused why.Fault) wrote tt fits; reads = tt }
-  at_opening (answer.Refused why.Memory) bytes fits = record { leads = reads_keep controls now q a G read opening (answer.Refused why.Memory) wrote tt fits; reads = tt }
+      → ReadingLeads now a q (after opening told) part n (read_on Opening (answered told bytes)) before (kept Opening before ++ (answered told bytes).bytes)
+  at_opening (answer.Opened fd) bytes fits = record { leads = reads_keep now q a G read opening (answer.Opened fd) wrote tt fits; reads = opened_on fd fits }
+  at_opening (answer.Refused why.NotThere) bytes fits = record { leads = reads_keep now q a G read opening (answer.Refused why.NotThere) wrote tt fits; reads = tt }
+  at_opening (answer.Refused why.Fault) bytes fits = record { leads = reads_keep now q a G read opening (answer.Refused why.Fault) wrote tt fits; reads = tt }
+  at_opening (answer.Refused why.Memory) bytes fits = record { leads = reads_keep now q a G read opening (answer.Refused why.Memory) wrote tt fits; reads = tt }
   at_opening (answer.Refused why.Exists) bytes fits = absurd fits
   at_opening (answer.Created fd k) bytes fits = absurd fits
   at_opening (answer.Count k) bytes fits = absurd fits
@@ -110,13 +109,13 @@ module _ (controls : Controls) (now : ℕ) (q : Queue) (a : List ℕ) (G : Sound
         record { held = record { file = h.held.file; there = h.held.there; opened = h.held.opened }; begins = grown }
 
     pub at_going : (told : Answer) (bytes : List ℕ) → Fits q.disk (taking fd) told wrote → IsReadBy q.disk (taking fd) (record { answer = told; bytes = bytes })
-        → ReadingLeads controls now a q (after (taking fd) told) part n (read_on (Going fd) (answered told bytes)) before (kept (Going fd) before ++ (answered told bytes).bytes)
+        → ReadingLeads now a q (after (taking fd) told) part n (read_on (Going fd) (answered told bytes)) before (kept (Going fd) before ++ (answered told bytes).bytes)
     at_going (answer.Count k) bytes fits by = record {
-      leads = reads_keep controls now q a G read (taking fd) (answer.Count k) wrote tt fits;
+      leads = reads_keep now q a G read (taking fd) (answer.Count k) wrote tt fits;
       reads = by_length k bytes (nat_lt (length bytes) PIECE) refl (fits.1 ∙ ap (λ t. min PIECE (length t)) from_here) (by ∙ ap (take k) from_here);
     }
     at_going (answer.Refused why.Fault) bytes fits by = record {
-      leads = reads_keep controls now q a G read (taking fd) (answer.Refused why.Fault) wrote tt fits;
+      leads = reads_keep now q a G read (taking fd) (answer.Refused why.Fault) wrote tt fits;
       reads = (_, h.held.opened);
     }
     at_going (answer.Refused why.NotThere) bytes fits by = absurd fits
@@ -130,34 +129,34 @@ module _ (controls : Controls) (now : ℕ) (q : Queue) (a : List ℕ) (G : Sound
     at_going answer.NoName bytes fits by = absurd fits
 
   at_closing : (fd : Fd) (told : Answer) (bytes : List ℕ) → q.holder fd.0 ≡ Some a → HasText q part n before → Fits q.disk (call.Close fd) told wrote
-      → ReadingLeads controls now a q (after (call.Close fd) told) part n Whole before (before ++ (answered told bytes).bytes)
+      → ReadingLeads now a q (after (call.Close fd) told) part n Whole before (before ++ (answered told bytes).bytes)
   at_closing fd answer.Done bytes holds h fits = record {
-    leads = reads_keep controls now q a G read (call.Close fd) answer.Done wrote holds fits;
+    leads = reads_keep now q a G read (call.Close fd) answer.Done wrote holds fits;
     reads = record { file = h.file; there = h.there; text = h.text };
   }
   at_closing fd told bytes holds h fits = absurd fits
 
   at_shutting : (fd : Fd) (told : Answer) (bytes : List ℕ) → q.holder fd.0 ≡ Some a → Fits q.disk (call.Close fd) told wrote
-      → ReadingLeads controls now a q (after (call.Close fd) told) part n Failed before (before ++ (answered told bytes).bytes)
-  at_shutting fd answer.Done bytes holds fits = record { leads = reads_keep controls now q a G read (call.Close fd) answer.Done wrote holds fits; reads = tt }
+      → ReadingLeads now a q (after (call.Close fd) told) part n Failed before (before ++ (answered told bytes).bytes)
+  at_shutting fd answer.Done bytes holds fits = record { leads = reads_keep now q a G read (call.Close fd) answer.Done wrote holds fits; reads = tt }
   at_shutting fd told bytes holds fits = absurd fits
 
   pub readings : (name : Owned) (g : Reading) (c : CallData) (told : Told) → name_of name ≡ Of part n → Reads q a part n g before
       → due_by (reading_step g (step.Open name how.Read) (length before)) [] ≡ needs.File c → Fits q.disk c told.answer wrote → IsReadBy q.disk c told
-      → ReadingLeads controls now a q (after c told.answer) part n (read_on g (answered told.answer told.bytes)) before (kept g before ++ (answered told.answer told.bytes).bytes)
+      → ReadingLeads now a q (after c told.answer) part n (read_on g (answered told.answer told.bytes)) before (kept g before ++ (answered told.answer told.bytes).bytes)
   readings name Opening c told named h due fits by =
       let same : c ≡ opening = sym (file_call (call.Open (path (name_of name)) how.Read) c due) ∙ ap (λ x. call.Open (path x) how.Read) named in
-      subst (λ z. ReadingLeads controls now a q (after z told.answer) part n (read_on Opening (answered told.answer told.bytes)) before (kept Opening before ++ (answered told.answer told.bytes).bytes))
+      subst (λ z. ReadingLeads now a q (after z told.answer) part n (read_on Opening (answered told.answer told.bytes)) before (kept Opening before ++ (answered told.answer told.bytes).bytes))
       (sym same) (at_opening told.answer told.bytes (subst (λ z. Fits q.disk z told.answer wrote) same fits))
   readings name (Going fd) c told named h due fits by =
       let same : c ≡ taking fd = sym (file_call (taking fd) c due) in
-      subst (λ z. ReadingLeads controls now a q (after z told.answer) part n (read_on (Going fd) (answered told.answer told.bytes)) before (kept (Going fd) before ++ (answered told.answer told.bytes).bytes))
+      subst (λ z. ReadingLeads now a q (after z told.answer) part n (read_on (Going fd) (answered told.answer told.bytes)) before (kept (Going fd) before ++ (answered told.answer told.bytes).bytes))
       (sym same) (at_going fd h told.answer told.bytes (subst (λ z. Fits q.disk z told.answer wrote) same fits) (subst (λ z. IsReadBy q.disk z told) same by))
   readings name (Closing fd) c told named h due fits by =
       let same : c ≡ call.Close fd = sym (file_call (call.Close fd) c due) in
-      subst (λ z. ReadingLeads controls now a q (after z told.answer) part n Whole before (before ++ (answered told.answer told.bytes).bytes))
+      subst (λ z. ReadingLeads now a q (after z told.answer) part n Whole before (before ++ (answered told.answer told.bytes).bytes))
       (sym same) (at_closing fd told.answer told.bytes h.0.1.held h.1 (subst (λ z. Fits q.disk z told.answer wrote) same fits))
   readings name (Shutting fd) c told named h due fits by =
       let same : c ≡ call.Close fd = sym (file_call (call.Close fd) c due) in
-      subst (λ z. ReadingLeads controls now a q (after z told.answer) part n Failed before (before ++ (answered told.answer told.bytes).bytes))
+      subst (λ z. ReadingLeads now a q (after z told.answer) part n Failed before (before ++ (answered told.answer told.bytes).bytes))
       (sym same) (at_shutting fd told.answer told.bytes h.1.held (subst (λ z. Fits q.disk z told.answer wrote) same fits))

@@ -1,7 +1,6 @@
 -- A request: it is of a record that reads `T`, and keeps what the sender relies on.
 use Rattle.std.proofs.Common.{◌≡◌, ℕ, List, [], drop, Bool, true, false, Option, Some, None, refl, sym, ap, ◌∙◌, subst}
 use Rattle.std.specs.Prelude.{IsSome, if◌then◌else◌, is_some}
-use Rattle.address_rules.specs.declared.controls.Controls.{Controls}
 use Rattle.call_fs.specs.declared.past.GotData.{GotData}
 use Rattle.send_core.specs.declared.desk.Desk.{Desk}
 use Rattle.send_parts.specs.declared.row.Point.TheVariants as point
@@ -83,38 +82,38 @@ sent_apart Remote m s h delivery slot t e f Remote = apart_lane Remote (sent del
 plain_row : (c : Channel) → IsPlain (at.Request c)
 plain_row c = record { first = λ ch. refl; controls_read = tt }
 
-module _ (controls : Controls) (now : ℕ) (q : Queue) (a : List ℕ) where
+module _ (now : ℕ) (q : Queue) (a : List ℕ) where
   -- what a desk with these slots relies on at the next point
-  gave_on : (c : Channel) (s : Slots) (d : Desk) → OnDesk controls q d → OnBoth q s → DueApart d.book.messages s → HasNoMarks s → Stands controls now q a (at.Turn (point.Pass c false)) d.book s (works d)
+  gave_on : (c : Channel) (s : Slots) (d : Desk) → OnDesk q d → OnBoth q s → DueApart d.book.messages s → HasNoMarks s → Stands now q a (at.Turn (point.Pass c false)) d.book s (works d)
   gave_on c s d h lanes apart bare =
       let e : Desk = record d { slots = s } in
-      let on : OnDesk controls q e = record { known = h.known; due = h.due; lanes = lanes; apart = apart; controls_are = h.controls_are } in
-      stand controls now q a (at.Turn (point.Pass c false)) e (λ ch. refl) on bare
+      let on : OnDesk q e = record { known = h.known; due = h.due; lanes = lanes; apart = apart; no_nul = h.no_nul } in
+      stand now q a (at.Turn (point.Pass c false)) e (λ ch. refl) on bare
 
   -- the request was given
-  given_on : (c : Channel) (d : Desk) → OnDesk controls q d → HasNoMarks d.slots → (slot : ℕ) (t : Attempt) → next (lane c d.slots) ≡ Some t → lowest (lane c d.slots).slots ≡ Some slot
-      → Stands controls now q a (at.Turn (point.Pass c false)) d.book (sent_on c d.slots) (works d)
+  given_on : (c : Channel) (d : Desk) → OnDesk q d → HasNoMarks d.slots → (slot : ℕ) (t : Attempt) → next (lane c d.slots) ≡ Some t → lowest (lane c d.slots).slots ≡ Some slot
+      → Stands now q a (at.Turn (point.Pass c false)) d.book (sent_on c d.slots) (works d)
   given_on c d h bare slot t e f =
       let s : Slots = sent_as (Some slot) c (next_delivery d.slots) d.slots in
       let same : sent_on c d.slots ≡ s = ap (λ o. sent_as o c (next_delivery d.slots) d.slots) f in
-      subst (λ (x : Slots). Stands controls now q a (at.Turn (point.Pass c false)) d.book x (works d)) (sym same)
+      subst (λ (x : Slots). Stands now q a (at.Turn (point.Pass c false)) d.book x (works d)) (sym same)
       (gave_on c s d h (sent_both q c d.slots h.lanes (next_delivery d.slots) slot t e f) (sent_apart c d.book.messages d.slots h.apart (next_delivery d.slots) slot t e f) (sent_bare c d.slots bare (next_delivery d.slots) slot t e f))
 
-  sent_by : (c : Channel) (d : Desk) (b : Bool) → is_some (next (lane c d.slots)) ≡ b → Stands controls now q a (at.Turn (point.Pass c false)) d.book (sent_on c d.slots) (works d)
-      → IsSome (next (lane c d.slots)) → SenderStands controls now q a (request_sent c (stands_at d (point.Pass c false)))
+  sent_by : (c : Channel) (d : Desk) (b : Bool) → is_some (next (lane c d.slots)) ≡ b → Stands now q a (at.Turn (point.Pass c false)) d.book (sent_on c d.slots) (works d)
+      → IsSome (next (lane c d.slots)) → SenderStands now q a (request_sent c (stands_at d (point.Pass c false)))
   sent_by Local d b e h some =
-      subst (λ (x : Bool). SenderStands controls now q a (if x then with_requests Local (drop 1 d.local.requests) (record (stands_at d (point.Pass Local false)) { slots = sent_on Local d.slots }) else stands_at d (point.Pass Local false)))
+      subst (λ (x : Bool). SenderStands now q a (if x then with_requests Local (drop 1 d.local.requests) (record (stands_at d (point.Pass Local false)) { slots = sent_on Local d.slots }) else stands_at d (point.Pass Local false)))
       (sym some) h
   sent_by Remote d b e h some =
-      subst (λ (x : Bool). SenderStands controls now q a (if x then with_requests Remote (drop 1 d.remote.requests) (record (stands_at d (point.Pass Remote false)) { slots = sent_on Remote d.slots }) else stands_at d (point.Pass Remote false)))
+      subst (λ (x : Bool). SenderStands now q a (if x then with_requests Remote (drop 1 d.remote.requests) (record (stands_at d (point.Pass Remote false)) { slots = sent_on Remote d.slots }) else stands_at d (point.Pass Remote false)))
       (sym some) h
 
-  lost_at : (c : Channel) (d : Desk) → OnDesk controls q d → Stands controls now q a (lost c) d.book d.slots (works d)
-  lost_at Local d h = stand controls now q a (at.Ended 82) d (λ ch. refl) h tt
-  lost_at Remote d h = stand controls now q a (at.Ended 83) d (λ ch. refl) h tt
+  lost_at : (c : Channel) (d : Desk) → OnDesk q d → Stands now q a (lost c) d.book d.slots (works d)
+  lost_at Local d h = stand now q a (at.Ended 82) d (λ ch. refl) h tt
+  lost_at Remote d h = stand now q a (at.Ended 83) d (λ ch. refl) h tt
 
-  came_on : (c : Channel) (d : Desk) (w : Way) → OnDesk controls q d → SenderStands controls now q a (request_sent c (stands_at d (point.Pass c false)))
-      → SenderStands controls now q a (requested w c d)
+  came_on : (c : Channel) (d : Desk) (w : Way) → OnDesk q d → SenderStands now q a (request_sent c (stands_at d (point.Pass c false)))
+      → SenderStands now q a (requested w c d)
   came_on c d way.Fine on h = h
   came_on c d way.Over on h = lost_at c d on
   came_on c d way.Absent on h = lost_at c d on
@@ -122,12 +121,12 @@ module _ (controls : Controls) (now : ℕ) (q : Queue) (a : List ℕ) where
   came_on c d way.Broken on h = lost_at c d on
 
   -- the turn had a step more
-  busy_on : (d : Desk) → SenderStands controls now q a d → SenderStands controls now q a (busy d)
+  busy_on : (d : Desk) → SenderStands now q a d → SenderStands now q a (busy d)
   busy_on d h = h
 
-  pub requests : (c : Channel) (d : Desk) (read : ℕ) (came : GotData) → StandsAt controls now q a (at.Request c) d → RequestLeads controls now q a c d read came
+  pub requests : (c : Channel) (d : Desk) (read : ℕ) (came : GotData) → StandsAt now q a (at.Request c) d → RequestLeads now q a c d read came
   requests c d read came h =
-      let on = on_of controls now q a (at.Request c) d (plain_row c) (λ n w. w) h in
+      let on = on_of now q a (at.Request c) d (plain_row c) (λ n w. w) h in
       let bare = h.rests.0 in
       let t = the (next (lane c d.slots)) h.rests.1.0 in
       let slot = the (lowest (lane c d.slots).slots) h.rests.1.1 in

@@ -1,7 +1,6 @@
 -- The scan of the info files.
 use Rattle.std.proofs.Common.{◌≡◌, ◌≢◌, ℕ, ◌+◌, List, [], ◌∷◌, ◌++◌, Bool, true, false, Option, Some, None, refl, sym, ap, ◌∙◌, subst, eqb-true}
 use Rattle.std.specs.Prelude.{if◌then◌else◌, ◌==◌, nat_lt, take, IsSome}
-use Rattle.address_rules.specs.declared.controls.Controls.{Controls}
 use Rattle.call_fs.specs.declared.calls.Answer.{Answer}
 use Rattle.call_fs.specs.declared.calls.Answer.TheVariants as answer
 use Rattle.call_fs.specs.declared.calls.CallData.{CallData}
@@ -91,25 +90,25 @@ the_entry None f = absurd (f refl)
 the_entry (Some y) f = (y, refl)
 
 -- a number of which there is an info file is taken up
-taken_by : (controls : Controls) (w : About) (info : Entry) → IsTaken controls w → w.parts Info ≡ Some info → IsTakenUp w
-taken_by controls w info t there = record {
+taken_by : (w : About) (info : Entry) → IsTaken w → w.parts Info ≡ Some info → IsTakenUp w
+taken_by w info t there = record {
   accepted = record { injection = t.injection; lives = t.lives; accepted = t.accepted };
   mess = t.mess;
   mess_there = t.mess_there;
   filed = λ todo none. let both = sym there ∙ none in absurd (cc);
 }
 
-taken_up : (controls : Controls) (w : About) (info : Entry) → Phase controls w → w.parts Info ≡ Some info → IsTakenUp w
-taken_up controls w info (Free h) there = let none = h.unsorted Info refl in absurd (cc)
-taken_up controls w info (Queued h) there = taken_by controls w info h.taken there
-taken_up controls w info (Sorted h) there = taken_by controls w info h.taken there
-taken_up controls w info (Finished h) there = let none = h.unsorted Info refl in absurd (cc)
+taken_up : (w : About) (info : Entry) → Phase w → w.parts Info ≡ Some info → IsTakenUp w
+taken_up w info (Free h) there = let none = h.unsorted Info refl in absurd (cc)
+taken_up w info (Queued h) there = taken_by w info h.taken there
+taken_up w info (Sorted h) there = taken_by w info h.taken there
+taken_up w info (Finished h) there = let none = h.unsorted Info refl in absurd (cc)
 
 -- and if todo isn't there, it is preprocessed
-settles : (controls : Controls) (q : Queue) (n : ℕ) → Sound controls q → IsTakenUp (about q n) → in_todo (about q n).parts ≡ None → IsSettledIn (about q n)
-settles controls q n G t none =
+settles : (q : Queue) (n : ℕ) → Sound q → IsTakenUp (about q n) → in_todo (about q n).parts ≡ None → IsSettledIn (about q n)
+settles q n G t none =
     let w = the_entry (look q (Of Info n)) (t.filed none) in
-    settled_of controls (about q n) (sorted_of controls (about q n) (G.fine n) none w.0 w.1)
+    settled_of (about q n) (sorted_of (about q n) (G.fine n) none w.0 w.1)
 
 learned_of : (q : Queue) (n : ℕ) (read : List ℕ) → IsSettledIn (about q n) → HasText q Info n read → IsLearned q n read
 learned_of q n read f t = record { sorted = f; text = t }
@@ -128,20 +127,20 @@ unfolding path
 info_path n = refl
 
 -- a number that it finds is taken up
-search_finds : (controls : Controls) (q : Queue) (below : ℕ) (after : List ℕ) (told : Answer) (bytes : List ℕ) (wrote : ℕ) → Sound controls q
+search_finds : (q : Queue) (below : ℕ) (after : List ℕ) (told : Answer) (bytes : List ℕ) (wrote : ℕ) → Sound q
     → Fits q.disk (call.NextName (dir_text (dir.Info below)) after) told wrote → (answered told bytes).way ≡ way.Fine
     → (n : ℕ) → number_below below (answered told bytes).bytes ≡ Some n → IsTakenUp (about q n)
-search_finds controls q below after (answer.Name text) bytes wrote G fits fine n number =
+search_finds q below after (answer.Name text) bytes wrote G fits fine n number =
     let read = lies_in (message_number text) below n number in
     let is : text ≡ digits n = (number_of_some text n (number_read (number_of text) n read.0)).0 in
     let full : dir_text (dir.Info below) ++ 47 ∷ text ≡ path (Of Info n)
     = ap (λ (k : ℕ). dir_text (dir.Info k) ++ 47 ∷ text) (sym read.1) ∙ ap (λ (t : List ℕ). dir_text (dir.Info (split_of n)) ++ 47 ∷ t) is ∙ info_path n in
     let w = some_of (q.disk.names (path (Of Info n))) (subst (λ (t : List ℕ). IsSome (q.disk.names t)) full fits.1.stands.0) in
-    taken_up controls (about q n) (entry q.disk.files w.0) (G.fine n) (find_some q.disk.names q.disk.files (Of Info n) w.0 w.1)
-search_finds controls q below after answer.NoName bytes wrote G fits fine n number = absurd (cc)
-search_finds controls q below after (answer.Refused why.NotThere) bytes wrote G fits fine n number = absurd (cc)
-search_finds controls q below after (answer.Refused why.Fault) bytes wrote G fits fine n number = absurd (cc)
-search_finds controls q below after told bytes wrote G fits fine n number = absurd fits
+    taken_up (about q n) (entry q.disk.files w.0) (G.fine n) (find_some q.disk.names q.disk.files (Of Info n) w.0 w.1)
+search_finds q below after answer.NoName bytes wrote G fits fine n number = absurd (cc)
+search_finds q below after (answer.Refused why.NotThere) bytes wrote G fits fine n number = absurd (cc)
+search_finds q below after (answer.Refused why.Fault) bytes wrote G fits fine n number = absurd (cc)
+search_finds q below after told bytes wrote G fits fine n number = absurd fits
 
 -- A row of the scan, or what comes after it
 abbrev pub IsPast : StartRow → Type 0
@@ -181,40 +180,40 @@ row_rests q a false split n read l = (tt, tt)
 abbrev found_as : ℕ → ℕ → Bool → Bool → List ℕ → Known
 found_as n birth local remote read = record { n = n; birth = birth; finish_at = 0; local = local; remote = remote; sender = sender_in read }
 
-module _ (controls : Controls) (now : ℕ) (q : Queue) (a : List ℕ) (d : Desk) (h : OnDesk controls q d) (bare : HasNoMarks d.slots) (none : HasNoJobs d.slots) where
+module _ (now : ℕ) (q : Queue) (a : List ℕ) (d : Desk) (h : OnDesk q d) (bare : HasNoMarks d.slots) (none : HasNoJobs d.slots) where
   abbrev pub With : Book → Desk
   With b = record d { book = b }
 
   abbrev pub Well : Book → Type 0
-  Well b = OnDesk controls q (With b) × Rests q a b.row b.read
+  Well b = OnDesk q (With b) × Rests q a b.row b.read
 
   -- what such a desk relies on at the row where it is then
-  stands_then : (row : StartRow) (b : Book) → OnDesk controls q (With b) → Rests q a row b.read → Stands controls now q a (start_at row) b d.slots (works d)
+  stands_then : (row : StartRow) (b : Book) → OnDesk q (With b) → Rests q a row b.read → Stands now q a (start_at row) b d.slots (works d)
   stands_then (start.Control file g) b on r = absurd r.0
-  stands_then start.GreetLocal b on r = stand controls now q a (at.Start start.GreetLocal) (With b) (λ ch. refl) on (bare, (none, r.1))
-  stands_then (start.GreetRemote limit) b on r = stand controls now q a (at.Start (start.GreetRemote limit)) (With b) (λ ch. refl) on (bare, (none, r.1))
-  stands_then (start.Scan split) b on r = stand controls now q a (at.Start (start.Scan split)) (With b) (λ ch. refl) on (bare, (none, r.1))
-  stands_then (start.StatTodo split n) b on r = stand controls now q a (at.Start (start.StatTodo split n)) (With b) (λ ch. refl) on (bare, (none, r.1))
-  stands_then (start.ReadInfo split n g) b on r = stand controls now q a (at.Start (start.ReadInfo split n g)) (With b) (λ ch. refl) on (bare, (none, r.1))
-  stands_then (start.StatInfo split n) b on r = stand controls now q a (at.Start (start.StatInfo split n)) (With b) (λ ch. refl) on (bare, (none, r.1))
-  stands_then (start.StatLocal split n birth) b on r = stand controls now q a (at.Start (start.StatLocal split n birth)) (With b) (λ ch. refl) on (bare, (none, r.1))
+  stands_then start.GreetLocal b on r = stand now q a (at.Start start.GreetLocal) (With b) (λ ch. refl) on (bare, (none, r.1))
+  stands_then (start.GreetRemote limit) b on r = stand now q a (at.Start (start.GreetRemote limit)) (With b) (λ ch. refl) on (bare, (none, r.1))
+  stands_then (start.Scan split) b on r = stand now q a (at.Start (start.Scan split)) (With b) (λ ch. refl) on (bare, (none, r.1))
+  stands_then (start.StatTodo split n) b on r = stand now q a (at.Start (start.StatTodo split n)) (With b) (λ ch. refl) on (bare, (none, r.1))
+  stands_then (start.ReadInfo split n g) b on r = stand now q a (at.Start (start.ReadInfo split n g)) (With b) (λ ch. refl) on (bare, (none, r.1))
+  stands_then (start.StatInfo split n) b on r = stand now q a (at.Start (start.StatInfo split n)) (With b) (λ ch. refl) on (bare, (none, r.1))
+  stands_then (start.StatLocal split n birth) b on r = stand now q a (at.Start (start.StatLocal split n birth)) (With b) (λ ch. refl) on (bare, (none, r.1))
   stands_then (start.StatRemote split n birth local) b on r =
-      stand controls now q a (at.Start (start.StatRemote split n birth local)) (With b) (λ ch. refl) on (bare, (none, r.1))
-  stands_then start.Over b on r = stand controls now q a (start_at start.Over) (With b) (λ ch. refl) on tt
-  stands_then (start.Ended status) b on r = stand controls now q a (at.Ended status) (With b) (λ ch. refl) on tt
+      stand now q a (at.Start (start.StatRemote split n birth local)) (With b) (λ ch. refl) on (bare, (none, r.1))
+  stands_then start.Over b on r = stand now q a (start_at start.Over) (With b) (λ ch. refl) on tt
+  stands_then (start.Ended status) b on r = stand now q a (at.Ended status) (With b) (λ ch. refl) on tt
 
-  pub stands_with : (b : Book) → Well b → Stands controls now q a (start_at b.row) b d.slots (works d)
+  pub stands_with : (b : Book) → Well b → Stands now q a (start_at b.row) b d.slots (works d)
   stands_with b w = stands_then b.row b w.0 w.1
 
   -- only the row, what was read, or after which name the search goes on is another
-  pub on_row : (row : StartRow) → OnDesk controls q (With (record d.book { row = row }))
-  on_row row = record { known = h.known; due = h.due; lanes = h.lanes; apart = h.apart; controls_are = h.controls_are }
+  pub on_row : (row : StartRow) → OnDesk q (With (record d.book { row = row }))
+  on_row row = record { known = h.known; due = h.due; lanes = h.lanes; apart = h.apart; no_nul = h.no_nul }
 
-  pub on_after : (row : StartRow) (after : List ℕ) → OnDesk controls q (With (record d.book { row = row; after = after }))
-  on_after row after = record { known = h.known; due = h.due; lanes = h.lanes; apart = h.apart; controls_are = h.controls_are }
+  pub on_after : (row : StartRow) (after : List ℕ) → OnDesk q (With (record d.book { row = row; after = after }))
+  on_after row after = record { known = h.known; due = h.due; lanes = h.lanes; apart = h.apart; no_nul = h.no_nul }
 
-  pub on_read : (row : StartRow) (read : List ℕ) → OnDesk controls q (With (record d.book { row = row; read = read }))
-  on_read row read = record { known = h.known; due = h.due; lanes = h.lanes; apart = h.apart; controls_are = h.controls_are }
+  pub on_read : (row : StartRow) (read : List ℕ) → OnDesk q (With (record d.book { row = row; read = read }))
+  on_read row read = record { known = h.known; due = h.due; lanes = h.lanes; apart = h.apart; no_nul = h.no_nul }
 
   scanned_well : (w : Way) (text : List ℕ) (split : ℕ) → (w ≡ way.Fine → (n : ℕ) → number_below split text ≡ Some n → IsTakenUp (about q n)) → Well (scanned w text split d.book)
   scanned_well way.Fine text split finds = (on_after (scan_row (number_below split text) split) (take 255 text), named_rests q a (number_below split text) split d.book.read (finds refl))
@@ -237,13 +236,13 @@ module _ (controls : Controls) (now : ℕ) (q : Queue) (a : List ℕ) (d : Desk)
   free n ch = ap (job_of n) (none ch)
 
   -- what is found is known, and due at moment 0
-  found_well : Sound controls q → (split n birth : ℕ) (local remote : Bool) → IsLearned q n d.book.read → IsThereIf local (look q (Of LocalFile n)) → IsThereIf remote (look q (Of RemoteFile n))
+  found_well : Sound q → (split n birth : ℕ) (local remote : Bool) → IsLearned q n d.book.read → IsThereIf local (look q (Of LocalFile n)) → IsThereIf remote (look q (Of RemoteFile n))
       → Well (scan_known split n birth local remote d.book)
   found_well G split n birth local remote l on_local on_remote =
       let k : Known = found_as n birth local remote d.book.read in
-      let it : IsKnown (about q n) k = record { sorted = l.sorted; sender_is = told_of controls q n d.book.read G l; gone = gone } in
-      let on = learned_on controls q k 0 d h it serves (free n) in
-      (record { known = on.known; due = on.due; lanes = on.lanes; apart = on.apart; controls_are = on.controls_are }, (tt, tt))
+      let it : IsKnown (about q n) k = record { sorted = l.sorted; sender_is = told_of q n d.book.read G l; gone = gone } in
+      let on = learned_on q k 0 d h it serves (free n) in
+      (record { known = on.known; due = on.due; lanes = on.lanes; apart = on.apart; no_nul = on.no_nul }, (tt, tt))
     where
       gone : (ch : Channel) → has_file ch (found_as n birth local remote d.book.read) ≡ false → (about q n).parts (lane_part ch) ≡ None
       gone Local e = subst (λ b. IsThereIf b (look q (Of LocalFile n))) e on_local
@@ -253,7 +252,7 @@ module _ (controls : Controls) (now : ℕ) (q : Queue) (a : List ℕ) (d : Desk)
       serves Local e = let w = subst (λ b. IsThereIf b (look q (Of LocalFile n))) e on_local in record { sorted = l.sorted; file = w.0; there = w.1 }
       serves Remote e = let w = subst (λ b. IsThereIf b (look q (Of RemoteFile n))) e on_remote in record { sorted = l.sorted; file = w.0; there = w.1 }
 
-  remote_well : Sound controls q → (w : Way) (split n birth : ℕ) (local : Bool) → IsLearned q n d.book.read → IsThereIf local (look q (Of LocalFile n)) → Tells w (look q (Of RemoteFile n))
+  remote_well : Sound q → (w : Way) (split n birth : ℕ) (local : Bool) → IsLearned q n d.book.read → IsThereIf local (look q (Of LocalFile n)) → Tells w (look q (Of RemoteFile n))
       → Well (remote_stated w split n birth local d.book)
   remote_well G way.Fine split n birth local l on_local t = found_well G split n birth local true l on_local t
   remote_well G way.Absent split n birth local l on_local t = found_well G split n birth local false l on_local t
@@ -279,17 +278,17 @@ learned_grown q r n read g l = record {
 taken_read : (now : ℕ) (a : List ℕ) (q r : Queue) (n : ℕ) → Elsewhere now a None q r → IsTakenUp (about q n) → IsTakenUp (about r n)
 taken_read now a q r n E t = subst IsTakenUp (sym (about_same now a None q r E n (λ e. absurd (cc)))) t
 
-module _ (controls : Controls) (now : ℕ) (q : Queue) (a : List ℕ) (G : Sound controls q) (d : Desk) (read wrote : ℕ) where
+module _ (now : ℕ) (q : Queue) (a : List ℕ) (G : Sound q) (d : Desk) (read wrote : ℕ) where
   abbrev after : CallData → Answer → Queue
   after c told = called_queue q a read c told wrote q.role
 
   -- where a stat leads
-  module _ (x : Name) (told : Told) (fits : Fits q.disk (call.Stat (path x)) told.answer wrote) (on : OnDesk controls q d) (bare : HasNoMarks d.slots) (none : HasNoJobs d.slots) where
+  module _ (x : Name) (told : Told) (fits : Fits q.disk (call.Stat (path x)) told.answer wrote) (on : OnDesk q d) (bare : HasNoMarks d.slots) (none : HasNoJobs d.slots) where
     abbrev r : Queue
     r = after (call.Stat (path x)) told.answer
 
-    leads : LeadsOn controls now a None q r
-    leads = reads_keep controls now q a G read (call.Stat (path x)) told.answer wrote tt fits
+    leads : LeadsOn now a None q r
+    leads = reads_keep now q a G read (call.Stat (path x)) told.answer wrote tt fits
 
     grows : Grows q r
     grows = grown_by now a q r leads.elsewhere
@@ -300,18 +299,18 @@ module _ (controls : Controls) (now : ℕ) (q : Queue) (a : List ℕ) (G : Sound
     tells : Tells w (look q x)
     tells = stat_tells q x told.answer told.bytes wrote fits
 
-    grown : OnDesk controls r d
-    grown = desk_grown controls q r d grows on
+    grown : OnDesk r d
+    grown = desk_grown q r d grows on
 
     stated : (there missing : StartRow) → (w ≡ way.Fine → Rests r a there d.book.read) → (w ≡ way.Absent → Rests r a missing d.book.read)
-        → Stands controls now r a (start_at (by_way w there missing)) (record d.book { row = by_way w there missing }) d.slots (works d)
-    stated there missing f g = stands_with controls now r a d grown bare none (record d.book { row = by_way w there missing })
-        (on_row controls now r a d grown bare none (by_way w there missing), stated_rests r a w there missing d.book.read f g)
+        → Stands now r a (start_at (by_way w there missing)) (record d.book { row = by_way w there missing }) d.slots (works d)
+    stated there missing f g = stands_with now r a d grown bare none (record d.book { row = by_way w there missing })
+        (on_row now r a d grown bare none (by_way w there missing), stated_rests r a w there missing d.book.read f g)
 
-  stat_todo : (split n : ℕ) (told : Told) → StandsAt controls now q a (at.Start (start.StatTodo split n)) d → Fits q.disk (call.Stat (path (Of Todo n))) told.answer wrote
-      → SenderLeads controls now a q (after (call.Stat (path (Of Todo n))) told.answer) (act (at.Start (start.StatTodo split n)) read (Answered told) d)
+  stat_todo : (split n : ℕ) (told : Told) → StandsAt now q a (at.Start (start.StatTodo split n)) d → Fits q.disk (call.Stat (path (Of Todo n))) told.answer wrote
+      → SenderLeads now a q (after (call.Stat (path (Of Todo n))) told.answer) (act (at.Start (start.StatTodo split n)) read (Answered told) d)
   stat_todo split n told h fits =
-      let on = on_of controls now q a (at.Start (start.StatTodo split n)) d (record { first = λ ch. refl; controls_read = tt }) (λ k w. w) h in
+      let on = on_of now q a (at.Start (start.StatTodo split n)) d (record { first = λ ch. refl; controls_read = tt }) (λ k w. w) h in
       let L = leads (Of Todo n) told fits on h.rests.0 h.rests.1.0 in
       let g = grows (Of Todo n) told fits on h.rests.0 h.rests.1.0 in
       let r : Queue = after (call.Stat (path (Of Todo n))) told.answer in
@@ -322,13 +321,13 @@ module _ (controls : Controls) (now : ℕ) (q : Queue) (a : List ℕ) (G : Sound
         leads = L;
         stands = stated (Of Todo n) told fits on h.rests.0 h.rests.1.0 (start.Scan split) (start.ReadInfo split n Opening)
             (λ e. (tt, tt))
-            (λ e. (tt, (settles controls r n L.sound (taken_read now a q r n L.elsewhere h.rests.1.1) (todo_alone (about r n).parts ∙ g.looks Todo n (λ s. cc) ∙ tells_absent (answered told.answer told.bytes).way (look q (Of Todo n)) e t), tt)));
+            (λ e. (tt, (settles r n L.sound (taken_read now a q r n L.elsewhere h.rests.1.1) (todo_alone (about r n).parts ∙ g.looks Todo n (λ s. cc) ∙ tells_absent (answered told.answer told.bytes).way (look q (Of Todo n)) e t), tt)));
       }
 
-  stat_info : (split n : ℕ) (told : Told) → StandsAt controls now q a (at.Start (start.StatInfo split n)) d → Fits q.disk (call.Stat (path (Of Info n))) told.answer wrote
-      → SenderLeads controls now a q (after (call.Stat (path (Of Info n))) told.answer) (act (at.Start (start.StatInfo split n)) read (Answered told) d)
+  stat_info : (split n : ℕ) (told : Told) → StandsAt now q a (at.Start (start.StatInfo split n)) d → Fits q.disk (call.Stat (path (Of Info n))) told.answer wrote
+      → SenderLeads now a q (after (call.Stat (path (Of Info n))) told.answer) (act (at.Start (start.StatInfo split n)) read (Answered told) d)
   stat_info split n told h fits =
-      let on = on_of controls now q a (at.Start (start.StatInfo split n)) d (record { first = λ ch. refl; controls_read = tt }) (λ k w. w) h in
+      let on = on_of now q a (at.Start (start.StatInfo split n)) d (record { first = λ ch. refl; controls_read = tt }) (λ k w. w) h in
       let L = leads (Of Info n) told fits on h.rests.0 h.rests.1.0 in
       let g = grows (Of Info n) told fits on h.rests.0 h.rests.1.0 in
       let r : Queue = after (call.Stat (path (Of Info n))) told.answer in
@@ -341,10 +340,10 @@ module _ (controls : Controls) (now : ℕ) (q : Queue) (a : List ℕ) (G : Sound
             (λ e. (tt, tt));
       }
 
-  stat_local : (split n birth : ℕ) (told : Told) → StandsAt controls now q a (at.Start (start.StatLocal split n birth)) d → Fits q.disk (call.Stat (path (Of LocalFile n))) told.answer wrote
-      → SenderLeads controls now a q (after (call.Stat (path (Of LocalFile n))) told.answer) (act (at.Start (start.StatLocal split n birth)) read (Answered told) d)
+  stat_local : (split n birth : ℕ) (told : Told) → StandsAt now q a (at.Start (start.StatLocal split n birth)) d → Fits q.disk (call.Stat (path (Of LocalFile n))) told.answer wrote
+      → SenderLeads now a q (after (call.Stat (path (Of LocalFile n))) told.answer) (act (at.Start (start.StatLocal split n birth)) read (Answered told) d)
   stat_local split n birth told h fits =
-      let on = on_of controls now q a (at.Start (start.StatLocal split n birth)) d (record { first = λ ch. refl; controls_read = tt }) (λ k w. w) h in
+      let on = on_of now q a (at.Start (start.StatLocal split n birth)) d (record { first = λ ch. refl; controls_read = tt }) (λ k w. w) h in
       let L = leads (Of LocalFile n) told fits on h.rests.0 h.rests.1.0 in
       let g = grows (Of LocalFile n) told fits on h.rests.0 h.rests.1.0 in
       let r : Queue = after (call.Stat (path (Of LocalFile n))) told.answer in
@@ -359,11 +358,11 @@ module _ (controls : Controls) (now : ℕ) (q : Queue) (a : List ℕ) (G : Sound
             (λ e. (tt, (l, g.looks LocalFile n (λ s. cc) ∙ tells_absent (answered told.answer told.bytes).way (look q (Of LocalFile n)) e t)));
       }
 
-  stat_remote : (split n birth : ℕ) (local : Bool) (told : Told) → StandsAt controls now q a (at.Start (start.StatRemote split n birth local)) d
+  stat_remote : (split n birth : ℕ) (local : Bool) (told : Told) → StandsAt now q a (at.Start (start.StatRemote split n birth local)) d
       → Fits q.disk (call.Stat (path (Of RemoteFile n))) told.answer wrote
-      → SenderLeads controls now a q (after (call.Stat (path (Of RemoteFile n))) told.answer) (act (at.Start (start.StatRemote split n birth local)) read (Answered told) d)
+      → SenderLeads now a q (after (call.Stat (path (Of RemoteFile n))) told.answer) (act (at.Start (start.StatRemote split n birth local)) read (Answered told) d)
   stat_remote split n birth local told h fits =
-      let on = on_of controls now q a (at.Start (start.StatRemote split n birth local)) d (record { first = λ ch. refl; controls_read = tt }) (λ k w. w) h in
+      let on = on_of now q a (at.Start (start.StatRemote split n birth local)) d (record { first = λ ch. refl; controls_read = tt }) (λ k w. w) h in
       let L = leads (Of RemoteFile n) told fits on h.rests.0 h.rests.1.0 in
       let g = grows (Of RemoteFile n) told fits on h.rests.0 h.rests.1.0 in
       let r : Queue = after (call.Stat (path (Of RemoteFile n))) told.answer in
@@ -376,51 +375,51 @@ module _ (controls : Controls) (now : ℕ) (q : Queue) (a : List ℕ) (G : Sound
         number = None;
         closed = none_closed now q;
         leads = L;
-        stands = stands_with controls now r a d grown_desk h.rests.0 h.rests.1.0 (remote_stated v split n birth local d.book)
-            (remote_well controls now r a d grown_desk h.rests.0 h.rests.1.0 L.sound v split n birth local l on_local t);
+        stands = stands_with now r a d grown_desk h.rests.0 h.rests.1.0 (remote_stated v split n birth local d.book)
+            (remote_well now r a d grown_desk h.rests.0 h.rests.1.0 L.sound v split n birth local l on_local t);
       }
 
-  searched : (split : ℕ) (told : Told) → StandsAt controls now q a (at.Start (start.Scan split)) d
+  searched : (split : ℕ) (told : Told) → StandsAt now q a (at.Start (start.Scan split)) d
       → Fits q.disk (call.NextName (dir_text (dir.Info split)) d.book.after) told.answer wrote
-      → SenderLeads controls now a q (after (call.NextName (dir_text (dir.Info split)) d.book.after) told.answer) (act (at.Start (start.Scan split)) read (Answered told) d)
+      → SenderLeads now a q (after (call.NextName (dir_text (dir.Info split)) d.book.after) told.answer) (act (at.Start (start.Scan split)) read (Answered told) d)
   searched split told h fits =
       let place : List ℕ = dir_text (dir.Info split) in
-      let on = on_of controls now q a (at.Start (start.Scan split)) d (record { first = λ ch. refl; controls_read = tt }) (λ k w. w) h in
+      let on = on_of now q a (at.Start (start.Scan split)) d (record { first = λ ch. refl; controls_read = tt }) (λ k w. w) h in
       let r : Queue = after (call.NextName place d.book.after) told.answer in
-      let L = reads_keep controls now q a G read (call.NextName place d.book.after) told.answer wrote tt fits in
-      let grown_desk = desk_grown controls q r d (grown_by now a q r L.elsewhere) on in
+      let L = reads_keep now q a G read (call.NextName place d.book.after) told.answer wrote tt fits in
+      let grown_desk = desk_grown q r d (grown_by now a q r L.elsewhere) on in
       let s : Said = said (Answered told) in
       record {
         number = None;
         closed = none_closed now q;
         leads = L;
-        stands = stands_with controls now r a d grown_desk h.rests.0 h.rests.1.0 (scanned s.way s.bytes split d.book)
-            (scanned_well controls now r a d grown_desk h.rests.0 h.rests.1.0 s.way s.bytes split
-            (λ fine n number. taken_read now a q r n L.elsewhere (search_finds controls q split d.book.after told.answer told.bytes wrote G fits fine n number)));
+        stands = stands_with now r a d grown_desk h.rests.0 h.rests.1.0 (scanned s.way s.bytes split d.book)
+            (scanned_well now r a d grown_desk h.rests.0 h.rests.1.0 s.way s.bytes split
+            (λ fine n number. taken_read now a q r n L.elsewhere (search_finds q split d.book.after told.answer told.bytes wrote G fits fine n number)));
       }
 
-  read_info : (split n : ℕ) (g : Reading) (c : CallData) (told : Told) → StandsAt controls now q a (at.Start (start.ReadInfo split n g)) d
+  read_info : (split n : ℕ) (g : Reading) (c : CallData) (told : Told) → StandsAt now q a (at.Start (start.ReadInfo split n g)) d
       → due_at (at.Start (start.ReadInfo split n g)) d ≡ needs.File c → Fits q.disk c told.answer wrote → IsReadBy q.disk c told
-      → SenderLeads controls now a q (after c told.answer) (act (at.Start (start.ReadInfo split n g)) read (Answered told) d)
+      → SenderLeads now a q (after c told.answer) (act (at.Start (start.ReadInfo split n g)) read (Answered told) d)
   read_info split n g c told h due fits by =
-      let on = on_of controls now q a (at.Start (start.ReadInfo split n g)) d (record { first = λ ch. refl; controls_read = tt }) (λ k w. w) h in
-      let w = readings controls now q a G Info n d.book.read read wrote (name.Info n) g c told refl h.rests.1.1.1 due fits by in
+      let on = on_of now q a (at.Start (start.ReadInfo split n g)) d (record { first = λ ch. refl; controls_read = tt }) (λ k w. w) h in
+      let w = readings now q a G Info n d.book.read read wrote (name.Info n) g c told refl h.rests.1.1.1 due fits by in
       let r : Queue = after c told.answer in
       let grows = grown_by now a q r w.leads.elsewhere in
-      let grown_desk = desk_grown controls q r d grows on in
+      let grown_desk = desk_grown q r d grows on in
       let s : Said = said (Answered told) in
       record {
         number = None;
         closed = none_closed now q;
         leads = w.leads;
-        stands = stands_with controls now r a d grown_desk h.rests.0 h.rests.1.0 (info_read (read_on g s) split n g s d.book)
-            (read_well controls now r a d grown_desk h.rests.0 h.rests.1.0 (read_on g s) split n g s (settled_grown q r grows n h.rests.1.1.0).0 w.reads);
+        stands = stands_with now r a d grown_desk h.rests.0 h.rests.1.0 (info_read (read_on g s) split n g s d.book)
+            (read_well now r a d grown_desk h.rests.0 h.rests.1.0 (read_on g s) split n g s (settled_grown q r grows n h.rests.1.1.0).0 w.reads);
       }
 
   abbrev Leads : StartRow → Told → CallData → Type 0
-  Leads row told c = SenderLeads controls now a q (after c told.answer) (act (at.Start row) read (Answered told) d)
+  Leads row told c = SenderLeads now a q (after c told.answer) (act (at.Start row) read (Answered told) d)
 
-  pub scans : (row : StartRow) (c : CallData) (told : Told) → IsScan row → StandsAt controls now q a (at.Start row) d → due_at (at.Start row) d ≡ needs.File c
+  pub scans : (row : StartRow) (c : CallData) (told : Told) → IsScan row → StandsAt now q a (at.Start row) d → due_at (at.Start row) d ≡ needs.File c
       → Fits q.disk c told.answer wrote → IsReadBy q.disk c told → Leads row told c
   scans (start.Scan split) c told is h due fits by =
       let same = sym (file_call (call.NextName (dir_text (dir.Info split)) d.book.after) c due) in

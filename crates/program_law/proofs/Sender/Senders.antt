@@ -5,7 +5,6 @@ use Rattle.std.specs.List.{position_or_len}
 use Rattle.std.proofs.lemmas.Bool.{lt-ltb, ne_eqb}
 use Rattle.std.proofs.lemmas.List.{take_at}
 use Rattle.std.proofs.lemmas.List.Elements.{All-head, All-tail}
-use Rattle.address_rules.specs.declared.controls.Controls.{Controls}
 use Rattle.envelope_records.specs.Envelope.{HasEnvelope, Reading, read_envelope}
 use Rattle.envelope_records.specs.Envelope.Reading.{Whole, Open, Broken}
 use Rattle.mail_bytes.specs.Texts.{HasNoNul}
@@ -34,7 +33,7 @@ plain_in args (Whole sender recipients) is end next none =
 plain_in args (Open stage) is end next none = absurd (cc)
 plain_in args (Broken before fault) is end next none = absurd (cc)
 
-plain_sender : (args : Arguments) → (intd_text args).fault ≡ None → HasNoNul (sender_of args)
+pub plain_sender : (args : Arguments) → (intd_text args).fault ≡ None → HasNoNul (sender_of args)
 unfolding intd_text envelope_of sender_of
 plain_sender args none = plain_in args (read_envelope (take limit args.envelope)) refl args.envelope_end (slice_get args.envelope limit) none
 
@@ -43,7 +42,7 @@ plain_sender args none = plain_in args (read_envelope (take limit args.envelope)
 one_more : (b : ℕ) (s : List ℕ) → 1 + length s ≡ length (b ∷ s)
 one_more b s = omega arith
 
-nul_place : (s rest : List ℕ) → HasNoNul s → position_or_len is_nul (s ++ 0 ∷ rest) ≡ length s
+pub nul_place : (s rest : List ℕ) → HasNoNul s → position_or_len is_nul (s ++ 0 ∷ rest) ≡ length s
 nul_place [] rest h = refl
 nul_place (b ∷ s) rest h =
     let off : is_nul b ≡ false = ne_eqb b 0 (All-head (λ (x : ℕ). x ≢ 0) b s h) in
@@ -66,14 +65,14 @@ told_sender s h = before_first s h
 
 -- A number with an info file and no todo file
 
-pub sorted_of : (controls : Controls) (w : About) → Phase controls w → in_todo w.parts ≡ None → (info : Entry) → w.parts Info ≡ Some info → IsPreprocessed controls w
-sorted_of controls w (Free h) gone info there = let none = h.unsorted Info refl in absurd (cc)
-sorted_of controls w (Queued h) gone info there = let is = h.todo_there in absurd (cc)
-sorted_of controls w (Sorted h) gone info there = h
-sorted_of controls w (Finished h) gone info there = let none = h.unsorted Info refl in absurd (cc)
+pub sorted_of : (w : About) → Phase w → in_todo w.parts ≡ None → (info : Entry) → w.parts Info ≡ Some info → IsPreprocessed w
+sorted_of w (Free h) gone info there = let none = h.unsorted Info refl in absurd (cc)
+sorted_of w (Queued h) gone info there = let is = h.todo_there in absurd (cc)
+sorted_of w (Sorted h) gone info there = h
+sorted_of w (Finished h) gone info there = let none = h.unsorted Info refl in absurd (cc)
 
-pub settled_of : (controls : Controls) (w : About) → IsPreprocessed controls w → IsSettledIn w
-settled_of controls w h = record { no_todo = h.no_todo; info = h.info; info_there = h.info_there; injection = h.taken.injection; lives = h.taken.lives }
+pub settled_of : (w : About) → IsPreprocessed w → IsSettledIn w
+settled_of w h = record { no_todo = h.no_todo; info = h.info; info_there = h.info_there; injection = h.taken.injection; lives = h.taken.lives }
 
 same_entry : (o : Option Entry) (x y : Entry) → o ≡ Some x → o ≡ Some y → x ≡ y
 same_entry o x y e f = cc
@@ -82,9 +81,9 @@ same_injection : (o : Option Injection) (x y : Injection) → o ≡ Some x → o
 same_injection o x y e f = cc
 
 -- what was read of its info file tells its sender
-pub told_of : (controls : Controls) (q : Queue) (n : ℕ) (read : List ℕ) → Sound controls q → (l : IsLearned q n read) → sender_in read ≡ sender_of l.sorted.injection.args
-told_of controls q n read G l =
-    let pre = sorted_of controls (about q n) (G.fine n) l.sorted.no_todo l.sorted.info l.sorted.info_there in
+pub told_of : (q : Queue) (n : ℕ) (read : List ℕ) → Sound q → (l : IsLearned q n read) → sender_in read ≡ sender_of l.sorted.injection.args
+told_of q n read G l =
+    let pre = sorted_of (about q n) (G.fine n) l.sorted.no_todo l.sorted.info l.sorted.info_there in
     let args = pre.taken.injection.args in
     let file : l.text.file ≡ pre.info = same_entry ((about q n).parts Info) l.text.file pre.info l.text.there pre.info_there in
     let reads : read ≡ info_of args = l.text.text ∙ ap (λ (y : Entry). y.file.bytes) file ∙ pre.text.holds in

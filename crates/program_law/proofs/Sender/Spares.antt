@@ -1,7 +1,6 @@
 -- What steps of others spare.
-use Rattle.std.proofs.Common.{◌≡◌, ◌≢◌, inr, ℕ, List, true, Option, Some, None, refl, sym, ap, ◌∙◌, subst, ⊎_elim}
+use Rattle.std.proofs.Common.{◌≡◌, ◌≢◌, inr, ℕ, List, true, Option, Some, None, refl, sym, ◌∙◌, subst, ⊎_elim}
 use Rattle.std.proofs.lemmas.Bool.Decides.{eqb_tells}
-use Rattle.address_rules.specs.declared.controls.Controls.{Controls}
 use Rattle.call_fs.specs.declared.calls.CallData.{CallData}
 use Rattle.call_fs.specs.declared.calls.CallData.TheVariants as call
 use Rattle.call_fs.specs.declared.calls.Answer.{Answer}
@@ -76,25 +75,25 @@ second_leaves (Foop m) = tt
 second_leaves (TodoCommand m) = λ n f. absurd (cc)
 
 -- a number that such a command needs isn't preprocessed
-needed : (controls : Controls) (w : About) (command : Command) (info : Entry) → Needs controls command w → in_todo w.parts ≡ None → w.parts Info ≡ Some info → ⊥
-needed controls w (Foop n) info h none there = let gone = h.unsorted Info refl in absurd (cc)
-needed controls w (TodoCommand n) info h none there = let is = h.queued.todo_there in absurd (cc)
+needed : (w : About) (command : Command) (info : Entry) → Needs command w → in_todo w.parts ≡ None → w.parts Info ≡ Some info → ⊥
+needed w (Foop n) info h none there = let gone = h.unsorted Info refl in absurd (cc)
+needed w (TodoCommand n) info h none there = let is = h.queued.todo_there in absurd (cc)
 
 some_number : (n k : ℕ) → ◌≡◌ {A = Option ℕ} (Some n) (Some k) → n ≡ k
 some_number n k e = cc
 
-module _ (controls : Controls) (now : ℕ) (q : Queue) (a : List ℕ) (read wrote : ℕ) (told : Answer) where
+module _ (now : ℕ) (q : Queue) (a : List ℕ) (read wrote : ℕ) (told : Answer) where
   abbrev after : CallData → Queue
   after c = called_queue q a read c told wrote q.role
 
   -- `foop/n` is of no number that is taken up, and `todo/n` of one that has its info file
   kept_up : (x : Name) (command : Command) → ((part : Part) (n : ℕ) → is_later part ≡ true → Of part n ≢ x) → LeavesMess command x
-      → Needs controls command (about q (message_of command)) → Fits q.disk (call.Unlink (path x)) told wrote → IsTakenUp (about q (message_of command))
+      → Needs command (about q (message_of command)) → Fits q.disk (call.Unlink (path x)) told wrote → IsTakenUp (about q (message_of command))
       → IsTakenUp (about (after (call.Unlink (path x))) (message_of command))
   kept_up x (Foop m) far mess need fits t = absurd (t.filed need.no_todo (need.unsorted Info refl))
   kept_up x (TodoCommand m) far mess need fits t =
       let one = unlinks_one q a read x told wrote fits in
-      let info = one.others (Of Info m) (far Info m refl) ∙ need.info.there in
+      let info = one.others (Of Info m) (far Info m refl) ∙ need.made.info.there in
       record {
         accepted = record { injection = t.accepted.injection; lives = t.accepted.lives; accepted = t.accepted.accepted };
         mess = t.mess;
@@ -102,7 +101,7 @@ module _ (controls : Controls) (now : ℕ) (q : Queue) (a : List ℕ) (read wrot
         filed = λ todo none. let both = sym info ∙ none in absurd (cc);
       }
 
-  unlink_spares : (x : Name) (command : Command) → ((part : Part) (n : ℕ) → is_later part ≡ true → Of part n ≢ x) → LeavesMess command x → Needs controls command (about q (message_of command))
+  unlink_spares : (x : Name) (command : Command) → ((part : Part) (n : ℕ) → is_later part ≡ true → Of part n ≢ x) → LeavesMess command x → Needs command (about q (message_of command))
       → ((n : ℕ) → ◌≢◌ {A = Option ℕ} (Some (message_of command)) (Some n) → about (after (call.Unlink (path x))) n ≡ about q n) → Fits q.disk (call.Unlink (path x)) told wrote
       → SparesSorted q (after (call.Unlink (path x)))
   unlink_spares x command far mess need same fits = record {
@@ -112,12 +111,12 @@ module _ (controls : Controls) (now : ℕ) (q : Queue) (a : List ℕ) (read wrot
         (λ other. subst IsTakenUp (sym (same n (λ e. other.1 (sym (some_number (message_of command) n e))))) t)
         (eqb_tells n (message_of command));
     sorted = λ n none info there. ⊎_elim
-        (λ t. absurd (needed controls (about q n) command info (subst (λ (k : ℕ). Needs controls command (about q k)) (sym t.1) need) none there))
+        (λ t. absurd (needed (about q n) command info (subst (λ (k : ℕ). Needs command (about q k)) (sym t.1) need) none there))
         (λ f. same n (λ e. f.1 (sym (some_number (message_of command) n e))))
         (eqb_tells n (message_of command));
   }
 
-  by_row : (row : Row) (name : List ℕ) (c : CallData) → Rests controls now q row → due_at row name read ≡ needs.File c → Fits q.disk c told wrote
+  by_row : (row : Row) (name : List ℕ) (c : CallData) → Rests now q row → due_at row name read ≡ needs.File c → Fits q.disk c told wrote
       → ((n : ℕ) → number_at row ≢ Some n → about (after c) n ≡ about q n) → SparesSorted q (after c)
   by_row (at.UnlinkIntd command) name c h due fits same =
       let is = sym (file_call (call.Unlink (path (first_name command))) c due) in
@@ -136,26 +135,26 @@ module _ (controls : Controls) (now : ℕ) (q : Queue) (a : List ℕ) (read wrot
   by_row (at.Answer reply) name c h due fits same = by_about q (after c) (λ n. same n (λ e. absurd (cc)))
   by_row (at.Ended status) name c h due fits same = by_about q (after c) (λ n. same n (λ e. absurd (cc)))
 
-rests_of : (controls : Controls) (now : ℕ) (q : Queue) (row : Row) (p : Place) → StandsAt controls now q row p → Rests controls now q row
-rests_of controls now q at.FindPid p h = tt
-rests_of controls now q at.StatPid p h = tt
-rests_of controls now q (at.JudgePid moment) p h = tt
-rests_of controls now q at.TakeInput p h = h
-rests_of controls now q (at.UnlinkIntd command) p h = h
-rests_of controls now q (at.UnlinkSecond command) p h = h
-rests_of controls now q (at.Answer reply) p h = h
-rests_of controls now q (at.Ended status) p h = h
+rests_of : (now : ℕ) (q : Queue) (row : Row) (p : Place) → StandsAt now q row p → Rests now q row
+rests_of now q at.FindPid p h = tt
+rests_of now q at.StatPid p h = tt
+rests_of now q (at.JudgePid moment) p h = tt
+rests_of now q at.TakeInput p h = h
+rests_of now q (at.UnlinkIntd command) p h = h
+rests_of now q (at.UnlinkSecond command) p h = h
+rests_of now q (at.Answer reply) p h = h
+rests_of now q (at.Ended status) p h = h
 
 pub others_spare : OthersSpare
 others_spare = record {
-  injectors = λ controls now q a args past read ready call told wrote c. by_sorted now q (queue_after q a args read call told.answer wrote c.role) c.sorted c.spares;
+  injectors = λ now q a args past read ready call told wrote c. by_sorted now q (queue_after q a args read call told.answer wrote c.role) c.sorted c.spares;
   foreigners = λ a q r F. by_about q r (foreigners_keep.abouts a q r F);
   reads = λ now a q r E. record {
     taken_up = λ n t. subst IsTakenUp (sym (about_same now a None q r E n (λ e. absurd (cc)))) t;
     sorted = λ n _ _ _. about_same now a None q r E n (λ e. absurd (cc));
   };
-  cleaners = λ controls now q a past read ready call told wrote G stands soon due fits.
+  cleaners = λ now q a past read ready call told wrote G stands soon due fits.
       let p : Place = place_after past in
-      let leads = cleaners_keep controls now q a past read ready call told wrote G stands soon due fits in
-      by_row controls now q a read wrote told.answer p.row p.name call (rests_of controls now q p.row p stands) due fits leads.abouts;
+      let leads = cleaners_keep now q a past read ready call told wrote G stands soon due fits in
+      by_row now q a read wrote told.answer p.row p.name call (rests_of now q p.row p stands) due fits leads.abouts;
 }

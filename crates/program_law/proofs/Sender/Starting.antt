@@ -2,7 +2,6 @@
 use Rattle.std.proofs.Common.{◌≡◌, ℕ, List, [], ◌∷◌, min, false, Option, None, refl, arith, count_by}
 use Rattle.std.specs.Prelude.{IfSome, replicate}
 use Rattle.std.proofs.lemmas.List.Elements.{All-nil, All-replicate, All-weaker}
-use Rattle.address_rules.specs.declared.controls.Controls.{Controls}
 use Rattle.call_fs.specs.declared.past.GotData.{GotData}
 use Rattle.call_fs.specs.declared.past.NeedData.TheVariants as needs
 use Rattle.call_fs.specs.declared.program.Port.{Port}
@@ -79,37 +78,37 @@ none_apart m local remote Remote = All-weaker (λ (e : ℕ × ℕ). Unit {0}) (I
 
 -- The bytes of the spawners
 
-module _ (controls : Controls) (now : ℕ) (q : Queue) (a : List ℕ) where
-  local_on : (w : Way) (bytes : List ℕ) (d : Desk) → OnDesk controls q d → HasNoMarks d.slots → HasNoJobs d.slots
-      → Stands controls now q a (start_at (greeted_local w bytes d.book).row) (greeted_local w bytes d.book) d.slots (works d)
+module _ (now : ℕ) (q : Queue) (a : List ℕ) where
+  local_on : (w : Way) (bytes : List ℕ) (d : Desk) → OnDesk q d → HasNoMarks d.slots → HasNoJobs d.slots
+      → Stands now q a (start_at (greeted_local w bytes d.book).row) (greeted_local w bytes d.book) d.slots (works d)
   local_on way.Fine (byte ∷ rest) d h bare none =
-      stands_with controls now q a d h bare none (greeted_local way.Fine (byte ∷ rest) d.book) (on_row controls now q a d h bare none (start.GreetRemote (min byte d.book.controls.concurrency_local)), (tt, tt))
-  local_on way.Fine [] d h bare none = stands_with controls now q a d h bare none (greeted_local way.Fine [] d.book) (on_row controls now q a d h bare none (start.Ended 82), (tt, tt))
-  local_on way.Over bytes d h bare none = stands_with controls now q a d h bare none (greeted_local way.Over bytes d.book) (on_row controls now q a d h bare none (start.Ended 82), (tt, tt))
-  local_on way.Absent bytes d h bare none = stands_with controls now q a d h bare none (greeted_local way.Absent bytes d.book) (on_row controls now q a d h bare none (start.Ended 82), (tt, tt))
-  local_on way.NoMemory bytes d h bare none = stands_with controls now q a d h bare none (greeted_local way.NoMemory bytes d.book) (on_row controls now q a d h bare none (start.Ended 82), (tt, tt))
-  local_on way.Broken bytes d h bare none = stands_with controls now q a d h bare none (greeted_local way.Broken bytes d.book) (on_row controls now q a d h bare none (start.Ended 82), (tt, tt))
+      stands_with now q a d h bare none (greeted_local way.Fine (byte ∷ rest) d.book) (on_row now q a d h bare none (start.GreetRemote (min byte d.book.controls.concurrency_local)), (tt, tt))
+  local_on way.Fine [] d h bare none = stands_with now q a d h bare none (greeted_local way.Fine [] d.book) (on_row now q a d h bare none (start.Ended 82), (tt, tt))
+  local_on way.Over bytes d h bare none = stands_with now q a d h bare none (greeted_local way.Over bytes d.book) (on_row now q a d h bare none (start.Ended 82), (tt, tt))
+  local_on way.Absent bytes d h bare none = stands_with now q a d h bare none (greeted_local way.Absent bytes d.book) (on_row now q a d h bare none (start.Ended 82), (tt, tt))
+  local_on way.NoMemory bytes d h bare none = stands_with now q a d h bare none (greeted_local way.NoMemory bytes d.book) (on_row now q a d h bare none (start.Ended 82), (tt, tt))
+  local_on way.Broken bytes d h bare none = stands_with now q a d h bare none (greeted_local way.Broken bytes d.book) (on_row now q a d h bare none (start.Ended 82), (tt, tt))
 
-  remote_on : (w : Way) (bytes : List ℕ) (d : Desk) → OnDesk controls q d → HasNoMarks d.slots → HasNoJobs d.slots
-      → Stands controls now q a (start_at (greeted_remote w bytes d.book).row) (greeted_remote w bytes d.book) d.slots (works d)
+  remote_on : (w : Way) (bytes : List ℕ) (d : Desk) → OnDesk q d → HasNoMarks d.slots → HasNoJobs d.slots
+      → Stands now q a (start_at (greeted_remote w bytes d.book).row) (greeted_remote w bytes d.book) d.slots (works d)
   remote_on way.Fine (byte ∷ rest) d h bare none =
-      stands_with controls now q a d h bare none (greeted_remote way.Fine (byte ∷ rest) d.book) (on_after controls now q a d h bare none (start.Scan 0) [], (tt, tt))
-  remote_on way.Fine [] d h bare none = stands_with controls now q a d h bare none (greeted_remote way.Fine [] d.book) (on_row controls now q a d h bare none (start.Ended 83), (tt, tt))
-  remote_on way.Over bytes d h bare none = stands_with controls now q a d h bare none (greeted_remote way.Over bytes d.book) (on_row controls now q a d h bare none (start.Ended 83), (tt, tt))
-  remote_on way.Absent bytes d h bare none = stands_with controls now q a d h bare none (greeted_remote way.Absent bytes d.book) (on_row controls now q a d h bare none (start.Ended 83), (tt, tt))
-  remote_on way.NoMemory bytes d h bare none = stands_with controls now q a d h bare none (greeted_remote way.NoMemory bytes d.book) (on_row controls now q a d h bare none (start.Ended 83), (tt, tt))
-  remote_on way.Broken bytes d h bare none = stands_with controls now q a d h bare none (greeted_remote way.Broken bytes d.book) (on_row controls now q a d h bare none (start.Ended 83), (tt, tt))
+      stands_with now q a d h bare none (greeted_remote way.Fine (byte ∷ rest) d.book) (on_after now q a d h bare none (start.Scan 0) [], (tt, tt))
+  remote_on way.Fine [] d h bare none = stands_with now q a d h bare none (greeted_remote way.Fine [] d.book) (on_row now q a d h bare none (start.Ended 83), (tt, tt))
+  remote_on way.Over bytes d h bare none = stands_with now q a d h bare none (greeted_remote way.Over bytes d.book) (on_row now q a d h bare none (start.Ended 83), (tt, tt))
+  remote_on way.Absent bytes d h bare none = stands_with now q a d h bare none (greeted_remote way.Absent bytes d.book) (on_row now q a d h bare none (start.Ended 83), (tt, tt))
+  remote_on way.NoMemory bytes d h bare none = stands_with now q a d h bare none (greeted_remote way.NoMemory bytes d.book) (on_row now q a d h bare none (start.Ended 83), (tt, tt))
+  remote_on way.Broken bytes d h bare none = stands_with now q a d h bare none (greeted_remote way.Broken bytes d.book) (on_row now q a d h bare none (start.Ended 83), (tt, tt))
 
-  pub start_takes : (row : StartRow) (d : Desk) (read : ℕ) (port : Port) (came : GotData) → StandsAt controls now q a (at.Start row) d → due_at (at.Start row) d ≡ needs.Take port
-      → SenderStands controls now q a (act (at.Start row) read came d)
+  pub start_takes : (row : StartRow) (d : Desk) (read : ℕ) (port : Port) (came : GotData) → StandsAt now q a (at.Start row) d → due_at (at.Start row) d ≡ needs.Take port
+      → SenderStands now q a (act (at.Start row) read came d)
   start_takes start.GreetLocal d read port came h due =
-      let on = on_of controls now q a (at.Start start.GreetLocal) d (record { first = λ ch. refl; controls_read = tt }) (λ n w. w) h in
+      let on = on_of now q a (at.Start start.GreetLocal) d (record { first = λ ch. refl; controls_read = tt }) (λ n w. w) h in
       local_on (said came).way (said came).bytes d on h.rests.0 h.rests.1.0
   start_takes (start.GreetRemote limit) d read port came h due =
-      let on = on_of controls now q a (at.Start (start.GreetRemote limit)) d (record { first = λ ch. refl; controls_read = tt }) (λ n w. w) h in
+      let on = on_of now q a (at.Start (start.GreetRemote limit)) d (record { first = λ ch. refl; controls_read = tt }) (λ n w. w) h in
       let remote : ℕ = remote_limit (said came).bytes d.book.controls in
       let e : Desk = record d { slots = none_out limit remote } in
-      let there : OnDesk controls q e = record { known = on.known; due = on.due; lanes = both_none q limit remote; apart = none_apart d.book.messages limit remote; controls_are = on.controls_are } in
+      let there : OnDesk q e = record { known = on.known; due = on.due; lanes = both_none q limit remote; apart = none_apart d.book.messages limit remote; no_nul = on.no_nul } in
       remote_on (said came).way (said came).bytes e there (no_marks limit remote) (no_jobs limit remote)
   start_takes (start.Control f reading.Opening) d read port came h due = absurd (cc)
   start_takes (start.Control f (reading.Going fd)) d read port came h due = absurd (cc)

@@ -18,7 +18,6 @@ use Rattle.call_fs.specs.declared.program.Port.{Port}
 use Rattle.call_fs.specs.declared.program.Ready.{Ready}
 use Rattle.call_fs.specs.Apply.{Fits, IsReadBy}
 use Rattle.mail_bytes.specs.Decimal.{digits}
-use Rattle.queue_paths.specs.Names.Part.{Todo}
 use Rattle.queue_paths.specs.Parts.{in_todo}
 use Rattle.send_core.specs.declared.desk.Desk.{Desk}
 use Rattle.send_parts.specs.declared.row.Row.TheVariants as at
@@ -46,13 +45,13 @@ use Rattle.todo_pass.specs.declared.row.Why.TheVariants as left
 use Rattle.todo_pass.specs.declared.sorted.Sorted.{Sorted}
 use Rattle.todo_pass.specs.Disks.{HoldsTodo}
 use Rattle.todo_pass.specs.Sorting.{has, sort_todo, text_of}
-use Rattle.todo_pass.specs.Table.{Pass, answer_row, answered, appended, begun, clear_row, create_row, local_row, made_row, moved, moved_at, open_row, piece_size, read, remote_row, sorted_with, stated, sync_row}
-use Rattle.todo_pass.specs.Table.{due_at as due_of, goes as pass_goes}
+use Rattle.todo_pass.specs.Table.{Pass, answer_row, answered, appended, begun, clear_row, create_row, local_row, made_row, moved, moved_at, open_row, piece_size, read, remote_row, sorted_with, stated, sync_row, due_at as due_of, goes as pass_goes}
 use Rattle.todo_pass.proofs.Made.{numbered}
 use Rattle.queue_law.specs.Books.{own_call}
+use Rattle.queue_law.specs.Entered.{Child}
 use Rattle.queue_law.specs.Numbers.{IsPreprocessed, IsQueued, Queue, Role, about, Sound}
 use Rattle.queue_law.specs.Rests.{RestsAs}
-use Rattle.queue_law.specs.Senders.{called_queue}
+use Rattle.queue_law.specs.Senders.{called_queue, entered_queue}
 use Rattle.queue_law.proofs.Sends.{reads_keep}
 use Rattle.program_law.specs.Sender.InTodo.{IsExpected, PassGoesOn, TodoStands}
 use Rattle.program_law.specs.Sender.Knows.{IsKnown, Serves}
@@ -67,6 +66,12 @@ use Rattle.program_law.proofs.Sender.Far.{due_far, far_by, lane_far}
 use Rattle.program_law.proofs.Sender.Known.{done_is_known}
 use Rattle.program_law.proofs.Sender.Passing.{passes_give, passes_go_on, search_begins}
 use Rattle.program_law.proofs.Sender.Turning.{past_todo_on}
+use Rattle.program_law.proofs.Sender.Entries.{one_grown}
+use Rattle.send_core.specs.Booked.{booked_at, routed_at}
+use Rattle.program_law.specs.Sender.Takings.{booked_queue}
+use Rattle.program_law.specs.Sender.Takings.LeadsThrough.{Goes, Stays}
+use Rattle.program_law.specs.Sender.Whole.{SenderTakes}
+use Rattle.queue_law.specs.Ledgers.Line.{Routes}
 
 -- No call of a pass leads to its answer
 
@@ -281,11 +286,11 @@ goes_of controls now q a todo.Lost p f h = absurd f
 
 -- What is rested on while todo is there
 
-unserved : (controls : Controls) (now : ℕ) (q : Queue) (n : ℕ) → RestsAs now q n (IsQueued controls) → (ch : Channel) → Serves (about q n) ch → ⊥
-unserved controls now q n R ch s = let none = s.sorted.no_todo in let there = R.rest.todo_there in absurd (cc)
+unserved : (now : ℕ) (q : Queue) (n : ℕ) → RestsAs now q n IsQueued → (ch : Channel) → Serves (about q n) ch → ⊥
+unserved now q n R ch s = let none = s.sorted.no_todo in let there = R.rest.todo_there in absurd (cc)
 
-other_number : (controls : Controls) (now : ℕ) (q : Queue) (n : ℕ) → RestsAs now q n (IsQueued controls) → (k : Known) → IsKnown (about q k.n) k → k.n ≢ n
-other_number controls now q n R k h e =
+other_number : (now : ℕ) (q : Queue) (n : ℕ) → RestsAs now q n IsQueued → (k : Known) → IsKnown (about q k.n) k → k.n ≢ n
+other_number now q n R k h e =
     let none = subst (λ (m : ℕ). in_todo (about q m).parts ≡ None) e h.sorted.no_todo in
     let there = R.rest.todo_there in
     absurd (cc)
@@ -294,47 +299,47 @@ free_of : (q : Queue) (n : ℕ) (ch : Channel) (o : Option Job) → ((job : Job)
 free_of q n ch None f none = refl
 free_of q n ch (Some job) f none = absurd (none (f job refl))
 
-plain_todo : (controls : Controls) (now : ℕ) (q : Queue) (a : List ℕ) (d : Desk) → StandsAt controls now q a at.InTodo d → OnDesk controls q d
-plain_todo controls now q a d h = on_of controls now q a at.InTodo d (record { first = λ ch. refl; controls_read = tt }) (λ n w. w) h
+plain_todo : (now : ℕ) (q : Queue) (a : List ℕ) (d : Desk) → StandsAt now q a at.InTodo d → OnDesk q d
+plain_todo now q a d h = on_of now q a at.InTodo d (record { first = λ ch. refl; controls_read = tt }) (λ n w. w) h
 
-module _ (controls : Controls) (now : ℕ) (q : Queue) (a : List ℕ) (read : ℕ) where
-  ended_on : (d : Desk) → OnDesk controls q d → StandsAt controls now q a (at.Ended 81) d
-  ended_on d h = stand controls now q a (at.Ended 81) d (λ ch. refl) h tt
+module _ (now : ℕ) (q : Queue) (a : List ℕ) (read : ℕ) where
+  ended_on : (d : Desk) → OnDesk q d → StandsAt now q a (at.Ended 81) d
+  ended_on d h = stand now q a (at.Ended 81) d (λ ch. refl) h tt
 
-  none_on : (again : Bool) (last : List ℕ) (d : Desk) → OnDesk controls q d → HasNoMarks d.slots → SenderStands controls now q a (todo_none again last read d)
-  none_on false (b ∷ bs) d h bare = stand controls now q a (at.FindTodo searches.FromStart) d (λ ch. refl) h bare
-  none_on false [] d h bare = past_todo_on controls now q a read d h bare
-  none_on true last d h bare = past_todo_on controls now q a read d h bare
+  none_on : (again : Bool) (last : List ℕ) (d : Desk) → OnDesk q d → HasNoMarks d.slots → SenderStands now q a (todo_none again last read d)
+  none_on false (b ∷ bs) d h bare = stand now q a (at.FindTodo searches.FromStart) d (λ ch. refl) h bare
+  none_on false [] d h bare = past_todo_on now q a read d h bare
+  none_on true last d h bare = past_todo_on now q a read d h bare
 
-  found_on : (o : Option ℕ) (text : List ℕ) (search : Search) (d : Desk) → ((n : ℕ) → o ≡ Some n → PassGoesOn controls now q a (begun n)) → OnDesk controls q d → HasNoMarks d.slots
-      → SenderStands controls now q a (todo_found o text search d)
+  found_on : (o : Option ℕ) (text : List ℕ) (search : Search) (d : Desk) → ((n : ℕ) → o ≡ Some n → PassGoesOn d.book.controls now q a (begun n)) → OnDesk q d → HasNoMarks d.slots
+      → SenderStands now q a (todo_found o text search d)
   found_on None text search d f h bare =
       let e : Desk = record d { row = at.FindTodo (searches.AfterStray (is_again search)); book = record d.book { after = take 255 text } } in
-      stand controls now q a (at.FindTodo (searches.AfterStray (is_again search))) e (λ ch. refl)
-      (record { known = h.known; due = h.due; lanes = h.lanes; apart = h.apart; controls_are = h.controls_are }) bare
+      stand now q a (at.FindTodo (searches.AfterStray (is_again search))) e (λ ch. refl)
+      (record { known = h.known; due = h.due; lanes = h.lanes; apart = h.apart; no_nul = h.no_nul }) bare
   found_on (Some n) text search d f h bare =
       let e : Desk = record d { row = at.InTodo; pass = begun n; busy = true } in
       let goes = f n refl in
-      let none = unserved controls now q n (goes.stands.rests tt) in
-      stand controls now q a at.InTodo e (λ ch. refl)
-      (record { known = h.known; due = h.due; lanes = h.lanes; apart = h.apart; controls_are = h.controls_are })
+      let none = unserved now q n (goes.stands.rests tt) in
+      stand now q a at.InTodo e (λ ch. refl)
+      (record { known = h.known; due = h.due; lanes = h.lanes; apart = h.apart; no_nul = h.no_nul })
       (bare, ((λ ch. free_of q n ch (job_of n (lane ch d.slots).jobs) (λ job e. (h.lanes ch).jobs n job e) (none ch)), goes))
 
   -- after a step of a pass that isn't the taking of the answer
-  goes_at : (row : PassRow) (p : Pass) (d : Desk) → TodoStands controls now q a p.row p → ((ch : Channel) → HasNoJob ch p.n d.slots) → OnDesk controls q d → HasNoMarks d.slots
-      → StandsAt controls now q a at.InTodo (record d { row = at.InTodo; pass = p })
-  goes_at row p d t free h bare = stand controls now q a at.InTodo (record d { row = at.InTodo; pass = p }) (λ ch. refl)
-      (record { known = h.known; due = h.due; lanes = h.lanes; apart = h.apart; controls_are = h.controls_are }) (bare, (free, t))
+  goes_at : (row : PassRow) (p : Pass) (d : Desk) → TodoStands d.book.controls now q a p.row p → ((ch : Channel) → HasNoJob ch p.n d.slots) → OnDesk q d → HasNoMarks d.slots
+      → StandsAt now q a at.InTodo (record d { row = at.InTodo; pass = p })
+  goes_at row p d t free h bare = stand now q a at.InTodo (record d { row = at.InTodo; pass = p }) (λ ch. refl)
+      (record { known = h.known; due = h.due; lanes = h.lanes; apart = h.apart; no_nul = h.no_nul }) (bare, (free, t))
 
-  lost_with : (p : Pass) (d : Desk) → OnDesk controls q d → SenderStands controls now q a (todo_on todo.Lost p read d)
-  lost_with p d h = ended_on (record d { row = at.Ended 81; pass = p }) (record { known = h.known; due = h.due; lanes = h.lanes; apart = h.apart; controls_are = h.controls_are })
+  lost_with : (p : Pass) (d : Desk) → OnDesk q d → SenderStands now q a (todo_on todo.Lost p read d)
+  lost_with p d h = ended_on (record d { row = at.Ended 81; pass = p }) (record { known = h.known; due = h.due; lanes = h.lanes; apart = h.apart; no_nul = h.no_nul })
 
-  left_with : (why : Why) (p : Pass) (d : Desk) → OnDesk controls q d → HasNoMarks d.slots → SenderStands controls now q a (todo_on (todo.Left why) p read d)
-  left_with why p d h bare = past_todo_on controls now q a read (record d { pass = p; last_left = digits p.n })
-      (record { known = h.known; due = h.due; lanes = h.lanes; apart = h.apart; controls_are = h.controls_are }) bare
+  left_with : (why : Why) (p : Pass) (d : Desk) → OnDesk q d → HasNoMarks d.slots → SenderStands now q a (todo_on (todo.Left why) p read d)
+  left_with why p d h bare = past_todo_on now q a read (record d { pass = p; last_left = digits p.n })
+      (record { known = h.known; due = h.due; lanes = h.lanes; apart = h.apart; no_nul = h.no_nul }) bare
 
-  on_todo : (row : PassRow) (p : Pass) (d : Desk) → TodoStands controls now q a p.row p → ((ch : Channel) → HasNoJob ch p.n d.slots) → OnDesk controls q d → HasNoMarks d.slots
-      → SenderStands controls now q a (todo_on row p read d)
+  on_todo : (row : PassRow) (p : Pass) (d : Desk) → TodoStands d.book.controls now q a p.row p → ((ch : Channel) → HasNoJob ch p.n d.slots) → OnDesk q d → HasNoMarks d.slots
+      → SenderStands now q a (todo_on row p read d)
   on_todo (todo.Left why) p d t free h bare = left_with why p d h bare
   on_todo todo.Lost p d t free h bare = lost_with p d h
   on_todo (todo.Clear x) p d t free h bare = goes_at (todo.Clear x) p d t free h bare
@@ -353,9 +358,9 @@ module _ (controls : Controls) (now : ℕ) (q : Queue) (a : List ℕ) (read : �
 
   -- the step of a pass with this row before
   abbrev Went : PassRow → GotData → Desk → Type 0
-  Went row got d = SenderStands controls now q a (todo_went row got (moved_at d.book.controls row d.pass read got) read d)
+  Went row got d = SenderStands now q a (todo_went row got (moved_at d.book.controls row d.pass read got) read d)
 
-  went_call : (row : PassRow) (got : GotData) (p : Pass) (d : Desk) → IsCall row → SenderStands controls now q a (todo_on p.row p read d) → SenderStands controls now q a (todo_went row got p read d)
+  went_call : (row : PassRow) (got : GotData) (p : Pass) (d : Desk) → IsCall row → SenderStands now q a (todo_on p.row p read d) → SenderStands now q a (todo_went row got p read d)
   went_call (todo.Clear x) got p d c h = h
   went_call todo.StatMess got p d c h = h
   went_call todo.OpenTodo got p d c h = h
@@ -373,7 +378,7 @@ module _ (controls : Controls) (now : ℕ) (q : Queue) (a : List ℕ) (read : �
   went_call todo.Lost got p d c h = h
 
   -- the giving of the command
-  gave : (got : GotData) (d : Desk) → IsExpected (about q d.pass.n) (known_of d.pass) → ((ch : Channel) → HasNoJob ch d.pass.n d.slots) → OnDesk controls q d → HasNoMarks d.slots
+  gave : (got : GotData) (d : Desk) → IsExpected (about q d.pass.n) (known_of d.pass) → ((ch : Channel) → HasNoJob ch d.pass.n d.slots) → OnDesk q d → HasNoMarks d.slots
       → Went todo.Give got d
   gave came.Gave d t free h bare = goes_at todo.Answer (pass_goes d.pass todo.Answer) d t free h bare
   gave (came.Answered told) d t free h bare = lost_with (pass_goes d.pass todo.Lost) d h
@@ -386,22 +391,22 @@ module _ (controls : Controls) (now : ℕ) (q : Queue) (a : List ℕ) (read : �
   gave came.Memory d t free h bare = lost_with (pass_goes d.pass todo.Lost) d h
 
   -- the taking of the answer
-  known_on : (row : PassRow) (d : Desk) → RestsAs now q d.pass.n (IsPreprocessed controls) → IsExpected (about q d.pass.n) (known_of d.pass)
-      → ((ch : Channel) → HasNoJob ch d.pass.n d.slots) → OnDesk controls q d → HasNoMarks d.slots → SenderStands controls now q a (todo_over todo.Done (pass_goes d.pass todo.Done) read d)
+  known_on : (row : PassRow) (d : Desk) → RestsAs now q d.pass.n IsPreprocessed → IsExpected (about q d.pass.n) (known_of d.pass)
+      → ((ch : Channel) → HasNoJob ch d.pass.n d.slots) → OnDesk q d → HasNoMarks d.slots → SenderStands now q a (todo_over todo.Done (pass_goes d.pass todo.Done) read d)
   known_on row d R t free h bare =
-      let it = done_is_known controls now q d.pass.n (known_of d.pass) R t in
-      let on = learned_on controls q (known_of d.pass) read d h it.known it.due free in
-      past_todo_on controls now q a read (record d { pass = pass_goes d.pass todo.Done; book = record d.book { messages = learned (known_of d.pass) read d.book.messages } })
-      (record { known = on.known; due = on.due; lanes = on.lanes; apart = on.apart; controls_are = on.controls_are }) bare
+      let it = done_is_known now q d.pass.n (known_of d.pass) R t in
+      let on = learned_on q (known_of d.pass) read d h it.known it.due free in
+      past_todo_on now q a read (record d { pass = pass_goes d.pass todo.Done; book = record d.book { messages = learned (known_of d.pass) read d.book.messages } })
+      (record { known = on.known; due = on.due; lanes = on.lanes; apart = on.apart; no_nul = on.no_nul }) bare
 
-  bytes_on : (b : Bool) (d : Desk) → ((if b then todo.Done else todo.Left left.Unclean) ≡ todo.Done → RestsAs now q d.pass.n (IsPreprocessed controls))
-      → IsExpected (about q d.pass.n) (known_of d.pass) → ((ch : Channel) → HasNoJob ch d.pass.n d.slots) → OnDesk controls q d → HasNoMarks d.slots
-      → SenderStands controls now q a (todo_over (if b then todo.Done else todo.Left left.Unclean) (pass_goes d.pass (if b then todo.Done else todo.Left left.Unclean)) read d)
+  bytes_on : (b : Bool) (d : Desk) → ((if b then todo.Done else todo.Left left.Unclean) ≡ todo.Done → RestsAs now q d.pass.n IsPreprocessed)
+      → IsExpected (about q d.pass.n) (known_of d.pass) → ((ch : Channel) → HasNoJob ch d.pass.n d.slots) → OnDesk q d → HasNoMarks d.slots
+      → SenderStands now q a (todo_over (if b then todo.Done else todo.Left left.Unclean) (pass_goes d.pass (if b then todo.Done else todo.Left left.Unclean)) read d)
   bytes_on true d told t free h bare = known_on todo.Done d (told refl) t free h bare
   bytes_on false d told t free h bare = left_with left.Unclean (pass_goes d.pass (todo.Left left.Unclean)) d h bare
 
-  took : (got : GotData) (d : Desk) → (answer_row got ≡ todo.Done → RestsAs now q d.pass.n (IsPreprocessed controls)) → IsExpected (about q d.pass.n) (known_of d.pass)
-      → ((ch : Channel) → HasNoJob ch d.pass.n d.slots) → OnDesk controls q d → HasNoMarks d.slots → Went todo.Answer got d
+  took : (got : GotData) (d : Desk) → (answer_row got ≡ todo.Done → RestsAs now q d.pass.n IsPreprocessed) → IsExpected (about q d.pass.n) (known_of d.pass)
+      → ((ch : Channel) → HasNoJob ch d.pass.n d.slots) → OnDesk q d → HasNoMarks d.slots → Went todo.Answer got d
   took (came.Took bytes) d told t free h bare = bytes_on (bytes_eq bytes (43 ∷ [])) d told t free h bare
   took came.Gave d told t free h bare = lost_with (pass_goes d.pass todo.Lost) d h
   took (came.Answered x) d told t free h bare = lost_with (pass_goes d.pass todo.Lost) d h
@@ -451,99 +456,105 @@ take_is todo.Lost p port due = absurd (cc)
 nothing_ready : Ready
 nothing_ready = record { links = []; child = None }
 
-module _ (controls : Controls) (now : ℕ) (q : Queue) (a : List ℕ) where
-  module _ (G : Sound controls q) (search : Search) (d : Desk) (read wrote : ℕ) (h : StandsAt controls now q a (at.FindTodo search) d) where
+module _ (now : ℕ) (q : Queue) (a : List ℕ) where
+  module _ (G : Sound q) (search : Search) (d : Desk) (read wrote : ℕ) (h : StandsAt now q a (at.FindTodo search) d) where
     abbrev asking : CallData
     asking = NextName (dir_text dir.Todo) (search_words search d)
 
     abbrev after : Answer → Queue
     after t = called_queue q a read asking t wrote q.role
 
-    grown : (t : Answer) → Fits q.disk asking t wrote → OnDesk controls (after t) d
-    grown t f = desk_grown controls q (after t) d (grown_by now a q (after t) (reads_keep controls now q a G read asking t wrote tt f).elsewhere)
-        (on_of controls now q a (at.FindTodo search) d (record { first = λ ch. refl; controls_read = tt }) (λ n w. w) h)
+    grown : (t : Answer) → Fits q.disk asking t wrote → OnDesk (after t) d
+    grown t f = desk_grown q (after t) d (grown_by now a q (after t) (reads_keep now q a G read asking t wrote tt f).elsewhere)
+        (on_of now q a (at.FindTodo search) d (record { first = λ ch. refl; controls_read = tt }) (λ n w. w) h)
 
-    none_leads : (t : Answer) → Fits q.disk asking t wrote → SenderLeads controls now a q (after t) (todo_none (is_again search) d.last_left read d)
+    none_leads : (t : Answer) → Fits q.disk asking t wrote → SenderLeads now a q (after t) (todo_none (is_again search) d.last_left read d)
     none_leads t f = record {
       number = None;
       closed = none_closed now q;
-      leads = reads_keep controls now q a G read asking t wrote tt f;
-      stands = none_on controls now (after t) a read (is_again search) d.last_left d (grown t f) h.rests;
+      leads = reads_keep now q a G read asking t wrote tt f;
+      stands = none_on now (after t) a read (is_again search) d.last_left d (grown t f) h.rests;
     }
 
     find_answer : (t : Answer) (bytes : List ℕ) → Fits q.disk asking t wrote
-        → SenderLeads controls now a q (after t) (todo_named (told_as t bytes).way (told_as t bytes).bytes search read d)
+        → SenderLeads now a q (after t) (todo_named (told_as t bytes).way (told_as t bytes).bytes search read d)
     find_answer (answer.Name text) bytes f = record {
       number = None;
       closed = none_closed now q;
-      leads = reads_keep controls now q a G read asking (answer.Name text) wrote tt f;
-      stands = found_on controls now (after (answer.Name text)) a read (message_number text) text search d
-          (λ n e. search_begins controls now q a read (search_words search d) text wrote n G f e) (grown (answer.Name text) f) h.rests;
+      leads = reads_keep now q a G read asking (answer.Name text) wrote tt f;
+      stands = found_on now (after (answer.Name text)) a read (message_number text) text search d
+          (λ n e. search_begins d.book.controls now q a read (search_words search d) text wrote n G f e) (grown (answer.Name text) f) h.rests;
     }
     find_answer answer.NoName bytes f = none_leads answer.NoName f
     find_answer (answer.Refused why.NotThere) bytes f = none_leads (answer.Refused why.NotThere) f
     find_answer (answer.Refused why.Fault) bytes f = none_leads (answer.Refused why.Fault) f
     find_answer told bytes f = absurd f
 
-  pub finds : Sound controls q → (search : Search) (d : Desk) (read : ℕ) (call : CallData) (told : Told) (wrote : ℕ) → StandsAt controls now q a (at.FindTodo search) d
+  pub finds : Sound q → (search : Search) (d : Desk) (read : ℕ) (call : CallData) (told : Told) (wrote : ℕ) → StandsAt now q a (at.FindTodo search) d
       → due_at (at.FindTodo search) d ≡ needs.File call → Fits q.disk call told.answer wrote
-      → SenderLeads controls now a q (called_queue q a read call told.answer wrote q.role) (act (at.FindTodo search) read (Answered told) d)
+      → SenderLeads now a q (called_queue q a read call told.answer wrote q.role) (act (at.FindTodo search) read (Answered told) d)
   finds G search d read call told wrote h due fits =
       let asked : CallData = NextName (dir_text dir.Todo) (search_words search d) in
       let same : call ≡ asked = sym (file_call asked call due) in
-      subst (λ z. SenderLeads controls now a q (called_queue q a read z told.answer wrote q.role) (act (at.FindTodo search) read (Answered told) d)) (sym same)
+      subst (λ z. SenderLeads now a q (called_queue q a read z told.answer wrote q.role) (act (at.FindTodo search) read (Answered told) d)) (sym same)
       (find_answer G search d read wrote h told.answer told.bytes (subst (λ z. Fits q.disk z told.answer wrote) same fits))
 
-  pub todo_calls : Sound controls q → (d : Desk) (read : ℕ) (call : CallData) (told : Told) (wrote : ℕ) → StandsAt controls now q a at.InTodo d
+  pub todo_calls : Sound q → (d : Desk) (read : ℕ) (call : CallData) (told : Told) (wrote : ℕ) → StandsAt now q a at.InTodo d
       → due_at at.InTodo d ≡ needs.File call → Fits q.disk call told.answer wrote → IsReadBy q.disk call told
-      → (role : ℕ → Role) × SenderLeads controls now a q (called_queue q a read call told.answer wrote role) (act at.InTodo read (Answered told) d)
+      → (role : ℕ → Role) × SenderLeads now a q (called_queue q a read call told.answer wrote role) (act at.InTodo read (Answered told) d)
   todo_calls G d read call told wrote h due fits by =
       let p : Pass = d.pass in
-      let on = plain_todo controls now q a d h in
+      let on = plain_todo now q a d h in
       let c = held_call p p.row call refl due in
-      let goes = goes_of controls now q a p.row p c.1 h.rests.1.1 in
-      let w = passes_go_on.calls controls now q a p read call told wrote G goes due fits by in
+      let goes = goes_of d.book.controls now q a p.row p c.1 h.rests.1.1 in
+      let w = passes_go_on.calls d.book.controls now q a p read call told wrote G goes due fits by in
       let r : Queue = called_queue q a read call told.answer wrote w.0 in
       let R = goes.stands.rests c.1 in
       let same = far_by now a p.n q r w.1.leads.elsewhere in
-      let none = unserved controls now q p.n R in
-      let next : Pass = moved controls p read (came.Answered told) in
-      let number : next.n ≡ p.n = ap (λ (z : Pass). (moved controls z read (came.Answered told)).n) goes.is ∙ numbered controls p.n (own_call read nothing_ready call told ∷ goes.past) in
-      let there : OnDesk controls r d = record {
+      let none = unserved now q p.n R in
+      let next : Pass = moved d.book.controls p read (came.Answered told) in
+      let number : next.n ≡ p.n = ap (λ (z : Pass). (moved d.book.controls z read (came.Answered told)).n) goes.is ∙ numbered d.book.controls p.n (own_call read nothing_ready call told ∷ goes.past) in
+      let there : OnDesk r d = record {
         known = All-weaker (λ (k : Known). IsKnown (about q k.n) k) (λ (k : Known). IsKnown (about r k.n) k)
-            (λ k it. subst (λ z. IsKnown z k) (sym (same k.n (other_number controls now q p.n R k it))) it) d.book.messages.known on.known;
+            (λ k it. subst (λ z. IsKnown z k) (sym (same k.n (other_number now q p.n R k it))) it) d.book.messages.known on.known;
         due = due_far q r p.n same d.book.messages none on.due;
         lanes = λ ch. lane_far q r p.n same ch (lane ch d.slots) (none ch) (on.lanes ch) (h.rests.0 ch);
         apart = on.apart;
-        controls_are = on.controls_are;
+        no_nul = on.no_nul;
       } in
       let free : (ch : Channel) → HasNoJob ch next.n d.slots = λ ch. subst (λ (m : ℕ). HasNoJob ch m d.slots) (sym number) (h.rests.1.0 ch) in
-      let stood = on_todo controls now r a read next.row next d (goes_if controls now r a next.row next (moved_far controls p read told c.0) w.1.goes_on) free there h.rests.0 in (
+      let stood = on_todo now r a read next.row next d (goes_if d.book.controls now r a next.row next (moved_far d.book.controls p read told c.0) w.1.goes_on) free there h.rests.0 in (
         w.0,
         record {
           number = Some p.n;
           closed = one_closed now q p.n R.closed;
           leads = w.1.leads;
-          stands = subst (λ (x : Controls). SenderStands controls now r a (todo_went p.row (Answered told) (moved x p read (Answered told)) read d)) (sym on.controls_are)
-              (went_call controls now r a read p.row (Answered told) next d c.0 stood);
+          stands = went_call now r a read p.row (Answered told) next d c.0 stood;
         },
       )
 
-  pub todo_gives : (d : Desk) (read : ℕ) (port : Port) (bytes : List ℕ) (got : GotData) → StandsAt controls now q a at.InTodo d
-      → due_at at.InTodo d ≡ needs.Give port bytes → SenderStands controls now q a (act at.InTodo read got d)
-  todo_gives d read port bytes got h due =
+  -- the message is routed, whatever comes of it
+  pub todo_gives : Sound q → (child : Option Child) (d : Desk) (read : ℕ) (port : Port) (bytes : List ℕ) (got : GotData) → StandsAt now q a at.InTodo d
+      → due_at at.InTodo d ≡ needs.Give port bytes → SenderTakes now a q (booked_queue child d.book.controls (booked_at at.InTodo got d) q) (act at.InTodo read got d)
+  todo_gives G child d read port bytes got h due =
       let p : Pass = d.pass in
-      let on = plain_todo controls now q a d h in
+      let by : Controls = d.book.controls in
+      let on = plain_todo now q a d h in
       let is = give_is p.row p port bytes due in
-      let goes = goes_of controls now q a p.row p (subst HoldsTodo (sym is) tt) h.rests.1.1 in
-      let learned_is = (passes_give controls now q a p goes is).learned in
-      subst (λ row. Went controls now q a read row got d) (sym is) (gave controls now q a read got d learned_is h.rests.1.0 on h.rests.0)
+      let goes = goes_of by now q a p.row p (subst HoldsTodo (sym is) tt) h.rests.1.1 in
+      let given = passes_give by now q a p on.no_nul G goes is in
+      let r : Queue = entered_queue q p.n (Routes by) in
+      let there = desk_grown q r d (one_grown q p.n (Routes by)) on in
+      let stood = subst (λ row. Went now r a read row got d) (sym is) (gave now r a read got d given.learned h.rests.1.0 there h.rests.0) in
+      let R = goes.stands.rests (subst HoldsTodo (sym is) tt) in
+      subst (λ (row : PassRow). SenderTakes now a q (booked_queue child by (routed_at row p.n) q) (act at.InTodo read got d)) (sym is)
+      (record { leads = Goes q r r p.n R.closed given.given.leads (Stays r); sound = given.given.leads.sound; stands = stood })
 
-  pub todo_takes : (d : Desk) (read : ℕ) (port : Port) (got : GotData) → StandsAt controls now q a at.InTodo d → due_at at.InTodo d ≡ needs.Take port
-      → (answer_row got ≡ todo.Done → RestsAs now q d.pass.n (IsPreprocessed controls)) → SenderStands controls now q a (act at.InTodo read got d)
+  pub todo_takes : (d : Desk) (read : ℕ) (port : Port) (got : GotData) → StandsAt now q a at.InTodo d → due_at at.InTodo d ≡ needs.Take port
+      → (answer_row got ≡ todo.Done → RestsAs now q d.pass.n IsPreprocessed) → SenderStands now q a (act at.InTodo read got d)
   todo_takes d read port got h due told =
       let p : Pass = d.pass in
-      let on = plain_todo controls now q a d h in
+      let on = plain_todo now q a d h in
       let is = take_is p.row p port due in
-      let t = subst (λ row. TodoStands controls now q a row p) is h.rests.1.1 in
-      subst (λ row. Went controls now q a read row got d) (sym is) (took controls now q a read got d told t h.rests.1.0 on h.rests.0)
+      let t = subst (λ row. TodoStands d.book.controls now q a row p) is h.rests.1.1 in
+      subst (λ row. Went now q a read row got d) (sym is) (took now q a read got d told t h.rests.1.0 on h.rests.0)

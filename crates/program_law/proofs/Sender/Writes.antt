@@ -4,8 +4,6 @@ use Rattle.std.specs.Prelude.{All, Contains, slice_get, flat_map}
 use Rattle.std.specs.Option.{option_map}
 use Rattle.std.proofs.lemmas.Bool.Decides.{eqb_tells}
 use Rattle.std.proofs.lemmas.List.Elements.{All-drop, All-weaker}
-use Rattle.address_rules.specs.declared.controls.Controls.{Controls}
-use Rattle.address_rules.specs.Nuls.{HaveNoNul}
 use Rattle.call_fs.specs.declared.calls.Answer.{Answer}
 use Rattle.call_fs.specs.declared.calls.Answer.TheVariants as answer
 use Rattle.call_fs.specs.declared.calls.CallData.{CallData}
@@ -35,8 +33,7 @@ use Rattle.send_parts.specs.declared.row.Row.TheVariants as at
 use Rattle.send_core.specs.Desk.{due_on, goes}
 use Rattle.send_core.specs.Table.{act, due_at, file_of}
 use Rattle.send_core.specs.Booked.{booked_at}
-use Rattle.send_core.specs.Turn.{act_mark, note_of}
-use Rattle.send_core.specs.Turn.{noted as turned}
+use Rattle.send_core.specs.Turn.{act_mark, note_of, noted as turned}
 use Rattle.send_jobs.specs.declared.attempts.Attempt.{Attempt}
 use Rattle.send_jobs.specs.declared.attempts.Mark.{Mark}
 use Rattle.send_known.specs.declared.channel.Channel.{Channel}
@@ -54,14 +51,16 @@ use Rattle.program_law.proofs.Channel.Counts.{contained_counts, head_or_tail, no
 use Rattle.program_law.proofs.Channel.Marks.{failed_kept, written_kept}
 use Rattle.program_law.proofs.Channel.Texts.{At, at_of, mark_is, one_width, width}
 use Rattle.program_law.proofs.Channel.Ties.{at_itself, others_kept, unsure_kept}
-use Rattle.queue_law.specs.Books.{Books, Child}
+use Rattle.queue_law.specs.Books.{Books}
+use Rattle.queue_law.specs.Entered.{Child, named_by}
 use Rattle.queue_law.specs.Numbers.{Queue, Entry, Role, find, look, about, Sound}
 use Rattle.queue_law.specs.Passes.{HasOpen}
 use Rattle.queue_law.specs.Rests.{IsClosed}
 use Rattle.queue_law.specs.Routes.{lane_part, sender_of}
-use Rattle.queue_law.specs.Senders.{LeadsOn, MayMark, called_queue}
-use Rattle.queue_law.proofs.Changes.{marks_one}
-use Rattle.queue_law.proofs.Growth.{grown_same}
+use Rattle.queue_law.specs.Senders.{entered_queue, LeadsOn, MayMark, called_queue, marked_queue}
+use Rattle.queue_law.proofs.Changes.{marks_change_one}
+use Rattle.queue_law.specs.Ledgers.Line.{Marks}
+use Rattle.queue_law.specs.Ledgers.{Named}
 use Rattle.queue_law.proofs.Looks.{find_near, find_same, found}
 use Rattle.queue_law.proofs.Sends.{marks_keep}
 use Rattle.program_law.specs.Sender.Views.{files_of, records_at}
@@ -70,7 +69,7 @@ use Rattle.program_law.specs.Sender.Rows.{HasFile, IsFirstMark}
 use Rattle.program_law.specs.Sender.Stands.{SenderLeads, SenderStands, StandsAt}
 use Rattle.program_law.specs.Sender.Takings.{booked_queue}
 use Rattle.program_law.proofs.Sender.Closes.{lane_closed, one_closed}
-use Rattle.program_law.proofs.Sender.Entries.{Grows}
+use Rattle.program_law.proofs.Sender.Entries.{Grows, lines_lives, one_grown}
 use Rattle.program_law.proofs.Sender.Gone.{file_call, info_apart, lane_name, other_number, not_lane}
 use Rattle.program_law.proofs.Sender.Heads.{first_all, first_in}
 use Rattle.program_law.proofs.Sender.Lanes.{AllServe, OnLane}
@@ -79,7 +78,7 @@ use Rattle.program_law.proofs.Sender.Noting.{note_opens, note_step}
 use Rattle.program_law.proofs.Sender.Others.{the_job}
 use Rattle.program_law.proofs.Sender.Texts.{they_are}
 
-abbrev dee : List ℕ
+abbrev pub dee : List ℕ
 dee = 68 ∷ []
 
 -- The bytes of a mark
@@ -94,7 +93,7 @@ placed_in k (x ∷ rs) r h w =
     (λ more. let up = placed_in (k + width x) rs r h.1 more in omega (arith, up, sum, one))
     (head_or_tail x r rs w)
 
-in_text : (bytes : List ℕ) (rs : List Record) (r : Record) → AreRecords bytes rs → Contains rs r → r.place < length bytes
+pub in_text : (bytes : List ℕ) (rs : List Record) (r : Record) → AreRecords bytes rs → Contains rs r → r.place < length bytes
 in_text bytes rs r are w =
     let there : At 0 rs = at_of 0 rs (λ before after it e. let p = are.places before after it e in omega (arith, p)) in
     let lt = placed_in 0 rs r there w in
@@ -105,7 +104,7 @@ take_none : (k : ℕ) → take {A = ℕ} k [] ≡ []
 take_none zero = refl
 take_none (suc k) = refl
 
-take_dee : (k : ℕ) → 0 < k → take k dee ≡ dee
+pub take_dee : (k : ℕ) → 0 < k → take k dee ≡ dee
 take_dee zero lt = absurd (omega arith)
 take_dee (suc k) lt = ap (λ t. 68 ∷ t) (take_none k)
 
@@ -197,8 +196,8 @@ module _ (q r : Queue) (c : Channel) (n place : ℕ) (books : r.books ≡ q.book
       (λ w. ap records_at (others (lane_part c) k (other_number c n k (lane_part c) (λ e. w.0 (e ∙ sym number)))) ∙ sym w.1)
       (put_cases (files_of q c) a.n v k)
 
-  module _ (controls : Controls) (fd : Fd) (d : Desk) (first : Mark) (is_first : slice_get (lane c d.slots).marks 0 ≡ Some first) (number : first.attempt.n ≡ n)
-      (at_place : first.attempt.place ≡ place) (h : AtMark controls q (mark.Write fd) c d) where
+  module _ (fd : Fd) (d : Desk) (first : Mark) (is_first : slice_get (lane c d.slots).marks 0 ≡ Some first) (number : first.attempt.n ≡ n)
+      (at_place : first.attempt.place ≡ place) (h : AtMark q (mark.Write fd) c d) where
     opened : IsOpen (files_of q c) first.attempt
     opened = first_all (λ m. IsOpen (files_of q c) m.attempt) (lane c d.slots).marks first h.tied.to_mark is_first
 
@@ -211,12 +210,12 @@ module _ (q r : Queue) (c : Channel) (n place : ℕ) (books : r.books ≡ q.book
     due_after : AllServe r d.book.messages
     due_after ch = All-weaker (λ (e : ℕ × ℕ). Serves (about q e.1) ch) (λ (e : ℕ × ℕ). Serves (about r e.1) ch) (λ e. serves_after e.1 ch) (due_on ch d.book.messages) (h.due ch)
 
-    written_at : (written : Bool) → AtMark controls r (mark.Close fd written) c d
+    written_at : (written : Bool) → AtMark r (mark.Close fd written) c d
     written_at true = record {
       known = known_all_after;
       due = due_after;
       apart = h.apart;
-      controls_are = h.controls_are;
+      no_nul = h.no_nul;
       others = λ ch far. other_lane ch far (lane ch d.slots) (h.others ch far);
       tied = tied_after Written (written_kept (files_of q c) first (lane c d.slots) h.tied is_first);
       jobs = λ k job e. serves_after k c (h.jobs k job e);
@@ -226,7 +225,7 @@ module _ (q r : Queue) (c : Channel) (n place : ℕ) (books : r.books ≡ q.book
       known = known_all_after;
       due = due_after;
       apart = h.apart;
-      controls_are = h.controls_are;
+      no_nul = h.no_nul;
       others = λ ch far. other_lane ch far (lane ch d.slots) (h.others ch far);
       tied = tied_after Unsure (failed_kept (files_of q c) first (lane c d.slots) h.tied is_first);
       jobs = λ k job e. serves_after k c (h.jobs k job e);
@@ -234,12 +233,12 @@ module _ (q r : Queue) (c : Channel) (n place : ℕ) (books : r.books ≡ q.book
     }
 
 -- a write that wrote nothing
-unsure_at : (controls : Controls) (q : Queue) (fd : Fd) (c : Channel) (d : Desk) → AtMark controls q (mark.Write fd) c d → AtMark controls q (mark.Close fd false) c d
-unsure_at controls q fd c d h = record {
+unsure_at : (q : Queue) (fd : Fd) (c : Channel) (d : Desk) → AtMark q (mark.Write fd) c d → AtMark q (mark.Close fd false) c d
+unsure_at q fd c d h = record {
   known = h.known;
   due = h.due;
   apart = h.apart;
-  controls_are = h.controls_are;
+  no_nul = h.no_nul;
   others = h.others;
   tied = unsure_kept (files_of q c) (lane c d.slots) h.tied;
   jobs = h.jobs;
@@ -257,13 +256,17 @@ looks_same : (e : Disk) (o : Option OpenFile) (x : Name) → find (changed e o (
 looks_same e None x = refl
 looks_same e (Some o) x = find_same e.names e.names e.files (put e.files o.number (e.files o.number)) x refl (λ i w. put_self e.files o.number i)
 
-module _ (controls : Controls) (now : ℕ) (q : Queue) (a : List ℕ) (G : Sound controls q) (m : Marked) (d : Desk) (first : IsFirstMark m d.slots) (read : ℕ) (fd : Fd)
-    (h : AtMark controls q (mark.Write fd) m.channel d) (file : HasFile q a (lane_part m.channel) m.n how.Write fd.0) (sure : IsDoneIn (about q m.n) m.channel m.place) where
+module _ (now : ℕ) (q : Queue) (a : List ℕ) (G : Sound q) (m : Marked) (d : Desk) (first : IsFirstMark m d.slots) (read : ℕ) (fd : Fd)
+    (h : AtMark q (mark.Write fd) m.channel d) (file : HasFile q a (lane_part m.channel) m.n how.Write fd.0) (sure : IsDoneIn d.book.controls (about q m.n) m.channel m.place) where
   abbrev writing : CallData
   writing = call.WriteAt fd m.place dee
 
+  -- the mark that is entered
+  abbrev it : Named
+  it = named_by d.book.controls m.channel m.place
+
   abbrev after : ℕ → Answer → Queue
-  after wrote told = called_queue q a read writing told wrote q.role
+  after wrote told = marked_queue q a read m.n fd it told wrote
 
   abbrev x : Name
   x = Of (lane_part m.channel) m.n
@@ -279,18 +282,18 @@ module _ (controls : Controls) (now : ℕ) (q : Queue) (a : List ℕ) (G : Sound
       let job = the_job (job_of k l.jobs) (h.tied.owned k p held) in
       subst (λ z. Serves (about q z) m.channel) first.number (h.jobs k job.0 job.1)
 
-  may : MayMark q a m.n m.channel fd.0 m.place
+  may : MayMark q a m.n fd.0 it
   may = record {
     lane = record { no_todo = serves.sorted.no_todo; file = file.file; there = file.there; injection = sure.sorted.injection; lives = sure.sorted.lives };
     opened = file.opened;
-    done = sure.done;
+    may = sure.done;
   }
 
-  leads : (told : Answer) (wrote : ℕ) → Fits q.disk writing told wrote → LeadsOn controls now a (Some m.n) q (after wrote told)
-  leads told wrote fits = marks_keep controls now q a G read m.n m.channel fd m.place told wrote may fits
+  leads : (told : Answer) (wrote : ℕ) → Fits q.disk writing told wrote → LeadsOn now a (Some m.n) q (after wrote told)
+  leads told wrote fits = marks_keep now q a read m.n fd it told wrote G may fits
 
   closed : (n : ℕ) → ◌≡◌ {A = Option ℕ} (Some m.n) (Some n) → IsClosed now q n
-  closed = one_closed now q m.n (lane_closed controls now q m.n m.channel G may.lane)
+  closed = one_closed now q m.n (lane_closed now q m.n m.channel G may.lane)
 
   open_then : (told : Answer) (wrote : ℕ) → (after wrote told).disk.opens ≡ q.disk.opens → (after wrote told).holder ≡ q.holder → HasOpen (after wrote told) a fd.0
   open_then told wrote e f = (
@@ -321,7 +324,7 @@ module _ (controls : Controls) (now : ℕ) (q : Queue) (a : List ℕ) (G : Sound
 
   others_then : Fits q.disk writing answer.Done 0 → (part : Part) (k : ℕ) → Of part k ≢ x → look (after 0 answer.Done) (Of part k) ≡ look q (Of part k)
   others_then fits part k far =
-      let one = marks_one controls q a read m.n m.channel fd m.place answer.Done 0 G may fits in
+      let one = marks_change_one q a read m.n fd it answer.Done 0 G may fits in
       ⊎_elim
       (λ t.
       let apart : part ≢ lane_part m.channel = λ e. far (ap (λ z. Of z k) e ∙ ap (Of (lane_part m.channel)) t.1) in
@@ -332,21 +335,22 @@ module _ (controls : Controls) (now : ℕ) (q : Queue) (a : List ℕ) (G : Sound
       number_same : (j k : ℕ) → ◌≡◌ {A = Option ℕ} (Some j) (Some k) → j ≡ k
       number_same j k e = cc
 
-  marked_at : Fits q.disk writing answer.Done 0 → (written : Bool) → AtMark controls (after 0 answer.Done) (mark.Close fd written) m.channel d
+  marked_at : Fits q.disk writing answer.Done 0 → (written : Bool) → AtMark (after 0 answer.Done) (mark.Close fd written) m.channel d
   marked_at fits written =
-      written_at q (after 0 answer.Done) m.channel m.n m.place refl file.file (record { number = file.file.number; file = g (q.disk.files file.file.number) }) file.there there_then
+      let r : Queue = entered_queue q m.n (Marks it) in
+      written_at r (after 0 answer.Done) m.channel m.n m.place refl file.file (record { number = file.file.number; file = g (q.disk.files file.file.number) }) file.there there_then
       (dee_bytes read m.place (q.disk.files file.file.number) file.file.file.bytes (ap (λ (f : File). f.bytes) (sym the_file)) place_in)
-      (others_then fits) controls fd d first.first first.there first.number first.place h written
+      (others_then fits) fd d first.first first.there first.number first.place (at_grown q r (mark.Write fd) m.channel d (one_grown q m.n (Marks it)) h) written
 
   stand_then : (told : Answer) (wrote : ℕ) (written : Bool) → (after wrote told).disk.opens ≡ q.disk.opens → (after wrote told).holder ≡ q.holder
-      → AtMark controls (after wrote told) (mark.Close fd written) m.channel d → SenderStands controls now (after wrote told) a (goes d (at.Mark (mark.Close fd written) m))
-  stand_then told wrote written e f there = at_stands controls now (after wrote told) a (mark.Close fd written) m d there first (open_then told wrote e f)
+      → AtMark (after wrote told) (mark.Close fd written) m.channel d → SenderStands now (after wrote told) a (goes d (at.Mark (mark.Close fd written) m))
+  stand_then told wrote written e f there = at_stands now (after wrote told) a (mark.Close fd written) m d there first (open_then told wrote e f)
 
   grows_to : (told : Answer) (wrote : ℕ) → ((part : Part) (k : ℕ) → look (after wrote told) (Of part k) ≡ look q (Of part k)) → Grows q (after wrote told)
-  grows_to told wrote e = record { looks = λ part k far. e part k; lives = λ k i there. (i, there, refl, grown_same i.ledger) }
+  grows_to told wrote e = record { looks = λ part k far. e part k; lives = λ k i there. lines_lives q.books m.n (Marks it) k i there }
 
   pub write_answer : (wrote : ℕ) (told : Answer) (bytes : List ℕ) → Fits q.disk writing told wrote
-      → SenderLeads controls now a q (after wrote told) (act_mark (mark.Write fd) m (Answered (record { answer = told; bytes = bytes })) d)
+      → SenderLeads now a q (after wrote told) (act_mark (mark.Write fd) m (Answered (record { answer = told; bytes = bytes })) d)
   write_answer wrote answer.Done bytes fits = record {
     number = Some m.n;
     closed = closed;
@@ -358,8 +362,8 @@ module _ (controls : Controls) (now : ℕ) (q : Queue) (a : List ℕ) (G : Sound
     closed = closed;
     leads = leads (answer.Refused why.Fault) 0 fits;
     stands = stand_then (answer.Refused why.Fault) 0 false (opens_same q.disk (q.disk.opens fd.0) (λ f. f)) refl
-        (at_grown controls q (after 0 (answer.Refused why.Fault)) (mark.Close fd false) m.channel d
-        (grows_to (answer.Refused why.Fault) 0 (λ part k. looks_same q.disk (q.disk.opens fd.0) (Of part k))) (unsure_at controls q fd m.channel d h));
+        (at_grown q (after 0 (answer.Refused why.Fault)) (mark.Close fd false) m.channel d
+        (grows_to (answer.Refused why.Fault) 0 (λ part k. looks_same q.disk (q.disk.opens fd.0) (Of part k))) (unsure_at q fd m.channel d h));
   }
   write_answer (suc zero) (answer.Refused why.Fault) bytes fits = record {
     number = Some m.n;
@@ -373,8 +377,8 @@ module _ (controls : Controls) (now : ℕ) (q : Queue) (a : List ℕ) (G : Sound
     closed = closed;
     leads = leads (answer.Refused why.Memory) wrote fits;
     stands = stand_then (answer.Refused why.Memory) wrote false refl refl
-        (at_grown controls q (after wrote (answer.Refused why.Memory)) (mark.Close fd false) m.channel d
-        (grows_to (answer.Refused why.Memory) wrote (λ part k. refl)) (unsure_at controls q fd m.channel d h));
+        (at_grown q (after wrote (answer.Refused why.Memory)) (mark.Close fd false) m.channel d
+        (grows_to (answer.Refused why.Memory) wrote (λ part k. refl)) (unsure_at q fd m.channel d h));
   }
   write_answer wrote (answer.Refused why.NotThere) bytes fits = absurd fits
   write_answer wrote (answer.Refused why.Exists) bytes fits = absurd fits
@@ -388,52 +392,52 @@ module _ (controls : Controls) (now : ℕ) (q : Queue) (a : List ℕ) (G : Sound
 -- Each step
 
 -- at the begin of a note
-at_noting : (controls : Controls) (now : ℕ) (q : Queue) (a : List ℕ) (m : Marked) (d : Desk) → StandsAt controls now q a (at.Mark mark.Note m) d → AtMark controls q mark.Noting m.channel d
-at_noting controls now q a m d h =
-    let t = at_mark controls now q a mark.Note m d h in
-    record { known = t.known; due = t.due; apart = t.apart; controls_are = t.controls_are; others = t.others; tied = t.tied; jobs = t.jobs; marks = t.marks }
+at_noting : (now : ℕ) (q : Queue) (a : List ℕ) (m : Marked) (d : Desk) → StandsAt now q a (at.Mark mark.Note m) d → AtMark q mark.Noting m.channel d
+at_noting now q a m d h =
+    let t = at_mark now q a mark.Note m d h in
+    record { known = t.known; due = t.due; apart = t.apart; no_nul = t.no_nul; others = t.others; tied = t.tied; jobs = t.jobs; marks = t.marks }
 
-module _ (controls : Controls) (now : ℕ) (q : Queue) (a : List ℕ) (child : Option Child) (plain : HaveNoNul controls) (G : Sound controls q) (m : Marked) (d : Desk) (read : ℕ) (told : Told)
+module _ (now : ℕ) (q : Queue) (a : List ℕ) (child : Option Child) (G : Sound q) (m : Marked) (d : Desk) (read : ℕ) (told : Told)
     (wrote : ℕ) where
   -- to what a call leads
   abbrev Leads : MarkRow → CallData → Type 0
-  Leads row c = (role : ℕ → Role) × SenderLeads controls now a q (booked_queue child (booked_at (at.Mark row m) (Answered told) d) (called_queue q a read c told.answer wrote role))
+  Leads row c = (role : ℕ → Role) × SenderLeads now a q (booked_queue child d.book.controls (booked_at (at.Mark row m) (Answered told) d) (called_queue q a read c told.answer wrote role))
       (act (at.Mark row m) read (Answered told) d)
 
-  noted : StandsAt controls now q a (at.Mark mark.Noting m) d → (c : CallData) → due_at (at.Mark mark.Noting m) d ≡ needs.File c → Fits q.disk c told.answer wrote → IsReadBy q.disk c told
+  noted : StandsAt now q a (at.Mark mark.Noting m) d → (c : CallData) → due_at (at.Mark mark.Noting m) d ≡ needs.File c → Fits q.disk c told.answer wrote → IsReadBy q.disk c told
       → Leads mark.Noting c
   noted h c due fits given =
-      let there = at_mark controls now q a mark.Noting m d h in
+      let there = at_mark now q a mark.Noting m d h in
       let n = h.rests.1 in
-      note_step controls now q a G m d h.rests.0 read wrote there n.of plain d.note.row child c told n.holds due fits given
+      note_step now q a G m d h.rests.0 read wrote there n.of d.note.row child c told n.holds due fits given
 
-  note_begins : StandsAt controls now q a (at.Mark mark.Note m) d → (c : CallData) → due_at (at.Mark mark.Note m) d ≡ needs.File c → Fits q.disk c told.answer wrote → Leads mark.Note c
+  note_begins : StandsAt now q a (at.Mark mark.Note m) d → (c : CallData) → due_at (at.Mark mark.Note m) d ≡ needs.File c → Fits q.disk c told.answer wrote → Leads mark.Note c
   note_begins h c due fits =
-      let there = at_noting controls now q a m d h in
+      let there = at_noting now q a m d h in
       let to = h.rests.1 in
       let same : c ≡ call.Open (path (Of Bounce m.n)) how.Append = sym (file_call (call.Open (path (Of Bounce m.n)) how.Append) c due) in
-      let go = note_opens controls now q a G m d h.rests.0 read wrote there to told.answer told.bytes (subst (λ z. Fits q.disk z told.answer wrote) same fits) in
-      let by_first : Option Mark → Type 0 = λ o. SenderLeads controls now a q (called_queue q a read (call.Open (path (Of Bounce m.n)) how.Append) told.answer wrote q.role)
+      let go = note_opens now q a G m d h.rests.0 read wrote there to told.answer told.bytes (subst (λ z. Fits q.disk z told.answer wrote) same fits) in
+      let by_first : Option Mark → Type 0 = λ o. SenderLeads now a q (called_queue q a read (call.Open (path (Of Bounce m.n)) how.Append) told.answer wrote q.role)
       (turned m (Answered told) (record d { note = note_of o m.n d.book.controls })) in
-      (q.role, subst (λ z. SenderLeads controls now a q (called_queue q a read z told.answer wrote q.role) (act_mark mark.Note m (Answered told) d)) (sym same) (subst by_first (sym to.there) go))
+      (q.role, subst (λ z. SenderLeads now a q (called_queue q a read z told.answer wrote q.role) (act_mark mark.Note m (Answered told) d)) (sym same) (subst by_first (sym to.there) go))
 
-  pub marks : (row : MarkRow) (c : CallData) → StandsAt controls now q a (at.Mark row m) d → due_at (at.Mark row m) d ≡ needs.File c → Fits q.disk c told.answer wrote → IsReadBy q.disk c told
+  pub marks : (row : MarkRow) (c : CallData) → StandsAt now q a (at.Mark row m) d → due_at (at.Mark row m) d ≡ needs.File c → Fits q.disk c told.answer wrote → IsReadBy q.disk c told
       → Leads row c
   marks mark.Note c h due fits given = note_begins h c due fits
   marks mark.Noting c h due fits given = noted h c due fits given
   marks mark.Open c h due fits given =
-      let there = at_mark controls now q a mark.Open m d h in
+      let there = at_mark now q a mark.Open m d h in
       let same : c ≡ call.Open (path (Of (lane_part m.channel) m.n)) how.Write =
       sym (file_call (call.Open (path (name_of (file_of m.channel m.n))) how.Write) c due) ∙ ap (λ t. call.Open t how.Write) (lane_name m.channel m.n) in
-      let go = open_answer controls now q a G m d h.rests.0 read wrote told.answer told.bytes there h.rests.1 (subst (λ z. Fits q.disk z told.answer wrote) same fits) in
-      (q.role, subst (λ z. SenderLeads controls now a q (called_queue q a read z told.answer wrote q.role) (act_mark mark.Open m (Answered told) d)) (sym same) go)
+      let go = open_answer now q a G m d h.rests.0 read wrote told.answer told.bytes there h.rests.1 (subst (λ z. Fits q.disk z told.answer wrote) same fits) in
+      (q.role, subst (λ z. SenderLeads now a q (called_queue q a read z told.answer wrote q.role) (act_mark mark.Open m (Answered told) d)) (sym same) go)
   marks (mark.Write fd) c h due fits given =
-      let there = at_mark controls now q a (mark.Write fd) m d h in
+      let there = at_mark now q a (mark.Write fd) m d h in
       let same : c ≡ call.WriteAt fd m.place dee = sym (file_call (call.WriteAt fd m.place dee) c due) in
-      let go = write_answer controls now q a G m d h.rests.0 read fd there h.rests.1.0 h.rests.1.1 wrote told.answer told.bytes (subst (λ z. Fits q.disk z told.answer wrote) same fits) in
-      (q.role, subst (λ z. SenderLeads controls now a q (called_queue q a read z told.answer wrote q.role) (act_mark (mark.Write fd) m (Answered told) d)) (sym same) go)
+      let go = write_answer now q a G m d h.rests.0 read fd there h.rests.1.0 h.rests.1.1 wrote told.answer told.bytes (subst (λ z. Fits q.disk z told.answer wrote) same fits) in
+      (q.role, subst (λ z. SenderLeads now a q (entered_queue (called_queue q a read z told.answer wrote q.role) m.n (Marks (named_by d.book.controls m.channel m.place))) (act_mark (mark.Write fd) m (Answered told) d)) (sym same) go)
   marks (mark.Close fd written) c h due fits given =
-      let there = at_mark controls now q a (mark.Close fd written) m d h in
+      let there = at_mark now q a (mark.Close fd written) m d h in
       let same : c ≡ call.Close fd = sym (file_call (call.Close fd) c due) in
-      let go = close_answer controls now q a G m d h.rests.0 read wrote fd written told.answer told.bytes there h.rests.1.1.held (subst (λ z. Fits q.disk z told.answer wrote) same fits) in
-      (q.role, subst (λ z. SenderLeads controls now a q (called_queue q a read z told.answer wrote q.role) (act_mark (mark.Close fd written) m (Answered told) d)) (sym same) go)
+      let go = close_answer now q a G m d h.rests.0 read wrote fd written told.answer told.bytes there h.rests.1.1.held (subst (λ z. Fits q.disk z told.answer wrote) same fits) in
+      (q.role, subst (λ z. SenderLeads now a q (called_queue q a read z told.answer wrote q.role) (act_mark (mark.Close fd written) m (Answered told) d)) (sym same) go)

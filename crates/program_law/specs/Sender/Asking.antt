@@ -1,6 +1,5 @@
 -- The text of each request that lies ready: it is for the record of its attempt, with the sender of the message.
 use Rattle.std.specs.Prelude.{◌≡◌, ℕ, ◌≤◌, List, [], ◌∷◌, true, Option, Some}
-use Rattle.address_rules.specs.declared.controls.Controls.{Controls}
 use Rattle.call_fs.specs.declared.past.GotData.{GotData}
 use Rattle.call_fs.specs.declared.past.NeedData.TheVariants as needs
 use Rattle.call_fs.specs.declared.program.Ready.{Ready}
@@ -73,14 +72,14 @@ pub record IsRequestFor (q : Queue) (ch : Channel) (d : Desk) (text : List ℕ) 
 pub record TextsKeep : Type 0 where
   pub begins : (q : Queue) (turns : Option ℕ) → TextsStand q (begun turns)
   -- whatever comes of what is due
-  pub goes_on : (controls : Controls) (now : ℕ) (q : Queue) (a : List ℕ) (d : Desk) (read : ℕ) (ready : Ready) (came : GotData) → read ≤ now → IsMoment read
-      → SenderStands controls now q a d → TextsStand q d → TextsStand q (moved_by (row_now d read ready) read came d)
+  pub goes_on : (now : ℕ) (q : Queue) (a : List ℕ) (d : Desk) (read : ℕ) (ready : Ready) (came : GotData) → read ≤ now → IsMoment read
+      → SenderStands now q a d → TextsStand q d → TextsStand q (moved_by (row_now d read ready) read came d)
   -- a line is entered in a ledger
   pub enters : (q : Queue) (n : ℕ) (line : Line) (d : Desk) → TextsStand q d → TextsStand (entered_queue q n line) d
   -- a step of another actor leaves alone what is preprocessed
-  pub others : (controls : Controls) (now : ℕ) (q r : Queue) (a : List ℕ) (d : Desk) → SparesSorted q r → SenderStands controls now q a d → TextsStand q d → TextsStand r d
+  pub others : (now : ℕ) (q r : Queue) (a : List ℕ) (d : Desk) → SparesSorted q r → SenderStands now q a d → TextsStand q d → TextsStand r d
 
 -- Each giving to a spawner is a request.
 abbrev pub RequestsAreTexts : Type 0
-RequestsAreTexts = (controls : Controls) (now : ℕ) (q : Queue) (a : List ℕ) (d : Desk) (read : ℕ) (ready : Ready) (ch : Channel) (text : List ℕ) → read ≤ now → IsMoment read
-    → SenderStands controls now q a d → TextsStand q d → due_at (row_now d read ready) d ≡ needs.Give (port_of ch) text → IsRequestFor q ch d text
+RequestsAreTexts = (now : ℕ) (q : Queue) (a : List ℕ) (d : Desk) (read : ℕ) (ready : Ready) (ch : Channel) (text : List ℕ) → read ≤ now → IsMoment read
+    → SenderStands now q a d → TextsStand q d → due_at (row_now d read ready) d ≡ needs.Give (port_of ch) text → IsRequestFor q ch d text

@@ -25,7 +25,7 @@ pub record PassGoesOn (controls : Controls) (now : â„•) (q : Queue) (a : List â„
   pub run : IsRun controls p.n past
   pub first : Disk
   pub leads : LeadsTo controls p.n first past q.disk
-  pub stands : PassStands controls now q a p.n p.row
+  pub stands : PassStands now q a p.n p.row
 
 -- What a sender knows of a message whose todo file it gave the cleaner to remove: its sender, and which channel files it has.
 pub record IsExpected (w : About) (k : Known) : Type 0 where

@@ -1,5 +1,6 @@
 -- What holds of the messages that a sender knows, that are due on a channel, that have a job there, or wait for a mark.
 use Rattle.std.specs.Prelude.{◌≡◌, ℕ, Bool, true, false, Option, Some, None}
+use Rattle.address_rules.specs.declared.controls.Controls.{Controls}
 use Rattle.send_parts.specs.declared.row.Row.{Row}
 use Rattle.send_parts.specs.declared.row.Row.TheVariants as at
 use Rattle.call_fs.specs.Disk.{Among}
@@ -13,8 +14,9 @@ use Rattle.send_parts.specs.declared.rows.FinishRow.TheVariants as finish
 use Rattle.queue_paths.specs.Names.Part.{Info}
 use Rattle.queue_paths.specs.Parts.{in_todo}
 use Rattle.queue_law.specs.Books.{Injection}
+use Rattle.queue_law.specs.Entered.{named_by}
 use Rattle.queue_law.specs.Ledgers.{Ledger}
-use Rattle.queue_law.specs.Marks.{IsDelivered, IsDone}
+use Rattle.queue_law.specs.Marks.{IsDelivered, MayBeMarked}
 use Rattle.queue_law.specs.Numbers.{Entry, About}
 use Rattle.queue_law.specs.Routes.{lane_part, sender_of}
 
@@ -78,7 +80,7 @@ pub record IsEntered (w : About) (ch : Channel) (m : Mark) : Type 0 where
   pub lives : w.living ≡ Some injection
   pub reported : IsReported m.note injection.ledger ch m.attempt.place
 
--- it was delivered to, or its note is synced: its record may be marked
-pub record IsDoneIn (w : About) (ch : Channel) (place : ℕ) : Type 0 where
+-- it was delivered to, or its note is synced under the name that it has by these controls: its record may be marked
+pub record IsDoneIn (by : Controls) (w : About) (ch : Channel) (place : ℕ) : Type 0 where
   pub sorted : IsSettledIn w
-  pub done : IsDone sorted.injection.ledger ch place
+  pub done : MayBeMarked sorted.injection.ledger (named_by by ch place)

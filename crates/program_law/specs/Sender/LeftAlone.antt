@@ -1,6 +1,5 @@
 -- What others do, and time, leave a sender all that it relies on.
 use Rattle.std.specs.Prelude.{◌≡◌, ◌≢◌, ℕ, ◌≤◌, List, Option, Some}
-use Rattle.address_rules.specs.declared.controls.Controls.{Controls}
 use Rattle.send_core.specs.declared.desk.Desk.{Desk}
 use Rattle.send_parts.specs.declared.row.Row.{Row}
 use Rattle.send_parts.specs.declared.row.Row.TheVariants as at
@@ -34,7 +33,7 @@ LeavesRow row p k q r = Unit {0}
 
 pub record SendersAreLeftAlone : Type 0 where
   -- a step of another actor that leaves alone what is preprocessed, and the row
-  pub others : (controls : Controls) (now : ℕ) (a o : List ℕ) (m k : Option ℕ) (q r : Queue) (d : Desk) → Elsewhere now o m q r → a ≢ o → SparesSorted q r → Spares now k q r
-      → LeavesRow d.row d.pass k q r → SenderStands controls now q a d → SenderStands controls now r a d
+  pub others : (now : ℕ) (a o : List ℕ) (m k : Option ℕ) (q r : Queue) (d : Desk) → Elsewhere now o m q r → a ≢ o → SparesSorted q r → Spares now k q r
+      → LeavesRow d.row d.pass k q r → SenderStands now q a d → SenderStands now r a d
   -- time
-  pub later : (controls : Controls) (now m : ℕ) → now ≤ m → (q : Queue) (a : List ℕ) (d : Desk) → SenderStands controls now q a d → SenderStands controls m q a d
+  pub later : (now m : ℕ) → now ≤ m → (q : Queue) (a : List ℕ) (d : Desk) → SenderStands now q a d → SenderStands m q a d

@@ -1,6 +1,5 @@
 -- A pass that opens: the reading of its channel file, and what it comes to.
 use Rattle.std.specs.Prelude.{◌≡◌, ℕ, List}
-use Rattle.address_rules.specs.declared.controls.Controls.{Controls}
 use Rattle.call_fs.specs.declared.calls.CallData.{CallData}
 use Rattle.call_fs.specs.declared.calls.Told.{Told}
 use Rattle.call_fs.specs.declared.past.GotData.TheVariants.{Answered}
@@ -17,7 +16,7 @@ use Rattle.program_law.specs.Sender.Stands.{SenderLeads, StandsAt}
 
 -- Whatever is answered to a call of it that is due: it goes on, the pass begins over the records that the file has then, or it is put off.
 abbrev pub PassesOpen : Type 0
-PassesOpen = (controls : Controls) (now : ℕ) (q : Queue) (a : List ℕ) (c : Channel) (n begun : ℕ) (g : Reading) (d : Desk) (read : ℕ) (call : CallData) (told : Told) (wrote : ℕ)
-    → Sound controls q → StandsAt controls now q a (at.ReadFile c n begun g) d → due_at (at.ReadFile c n begun g) d ≡ needs.File call
+PassesOpen = (now : ℕ) (q : Queue) (a : List ℕ) (c : Channel) (n begun : ℕ) (g : Reading) (d : Desk) (read : ℕ) (call : CallData) (told : Told) (wrote : ℕ)
+    → Sound q → StandsAt now q a (at.ReadFile c n begun g) d → due_at (at.ReadFile c n begun g) d ≡ needs.File call
     → Fits q.disk call told.answer wrote → IsReadBy q.disk call told
-    → SenderLeads controls now a q (called_queue q a read call told.answer wrote q.role) (act (at.ReadFile c n begun g) read (Answered told) d)
+    → SenderLeads now a q (called_queue q a read call told.answer wrote q.role) (act (at.ReadFile c n begun g) read (Answered told) d)

@@ -1,7 +1,5 @@
 -- The requests of a pass, and the unlink of a channel file once its job is over.
 use Rattle.std.specs.Prelude.{◌≡◌, ℕ, List, Some}
-use Rattle.address_rules.specs.declared.controls.Controls.{Controls}
-use Rattle.address_rules.specs.Nuls.{HaveNoNul}
 use Rattle.call_fs.specs.declared.calls.CallData.{CallData}
 use Rattle.call_fs.specs.declared.calls.Told.{Told}
 use Rattle.call_fs.specs.declared.past.GotData.{GotData}
@@ -32,17 +30,17 @@ pub record IsAsked (q : Queue) (c : Channel) (d : Desk) : Type 0 where
   pub alone : IsAlone attempt (lane c d.slots)
 
 -- whatever comes of the giving
-pub record RequestLeads (controls : Controls) (now : ℕ) (q : Queue) (a : List ℕ) (c : Channel) (d : Desk) (read : ℕ) (came : GotData) : Type 0 where
+pub record RequestLeads (now : ℕ) (q : Queue) (a : List ℕ) (c : Channel) (d : Desk) (read : ℕ) (came : GotData) : Type 0 where
   pub asked : IsAsked q c d
-  pub stands : SenderStands controls now q a (act (at.Request c) read came d)
+  pub stands : SenderStands now q a (act (at.Request c) read came d)
 
 abbrev pub RequestsKeep : Type 0
-RequestsKeep = (controls : Controls) (now : ℕ) (q : Queue) (a : List ℕ) (c : Channel) (d : Desk) (read : ℕ) (came : GotData)
-    → StandsAt controls now q a (at.Request c) d → RequestLeads controls now q a c d read came
+RequestsKeep = (now : ℕ) (q : Queue) (a : List ℕ) (c : Channel) (d : Desk) (read : ℕ) (came : GotData)
+    → StandsAt now q a (at.Request c) d → RequestLeads now q a c d read came
 
 -- whatever is answered to the unlink
 abbrev pub FilesGo : Type 0
-FilesGo = (controls : Controls) (now : ℕ) (q : Queue) (a : List ℕ) (c : Channel) (n : ℕ) (p : Point) (d : Desk) (read : ℕ) (call : CallData) (told : Told) (wrote : ℕ)
-    → HaveNoNul controls → Sound controls q → StandsAt controls now q a (at.UnlinkFile c n p) d → due_at (at.UnlinkFile c n p) d ≡ needs.File call
+FilesGo = (now : ℕ) (q : Queue) (a : List ℕ) (c : Channel) (n : ℕ) (p : Point) (d : Desk) (read : ℕ) (call : CallData) (told : Told) (wrote : ℕ)
+    → Sound q → StandsAt now q a (at.UnlinkFile c n p) d → due_at (at.UnlinkFile c n p) d ≡ needs.File call
     → Fits q.disk call told.answer wrote
-    → SenderLeads controls now a q (called_queue q a read call told.answer wrote q.role) (act (at.UnlinkFile c n p) read (Answered told) d)
+    → SenderLeads now a q (called_queue q a read call told.answer wrote q.role) (act (at.UnlinkFile c n p) read (Answered told) d)

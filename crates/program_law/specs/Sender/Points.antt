@@ -29,7 +29,7 @@ use Rattle.send_parts.specs.Steps.{due_by}
 use Rattle.send_parts.specs.Sweep.{sweep_to}
 use Rattle.send_parts.specs.declared.row.Row.{Row}
 use Rattle.send_parts.specs.declared.row.Row.TheVariants as at
-use Rattle.queue_law.specs.Books.{Child}
+use Rattle.queue_law.specs.Entered.{Child}
 use Rattle.queue_law.specs.Numbers.{Queue, about, Sound}
 use Rattle.queue_law.specs.Rests.{IsClosed, Spares}
 use Rattle.queue_law.specs.Senders.{LeadsOn, called_queue}
@@ -61,67 +61,67 @@ pub record FinishLeads (controls : Controls) (now : ℕ) (a : List ℕ) (q r : Q
   pub number : Option ℕ
   pub only : (number ≡ None) ⊎ (number ≡ Some n)
   pub closed : (m : ℕ) → number ≡ Some m → IsClosed now q m
-  pub leads : LeadsOn controls now a number q r
+  pub leads : LeadsOn now a number q r
   pub stands : FinishStands controls now r a next n known back
   pub knows : KnowsEach r (at.Finish next n) known
 
 -- The calls of a finish: the open of the bounce file, with which its return begins, each call of that, and the unlink of the info file.
 -- A close of the bounce file, read to its end, enters what was read.
 pub record FinishesLead : Type 0 where
-  pub opens : (controls : Controls) (now : ℕ) (q : Queue) (a : List ℕ) (n : ℕ) (b : Book) (read : ℕ) (call : CallData) (told : Told) (wrote : ℕ)
-      → Sound controls q → KnowsEach q (at.Finish finish.OpenBounce n) b.messages.known → IsIdle n b.messages.known → b.controls ≡ controls
+  pub opens : (now : ℕ) (q : Queue) (a : List ℕ) (n : ℕ) (b : Book) (read : ℕ) (call : CallData) (told : Told) (wrote : ℕ)
+      → Sound q → KnowsEach q (at.Finish finish.OpenBounce n) b.messages.known → IsIdle n b.messages.known
       → due_by (finish_step finish.OpenBounce n) [] ≡ needs.File call → Fits q.disk call told.answer wrote
       → let r = bounce_on n read (came.Answered told) (return_begun n) b in
-      FinishLeads controls now a q (called_queue q a read call told.answer wrote q.role) n (returned_to r.row) b.messages.known r
-  pub returns : (controls : Controls) (now : ℕ) (q : Queue) (a : List ℕ) (child : Option Child) (n : ℕ) (b : Book) (back : Returning) (read : ℕ) (call : CallData) (told : Told)
-      (wrote : ℕ) → Sound controls q → KnowsEach q (at.Finish finish.Return n) b.messages.known → ReturnStands controls q a n b.messages.known back → b.controls ≡ controls
+      FinishLeads b.controls now a q (called_queue q a read call told.answer wrote q.role) n (returned_to r.row) b.messages.known r
+  pub returns : (now : ℕ) (q : Queue) (a : List ℕ) (child : Option Child) (n : ℕ) (b : Book) (back : Returning) (read : ℕ) (call : CallData) (told : Told)
+      (wrote : ℕ) → Sound q → KnowsEach q (at.Finish finish.Return n) b.messages.known → ReturnStands b.controls q a n b.messages.known back
       → return_due back ≡ needs.File call → Fits q.disk call told.answer wrote → IsReadBy q.disk call told
       → let r = bounce_on n read (came.Answered told) back b in
-      FinishLeads controls now a q
-      (booked_queue child (returned_at back.row n back.notes (came.Answered told)) (called_queue q a read call told.answer wrote q.role)) n (returned_to r.row) b.messages.known r
+      FinishLeads b.controls now a q
+      (booked_queue child b.controls (returned_at back.row n back.notes (came.Answered told)) (called_queue q a read call told.answer wrote q.role)) n (returned_to r.row) b.messages.known r
   pub ends : (controls : Controls) (now : ℕ) (q : Queue) (a : List ℕ) (n : ℕ) (known : List Known) (back : Returning) (read : ℕ) (call : CallData) (told : Told) (wrote : ℕ)
-      → Sound controls q → KnowsEach q (at.Finish finish.UnlinkInfo n) known → FinishStands controls now q a finish.UnlinkInfo n known back
+      → Sound q → KnowsEach q (at.Finish finish.UnlinkInfo n) known → FinishStands controls now q a finish.UnlinkInfo n known back
       → due_by (finish_step finish.UnlinkInfo n) [] ≡ needs.File call → Fits q.disk call told.answer wrote
       → FinishLeads controls now a q (called_queue q a read call told.answer wrote q.role) n (finish_to finish.UnlinkInfo (said (came.Answered told)).way) known back
 
 -- what the taking of the status leads to
 pub record ReturnTakes (controls : Controls) (now : ℕ) (a : List ℕ) (q r : Queue) (n : ℕ) (next : FinishRow) (known : List Known) (back : Returning) : Type 0 where
   pub closed : IsClosed now q n
-  pub leads : LeadsOn controls now a (Some n) q r
+  pub leads : LeadsOn now a (Some n) q r
   pub stands : FinishStands controls now r a next n known back
   pub knows : KnowsEach r (at.Finish next n) known
 
 -- What of a return is no call: the start of the bounce's injector, the giving of the bounce to it, and the taking of its status, which enters
 -- the bounce if it is 0.
 pub record ReturnsGoOn : Type 0 where
-  pub steps : (controls : Controls) (now : ℕ) (q : Queue) (a : List ℕ) (n : ℕ) (b : Book) (back : Returning) (read : ℕ) (got : GotData)
-      → KnowsEach q (at.Finish finish.Return n) b.messages.known → ReturnStands controls q a n b.messages.known back → IsBeforeStatus back.row
-      → let r = bounce_on n read got back b in FinishStands controls now q a (returned_to r.row) n b.messages.known r
-  pub takes : (controls : Controls) (now : ℕ) (q : Queue) (a : List ℕ) (child : Option Child) (n pid : ℕ) (b : Book) (back : Returning) (read : ℕ) (got : GotData)
-      → Sound controls q → KnowsEach q (at.Finish finish.Return n) b.messages.known → ReturnStands controls q a n b.messages.known back → b.controls ≡ controls
+  pub steps : (now : ℕ) (q : Queue) (a : List ℕ) (n : ℕ) (b : Book) (back : Returning) (read : ℕ) (got : GotData)
+      → KnowsEach q (at.Finish finish.Return n) b.messages.known → ReturnStands b.controls q a n b.messages.known back → IsBeforeStatus back.row
+      → let r = bounce_on n read got back b in FinishStands b.controls now q a (returned_to r.row) n b.messages.known r
+  pub takes : (now : ℕ) (q : Queue) (a : List ℕ) (child : Option Child) (n pid : ℕ) (b : Book) (back : Returning) (read : ℕ) (got : GotData)
+      → Sound q → KnowsEach q (at.Finish finish.Return n) b.messages.known → ReturnStands b.controls q a n b.messages.known back
       → back.row ≡ rows.Await pid → HasChild (returned_at back.row n back.notes got) child
       → let r = bounce_on n read got back b in
-      ReturnTakes controls now a q (booked_queue child (returned_at back.row n back.notes got) q) n (returned_to r.row) b.messages.known r
+      ReturnTakes b.controls now a q (booked_queue child b.controls (returned_at back.row n back.notes got) q) n (returned_to r.row) b.messages.known r
 
 -- What a call at a row of the sweep leads to: nothing that concerns a number changes. A message file that is old at the moment of its
 -- stat is one that no injector touches, and the row that is next may count on that.
-pub record SweepLeads (controls : Controls) (now : ℕ) (a : List ℕ) (q r : Queue) (next : SweepRow) (known : List Known) : Type 0 where
-  pub leads : LeadsOn controls now a None q r
+pub record SweepLeads (now : ℕ) (a : List ℕ) (q r : Queue) (next : SweepRow) (known : List Known) : Type 0 where
+  pub leads : LeadsOn now a None q r
   pub stands : SweepStands now r a next known
 
 abbrev pub SweepsLead : Type 0
-SweepsLead = (controls : Controls) (now : ℕ) (q : Queue) (a : List ℕ) (row : SweepRow) (b : Book) (words : List ℕ) (read : ℕ) (call : CallData) (told : Told)
-    (wrote : ℕ) → Sound controls q → SweepStands now q a row b.messages.known → read ≤ now
+SweepsLead = (now : ℕ) (q : Queue) (a : List ℕ) (row : SweepRow) (b : Book) (words : List ℕ) (read : ℕ) (call : CallData) (told : Told)
+    (wrote : ℕ) → Sound q → SweepStands now q a row b.messages.known → read ≤ now
     → due_by (sweep_step row) words ≡ needs.File call → Fits q.disk call told.answer wrote
-    → SweepLeads controls now a q (called_queue q a read call told.answer wrote q.role) (sweep_to row read (said (came.Answered told)) b) b.messages.known
+    → SweepLeads now a q (called_queue q a read call told.answer wrote q.role) (sweep_to row read (said (came.Answered told)) b) b.messages.known
 
 -- The steps of both that aren't calls, and what comes after them
 pub record ChoresStand : Type 0 where
   -- what is given rests
   pub finish_gives : (controls : Controls) (now : ℕ) (q : Queue) (a : List ℕ) (n : ℕ) (known : List Known) (back : Returning) → FinishStands controls now q a finish.Give n known back
-      → RestsFor controls now q (Foop n)
-  pub sweep_gives : (controls : Controls) (now : ℕ) (q : Queue) (a : List ℕ) (split n : ℕ) (known : List Known) → SweepStands now q a (sweep.Give split n) known
-      → RestsFor controls now q (Foop n)
+      → RestsFor now q (Foop n)
+  pub sweep_gives : (now : ℕ) (q : Queue) (a : List ℕ) (split n : ℕ) (known : List Known) → SweepStands now q a (sweep.Give split n) known
+      → RestsFor now q (Foop n)
   -- once a message is forgotten, what is known of the others stays
   pub forgets : (q : Queue) (row : Row) (rest : Row) (n : ℕ) (known : List Known) → row ≡ at.Finish finish.Take n → KnowsEach q row known
       → KnowsEach q rest (forgotten n known)

@@ -1,6 +1,5 @@
 -- A reading of the file of a part that preprocessing made.
 use Rattle.std.specs.Prelude.{◌≡◌, ℕ, List, [], ◌++◌, length, None}
-use Rattle.address_rules.specs.declared.controls.Controls.{Controls}
 use Rattle.call_fs.specs.declared.calls.CallData.{CallData}
 use Rattle.call_fs.specs.declared.calls.How.TheVariants as how
 use Rattle.call_fs.specs.declared.calls.Told.{Told}
@@ -29,14 +28,14 @@ ReadsOn q a part n Whole before now_read = HasText q part n before
 ReadsOn q a part n Missing before now_read = Unit {0}
 ReadsOn q a part n Failed before now_read = Unit {0}
 
-pub record ReadingLeads (controls : Controls) (now : ℕ) (a : List ℕ) (q r : Queue) (part : Part) (n : ℕ) (next : Progress) (before now_read : List ℕ) : Type 0 where
-  pub leads : LeadsOn controls now a None q r
+pub record ReadingLeads (now : ℕ) (a : List ℕ) (q r : Queue) (part : Part) (n : ℕ) (next : Progress) (before now_read : List ℕ) : Type 0 where
+  pub leads : LeadsOn now a None q r
   pub reads : ReadsOn r a part n next before now_read
 
 -- whatever is answered to a call of it that is due
 abbrev pub ReadingsKeep : Type 0
-ReadingsKeep = (controls : Controls) (now : ℕ) (q : Queue) (a : List ℕ) (part : Part) (n : ℕ) (name : Name) (g : Reading) (before : List ℕ) (read : ℕ) (call : CallData) (told : Told)
-    (wrote : ℕ) → Sound controls q → name_of name ≡ Of part n → Reads q a part n g before
+ReadingsKeep = (now : ℕ) (q : Queue) (a : List ℕ) (part : Part) (n : ℕ) (name : Name) (g : Reading) (before : List ℕ) (read : ℕ) (call : CallData) (told : Told)
+    (wrote : ℕ) → Sound q → name_of name ≡ Of part n → Reads q a part n g before
     → due_by (reading_step g (step.Open name how.Read) (length before)) [] ≡ needs.File call → Fits q.disk call told.answer wrote → IsReadBy q.disk call told
-    → ReadingLeads controls now a q (called_queue q a read call told.answer wrote q.role) part n (read_on g (said (Answered told))) before
+    → ReadingLeads now a q (called_queue q a read call told.answer wrote q.role) part n (read_on g (said (Answered told))) before
     (kept g before ++ (said (Answered told)).bytes)

@@ -49,7 +49,8 @@ use Rattle.send_parts.specs.declared.rows.StartRow.TheVariants as start
 use Rattle.send_parts.specs.declared.rows.SweepRow.{SweepRow}
 use Rattle.send_parts.specs.declared.rows.SweepRow.TheVariants as sweep
 use Rattle.todo_pass.specs.Table.{Pass}
-use Rattle.queue_law.specs.Books.{Injection, notes_read}
+use Rattle.queue_law.specs.Books.{Injection}
+use Rattle.queue_law.specs.Entered.{notes_read}
 use Rattle.queue_law.specs.Bouncing.{HoldsBounce, MayDiscard, MayUnlink}
 use Rattle.queue_law.specs.Injectors.{IsHeld}
 use Rattle.queue_law.specs.Notes.{Covers}
@@ -163,22 +164,22 @@ abbrev pub noted_name : Controls → Mark → List ℕ
 noted_name controls m = stripped controls.virtual_domains m.attempt.address
 
 -- these bytes name each recipient of the message that is noted
-pub record NamesNoted (controls : Controls) (w : About) (bytes : List ℕ) : Type 0 where
+pub record NamesNoted (w : About) (bytes : List ℕ) : Type 0 where
   pub sorted : IsSettledIn w
-  pub covers : Covers controls sorted.injection bytes
+  pub covers : Covers sorted.injection bytes
 
 -- The bounce file has what it had, which names each that is noted, and a part of the note; what is left of the text makes that whole.
-pub record HasPart (controls : Controls) (q : Queue) (a : List ℕ) (n fd done : ℕ) (name report text : List ℕ) : Type 0 where
+pub record HasPart (q : Queue) (a : List ℕ) (n fd done : ℕ) (name report text : List ℕ) : Type 0 where
   pub held : HoldsBounce q a n fd
   pub base : List ℕ
-  pub names : NamesNoted controls (about q n) base
+  pub names : NamesNoted (about q n) base
   pub rest : held.file.file.bytes ++ drop done text ≡ with_note base name report
 
 -- so it is, and the note is whole
-pub record HasNote (controls : Controls) (q : Queue) (a : List ℕ) (n fd : ℕ) (name report : List ℕ) : Type 0 where
+pub record HasNote (q : Queue) (a : List ℕ) (n fd : ℕ) (name report : List ℕ) : Type 0 where
   pub held : HoldsBounce q a n fd
   pub base : List ℕ
-  pub names : NamesNoted controls (about q n) base
+  pub names : NamesNoted (about q n) base
   pub bytes : held.file.file.bytes ≡ with_note base name report
 
 -- the last two bytes of it are read, or the one that it has
@@ -192,9 +193,9 @@ abbrev pub NoteHolds : Controls → Queue → List ℕ → NoteRow → Marked �
 NoteHolds controls q a written.Create m name report text = Unit {0}
 NoteHolds controls q a (written.Stat fd) m name report text = HoldsBounce q a m.n fd.0
 NoteHolds controls q a (written.Read fd place len) m name report text = HasTail q a m.n fd.0 place len
-NoteHolds controls q a (written.Append fd done) m name report text = HasPart controls q a m.n fd.0 done name report text
-NoteHolds controls q a (written.Sync fd) m name report text = HasNote controls q a m.n fd.0 name report
-NoteHolds controls q a (written.Close fd) m name report text = HasOpen q a fd.0 × IsDoneIn (about q m.n) m.channel m.place
+NoteHolds controls q a (written.Append fd done) m name report text = HasPart q a m.n fd.0 done name report text
+NoteHolds controls q a (written.Sync fd) m name report text = HasNote q a m.n fd.0 name report
+NoteHolds controls q a (written.Close fd) m name report text = HasOpen q a fd.0 × IsDoneIn controls (about q m.n) m.channel m.place
 NoteHolds controls q a (written.Shut fd) m name report text = HasOpen q a fd.0
 NoteHolds controls q a row m name report text = ⊥
 
@@ -214,8 +215,8 @@ pub record IsToNote (m : Marked) (s : Slots) : Type 0 where
 abbrev pub MarkHolds : Controls → Queue → List ℕ → MarkRow → Marked → Slots → Writing → Type 0
 MarkHolds controls q a mark.Note m s w = IsToNote m s
 MarkHolds controls q a mark.Noting m s w = NoteStands controls q a m s w
-MarkHolds controls q a mark.Open m s w = IsDoneIn (about q m.n) m.channel m.place
-MarkHolds controls q a (mark.Write fd) m s w = HasFile q a (lane_part m.channel) m.n how.Write fd.0 × IsDoneIn (about q m.n) m.channel m.place
+MarkHolds controls q a mark.Open m s w = IsDoneIn controls (about q m.n) m.channel m.place
+MarkHolds controls q a (mark.Write fd) m s w = HasFile q a (lane_part m.channel) m.n how.Write fd.0 × IsDoneIn controls (about q m.n) m.channel m.place
 MarkHolds controls q a (mark.Close fd written) m s w = HasOpen q a fd.0
 
 -- the job of the message is over, and left no place `T`
@@ -235,15 +236,15 @@ pub record IsIdle (n : ℕ) (known : List Known) : Type 0 where
 
 -- Returns
 
--- what was read last of its bounce file is all of that as it is now
-pub record HasNotesRead (w : About) (notes : List ℕ) : Type 0 where
+-- what was read last of its bounce file, by a sender with these controls, is all of that as it is now
+pub record HasNotesRead (by : Controls) (w : About) (notes : List ℕ) : Type 0 where
   pub file : Entry
   pub there : w.parts Bounce ≡ Some file
   pub reads : notes ≡ file.file.bytes
   pub injection : Injection
   pub lives : w.living ≡ Some injection
-  pub last : notes_read (Some injection) ≡ notes
-  pub read : Among notes injection.ledger.reads
+  pub last : notes_read (Some injection) ≡ record { notes = notes; by = by }
+  pub read : Among (record { notes = notes; by = by }) injection.ledger.reads
 
 -- the message file reads so
 pub record HasMessage (w : About) (message : List ℕ) : Type 0 where
@@ -254,7 +255,7 @@ pub record HasMessage (w : About) (message : List ℕ) : Type 0 where
 -- The input is that of the bounce that comes at some moment of the bounce file and the message file, as they are now.
 pub record HasMade (controls : Controls) (w : About) (sender input : List ℕ) : Type 0 where
   pub notes : List ℕ
-  pub read : HasNotesRead w notes
+  pub read : HasNotesRead controls w notes
   pub message : List ℕ
   pub held : HasMessage w message
   pub moment : ℕ
@@ -265,10 +266,10 @@ pub record HasMade (controls : Controls) (w : About) (sender input : List ℕ) :
 -- what the return of a message rests on, by what is kept of its two files
 abbrev pub ReturnHolds : Controls → Queue → List ℕ → ReturnRow → Returning → ℕ → (sender : List ℕ) → Type 0
 ReturnHolds controls q a (back.ReadNotes fd) r n sender = IsReadIn q a Bounce n fd.0 r.notes × (r.message ≡ [])
-ReturnHolds controls q a (back.CloseNotes fd) r n sender = HasOpen q a fd.0 × (HasText q Bounce n r.notes × (r.message ≡ []))
-ReturnHolds controls q a back.OpenMessage r n sender = HasNotesRead (about q n) r.notes × (r.message ≡ [])
-ReturnHolds controls q a (back.ReadMessage fd) r n sender = HasNotesRead (about q n) r.notes × IsReadIn q a Mess n fd.0 r.message
-ReturnHolds controls q a (back.CloseMessage fd) r n sender = HasNotesRead (about q n) r.notes × (HasOpen q a fd.0 × HasText q Mess n r.message)
+ReturnHolds controls q a (back.CloseNotes fd) r n sender = HasFile q a Bounce n how.Read fd.0 × (HasText q Bounce n r.notes × (r.message ≡ []))
+ReturnHolds controls q a back.OpenMessage r n sender = HasNotesRead controls (about q n) r.notes × (r.message ≡ [])
+ReturnHolds controls q a (back.ReadMessage fd) r n sender = HasNotesRead controls (about q n) r.notes × IsReadIn q a Mess n fd.0 r.message
+ReturnHolds controls q a (back.CloseMessage fd) r n sender = HasNotesRead controls (about q n) r.notes × (HasOpen q a fd.0 × HasText q Mess n r.message)
 ReturnHolds controls q a (back.Shut fd) r n sender = HasOpen q a fd.0
 ReturnHolds controls q a back.Start r n sender = HasMade controls (about q n) sender r.input
 ReturnHolds controls q a (back.Give pid) r n sender = HasMade controls (about q n) sender r.input
@@ -319,17 +320,17 @@ pub record Works : Type 0 where
 abbrev pub works : Desk → Works
 works d = record { pass = d.pass; note = d.note; bounce = d.bounce }
 
-abbrev pub RowStands : Controls → ℕ → Queue → List ℕ → Row → Book → Slots → Works → Type 0
-RowStands controls now q a (at.Start row) b s p = HasNoMarks s × (HasNoJobs s × StartStands q a row b.read)
-RowStands controls now q a (at.Turn point) b s p = PointStands point s
-RowStands controls now q a (at.TakeLink ch) b s p = Unit {0}
-RowStands controls now q a (at.Mark row m) b s p = IsFirstMark m s × MarkHolds controls q a row m s p.note
-RowStands controls now q a (at.UnlinkFile ch n point) b s p = IsAllDone ch n s × PointStands point s
-RowStands controls now q a (at.ReadFile ch n begun reading) b s p =
+abbrev pub RowStands : ℕ → Queue → List ℕ → Row → Book → Slots → Works → Type 0
+RowStands now q a (at.Start row) b s p = HasNoMarks s × (HasNoJobs s × StartStands q a row b.read)
+RowStands now q a (at.Turn point) b s p = PointStands point s
+RowStands now q a (at.TakeLink ch) b s p = Unit {0}
+RowStands now q a (at.Mark row m) b s p = IsFirstMark m s × MarkHolds b.controls q a row m s p.note
+RowStands now q a (at.UnlinkFile ch n point) b s p = IsAllDone ch n s × PointStands point s
+RowStands now q a (at.ReadFile ch n begun reading) b s p =
     HasNoMarks s × (HasNoJob ch n s × (Serves (about q n) ch × Reads q a (lane_part ch) n reading b.read))
-RowStands controls now q a (at.Request ch) b s p = HasNoMarks s × (IsSome (next (lane ch s)) × IsSome (lowest (lane ch s).slots))
-RowStands controls now q a (at.FindTodo search) b s p = HasNoMarks s
-RowStands controls now q a at.InTodo b s p = HasNoMarks s × (((ch : Channel) → HasNoJob ch p.pass.n s) × TodoStands controls now q a p.pass.row p.pass)
-RowStands controls now q a (at.Finish row n) b s p = HasNoMarks s × FinishStands controls now q a row n b.messages.known p.bounce
-RowStands controls now q a (at.Sweep row) b s p = HasNoMarks s × SweepStands now q a row b.messages.known
-RowStands controls now q a (at.Ended status) b s p = Unit {0}
+RowStands now q a (at.Request ch) b s p = HasNoMarks s × (IsSome (next (lane ch s)) × IsSome (lowest (lane ch s).slots))
+RowStands now q a (at.FindTodo search) b s p = HasNoMarks s
+RowStands now q a at.InTodo b s p = HasNoMarks s × (((ch : Channel) → HasNoJob ch p.pass.n s) × TodoStands b.controls now q a p.pass.row p.pass)
+RowStands now q a (at.Finish row n) b s p = HasNoMarks s × FinishStands b.controls now q a row n b.messages.known p.bounce
+RowStands now q a (at.Sweep row) b s p = HasNoMarks s × SweepStands now q a row b.messages.known
+RowStands now q a (at.Ended status) b s p = Unit {0}

@@ -1,6 +1,5 @@
 -- The scan of the info files at a sender's start (qmail-send(8)): each number that has one and no todo file is known from then on.
 use Rattle.std.specs.Prelude.{◌≡◌, ℕ, List}
-use Rattle.address_rules.specs.declared.controls.Controls.{Controls}
 use Rattle.call_fs.specs.declared.calls.CallData.{CallData}
 use Rattle.call_fs.specs.declared.calls.Told.{Told}
 use Rattle.call_fs.specs.declared.past.GotData.TheVariants.{Answered}
@@ -27,7 +26,7 @@ IsScan row = ⊥
 
 -- whatever is answered to a call of it that is due
 abbrev pub ScansKeep : Type 0
-ScansKeep = (controls : Controls) (now : ℕ) (q : Queue) (a : List ℕ) (row : StartRow) (d : Desk) (read : ℕ) (call : CallData) (told : Told) (wrote : ℕ)
-    → IsScan row → Sound controls q → StandsAt controls now q a (at.Start row) d → due_at (at.Start row) d ≡ needs.File call
+ScansKeep = (now : ℕ) (q : Queue) (a : List ℕ) (row : StartRow) (d : Desk) (read : ℕ) (call : CallData) (told : Told) (wrote : ℕ)
+    → IsScan row → Sound q → StandsAt now q a (at.Start row) d → due_at (at.Start row) d ≡ needs.File call
     → Fits q.disk call told.answer wrote → IsReadBy q.disk call told
-    → SenderLeads controls now a q (called_queue q a read call told.answer wrote q.role) (act (at.Start row) read (Answered told) d)
+    → SenderLeads now a q (called_queue q a read call told.answer wrote q.role) (act (at.Start row) read (Answered told) d)

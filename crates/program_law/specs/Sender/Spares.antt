@@ -1,6 +1,5 @@
 -- What steps of others spare, as a sender relies on it: that a number is taken up, and all that concerns a preprocessed one.
 use Rattle.std.specs.Prelude.{◌≡◌, ℕ, ◌≤◌, List, None}
-use Rattle.address_rules.specs.declared.controls.Controls.{Controls}
 use Rattle.call_fs.specs.declared.calls.CallData.{CallData}
 use Rattle.call_fs.specs.declared.calls.Told.{Told}
 use Rattle.call_fs.specs.declared.program.Ready.{Ready as Found}
@@ -17,13 +16,13 @@ use Rattle.program_law.specs.Sender.Stands.{SparesSorted}
 
 pub record OthersSpare : Type 0 where
   -- a call of an injector
-  pub injectors : (controls : Controls) (now : ℕ) (q : Queue) (a : List ℕ) (args : Arguments) (past : List Own) (read : ℕ) (ready : Found) (call : CallData) (told : Told) (wrote : ℕ)
-      → (c : InjectorCalls controls now q a args past read ready call told wrote) → SparesSorted q (queue_after q a args read call told.answer wrote c.role)
+  pub injectors : (now : ℕ) (q : Queue) (a : List ℕ) (args : Arguments) (past : List Own) (read : ℕ) (ready : Found) (call : CallData) (told : Told) (wrote : ℕ)
+      → (c : InjectorCalls now q a args past read ready call told wrote) → SparesSorted q (queue_after q a args read call told.answer wrote c.role)
   -- a step of a program that is none of the queue's
   pub foreigners : (a : List ℕ) (q r : Queue) → Foreign a q r → SparesSorted q r
   -- a step that concerns no number
   pub reads : (now : ℕ) (a : List ℕ) (q r : Queue) → Elsewhere now a None q r → SparesSorted q r
   -- a call of a cleaner whose number rests as its command needs
-  pub cleaners : (controls : Controls) (now : ℕ) (q : Queue) (a : List ℕ) (past : List Own) (read : ℕ) (ready : Found) (call : CallData) (told : Told) (wrote : ℕ)
-      → Sound controls q → CleanerStands controls now q (place_after past) → read ≤ now → CleansNext tt past read ready ≡ needs.File call → Fits q.disk call told.answer wrote
+  pub cleaners : (now : ℕ) (q : Queue) (a : List ℕ) (past : List Own) (read : ℕ) (ready : Found) (call : CallData) (told : Told) (wrote : ℕ)
+      → Sound q → CleanerStands now q (place_after past) → read ≤ now → CleansNext tt past read ready ≡ needs.File call → Fits q.disk call told.answer wrote
       → SparesSorted q (called_queue q a read call told.answer wrote q.role)

@@ -1,6 +1,6 @@
 -- What a living sender relies on, over the queue: by its row, and by what it knows and keeps.
 use Rattle.std.specs.Prelude.{◌≡◌, ℕ, List, Option, Some, None, All, IsSome}
-use Rattle.address_rules.specs.declared.controls.Controls.{Controls}
+use Rattle.address_rules.specs.Nuls.{HaveNoNul}
 use Rattle.program_law.specs.Channel.Tied.{IsTied, waiting}
 use Rattle.queue_paths.specs.Names.Name.{Of}
 use Rattle.queue_paths.specs.Names.Part.{Info}
@@ -49,28 +49,28 @@ HasControls (at.Ended status) = ⊥
 HasControls row = Unit {0}
 
 -- At this row, with this book and these slots, and with what stands at work beside them.
-pub record Stands (controls : Controls) (now : ℕ) (q : Queue) (a : List ℕ) (row : Row) (b : Book) (s : Slots) (p : Works) : Type 0 where
+pub record Stands (now : ℕ) (q : Queue) (a : List ℕ) (row : Row) (b : Book) (s : Slots) (p : Works) : Type 0 where
   pub knows : KnowsAll q row b.messages
   pub lanes : (ch : Channel) → LaneStands q row ch s
   pub apart : DueApart b.messages s
-  pub controls_are : HasControls row → b.controls ≡ controls
-  pub rests : RowStands controls now q a row b s p
+  pub no_nul : HasControls row → HaveNoNul b.controls
+  pub rests : RowStands now q a row b s p
 
 -- so it is of a sender with this desk
-abbrev pub SenderStands : Controls → ℕ → Queue → List ℕ → Desk → Type 0
-SenderStands controls now q a d = Stands controls now q a d.row d.book d.slots (works d)
+abbrev pub SenderStands : ℕ → Queue → List ℕ → Desk → Type 0
+SenderStands now q a d = Stands now q a d.row d.book d.slots (works d)
 
 -- at this row, to which it has come
-abbrev pub StandsAt : Controls → ℕ → Queue → List ℕ → Row → Desk → Type 0
-StandsAt controls now q a row d = Stands controls now q a row d.book d.slots (works d)
+abbrev pub StandsAt : ℕ → Queue → List ℕ → Row → Desk → Type 0
+StandsAt now q a row d = Stands now q a row d.book d.slots (works d)
 
 -- What an event of a sender leads to: what holds of the queue holds then too, of all but one number nothing changed, which is one that no
 -- injector touches, and the sender has what it relies on.
-pub record SenderLeads (controls : Controls) (now : ℕ) (a : List ℕ) (q r : Queue) (next : Desk) : Type 0 where
+pub record SenderLeads (now : ℕ) (a : List ℕ) (q r : Queue) (next : Desk) : Type 0 where
   pub number : Option ℕ
   pub closed : (n : ℕ) → number ≡ Some n → IsClosed now q n
-  pub leads : LeadsOn controls now a number q r
-  pub stands : SenderStands controls now r a next
+  pub leads : LeadsOn now a number q r
+  pub stands : SenderStands now r a next
 
 -- What a step of another actor leaves to a sender: that a number is taken up, and all that concerns a preprocessed one.
 pub record SparesSorted (q r : Queue) : Type 0 where

@@ -2,7 +2,6 @@
 use Rattle.std.specs.Prelude.{◌≡◌, ℕ, List}
 use Rattle.call_fs.specs.Disk.{Disk}
 use Rattle.mem_fs.specs.MemDisk.{disk_of}
-use Rattle.script_disks.specs.Controls.{controls_on}
 use Rattle.mail_world.specs.History.{Event, after}
 use Rattle.world_events.specs.declared.books.Entry.{Entry}
 use Rattle.scenario.specs.declared.overview.Overview.{Overview}
@@ -22,5 +21,4 @@ given_fates v mail = fates_of v mail.0 mail.1.envelope.now
 -- it was read of a world in which this happened, since it began with this disk
 pub record IsOf (o : Overview) (d : Disk) (h : List Event) : Type 0 where
   pub disk : disk_of o.disk.now.held ≡ (after d h).disk
-  pub controls : o.controls.now ≡ controls_on (after d h).disk
   pub fates : AreFates o.fates.now (after d h).books

@@ -1,8 +1,6 @@
 -- Which births a sender keeps when it begins a turn (qmail-send(8)).
 use Rattle.std.specs.Prelude.{◌≡◌, ℕ, List, Some}
-use Rattle.address_rules.specs.declared.controls.Controls.{Controls}
 use Rattle.call_fs.specs.Disk.{Disk}
-use Rattle.program_law.specs.Sender.Control.{AreControls}
 use Rattle.queue_paths.specs.Names.Name.{Of}
 use Rattle.queue_paths.specs.Names.Part.{Info}
 use Rattle.queue_paths.specs.Names.{path}
@@ -15,6 +13,6 @@ use Rattle.settle_law.specs.Suffices.{IsKnown, desk_of}
 
 -- The birth of a known message is the moment at which its info file was last written, whatever failed before.
 abbrev pub KnownAreBorn : Type 0
-KnownAreBorn = (controls : Controls) (d : Disk) (h : List Event) → AreControls controls d → Legal d h → (a : List ℕ) (x : Actor) (start : ℕ) → (after d h).actors a ≡ Some x
+KnownAreBorn = (d : Disk) (h : List Event) → Legal d h → (a : List ℕ) (x : Actor) (start : ℕ) → (after d h).actors a ≡ Some x
     → x.life ≡ Alive → x.program ≡ Sender start → BeginsTurn (desk_of x.past).row → (k : Known) (info : ℕ) → IsKnown x.past k
     → (after d h).disk.names (path (Of Info k.n)) ≡ Some info → ((after d h).disk.files info).moment ≡ k.birth

@@ -1,7 +1,6 @@
 -- What a cleaner answers where nothing fails.
 use Rattle.std.specs.Prelude.{◌≡◌, ◌⊎◌, ℕ, List, [], true, Some, None, codes}
 use Rattle.std.specs.List.{list_all}
-use Rattle.address_rules.specs.declared.controls.Controls.{Controls}
 use Rattle.call_fs.specs.Disk.{Disk}
 use Rattle.call_fs.specs.declared.past.NeedData.TheVariants as needs
 use Rattle.call_fs.specs.declared.past.Own.{Own}
@@ -31,5 +30,5 @@ CleanersAnswerWell = (d : Disk) (h : List Event) → Legal d h → list_all goes
 
 -- So while a sender waits for the answer to `todo/N`, nothing lies in its pipe from the cleaner, or `+`.
 abbrev pub TodoAnswersAreWell : Type 0
-TodoAnswersAreWell = (controls : Controls) (d : Disk) (h : List Event) → GoesWell controls d h → (n : ℕ) → (link_in (after d h)).awaits ≡ Answer (Todo n)
+TodoAnswersAreWell = (d : Disk) (h : List Event) → GoesWell d h → (n : ℕ) → (link_in (after d h)).awaits ≡ Answer (Todo n)
     → ((link_in (after d h)).answers ≡ []) ⊎ ((link_in (after d h)).answers ≡ codes "+")

@@ -1,6 +1,5 @@
 -- When known messages are due at the end of an idle turn (qmail-send(8)).
 use Rattle.std.specs.Prelude.{◌≡◌, ◌<◌, ◌≤◌, ℕ, List, ◌∷◌, ◌++◌, length, true, Some, None, All}
-use Rattle.address_rules.specs.declared.controls.Controls.{Controls}
 use Rattle.call_fs.specs.Disk.{Disk}
 use Rattle.call_fs.specs.Past.{IsRunBy}
 use Rattle.call_fs.specs.declared.past.Own.{Own}
@@ -27,7 +26,7 @@ RestsAreDue = (past : List Own) (first : Own) (later : List Own) → IsRunBy (Ne
 
 -- So it is in a history in which nothing fails, of each known message.
 abbrev pub KnownAreDue : Type 0
-KnownAreDue = (controls : Controls) (d : Disk) (h : List Event) → GoesWell controls d h → (a : List ℕ) (x : Actor) (start : ℕ) → (after d h).actors a ≡ Some x → x.program ≡ Sender start
+KnownAreDue = (d : Disk) (h : List Event) → GoesWell d h → (a : List ℕ) (x : Actor) (start : ℕ) → (after d h).actors a ≡ Some x → x.program ≡ Sender start
     → (past : List Own) (first : Own) (later : List Own) → x.past ≡ later ++ first ∷ past → IsWholeTurn past first later
     → ((c : Channel) → 0 < length (lane c (desk_of past).slots).slots) → ((c : Channel) (slot : ℕ) → attempt_in (lane c (desk_of past).slots).slots slot ≡ None)
     → (c : Channel) (k : Known) → IsKnown x.past k → has_file c k ≡ true → IsDueSo first.read x.past c k

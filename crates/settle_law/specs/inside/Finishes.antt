@@ -1,6 +1,5 @@
 -- With what injectors end, and when no finish was put off, where nothing fails (qmail-queue(8), qmail-send(8)).
 use Rattle.std.specs.Prelude.{◌≡◌, ◌⊎◌, ℕ, List, [], ◌∷◌, Some}
-use Rattle.address_rules.specs.declared.controls.Controls.{Controls}
 use Rattle.call_fs.specs.Disk.{Disk}
 use Rattle.call_fs.specs.declared.past.GotData.TheVariants as came
 use Rattle.call_fs.specs.declared.past.NeedData.TheVariants as needs
@@ -17,7 +16,7 @@ use Rattle.settle_law.specs.Well.{GoesWell}
 
 -- An injector that has ended ended with 0, or with the status of the first fault of its input.
 abbrev pub InjectorsEnd : Type 0
-InjectorsEnd = (controls : Controls) (d : Disk) (h : List Event) → GoesWell controls d h → (a : List ℕ) (x : Actor) (args : Arguments) (status : ℕ) → (after d h).actors a ≡ Some x
+InjectorsEnd = (d : Disk) (h : List Event) → GoesWell d h → (a : List ℕ) (x : Actor) (args : Arguments) (status : ℕ) → (after d h).actors a ≡ Some x
     → x.program ≡ Injector args → x.life ≡ Over status → (status ≡ 0) ⊎ (first_fault args ≡ Some status)
 
 -- each injector of a bounce whose status a sender took had ended with 0
@@ -27,10 +26,10 @@ BouncesEnd (own ∷ past) = BouncesEnd past × ((slot : ℕ) → own.due ≡ nee
 
 -- Each had.
 abbrev pub BouncesAreTaken : Type 0
-BouncesAreTaken = (controls : Controls) (d : Disk) (h : List Event) → GoesWell controls d h → (a : List ℕ) (x : Actor) (start : ℕ) → (after d h).actors a ≡ Some x
+BouncesAreTaken = (d : Disk) (h : List Event) → GoesWell d h → (a : List ℕ) (x : Actor) (start : ℕ) → (after d h).actors a ≡ Some x
     → x.program ≡ Sender start → BouncesEnd x.past
 
 -- So each message that a sender knows may be finished at once.
 abbrev pub KnownFinishAtOnce : Type 0
-KnownFinishAtOnce = (controls : Controls) (d : Disk) (h : List Event) → GoesWell controls d h → (a : List ℕ) (x : Actor) (start : ℕ) → (after d h).actors a ≡ Some x
+KnownFinishAtOnce = (d : Disk) (h : List Event) → GoesWell d h → (a : List ℕ) (x : Actor) (start : ℕ) → (after d h).actors a ≡ Some x
     → x.program ≡ Sender start → (k : Known) → IsKnown x.past k → k.finish_at ≡ 0

@@ -1,11 +1,9 @@
 -- Which channel files are gone when a sender begins a turn (qmail-send(8)).
 use Rattle.std.specs.Prelude.{◌≡◌, ℕ, List, false, Some, None}
-use Rattle.address_rules.specs.declared.controls.Controls.{Controls}
 use Rattle.call_fs.specs.Disk.{Disk}
 use Rattle.queue_law.specs.Routes.{lane_part}
 use Rattle.queue_paths.specs.Names.{path}
 use Rattle.queue_paths.specs.Names.Name.{Of}
-use Rattle.program_law.specs.Sender.Control.{AreControls}
 use Rattle.send_known.specs.declared.channel.Channel.{Channel}
 use Rattle.send_known.specs.declared.known.Known.{Known}
 use Rattle.retry_law.specs.Retries.{has_file}
@@ -17,6 +15,6 @@ use Rattle.settle_law.specs.Suffices.{IsKnown, desk_of}
 
 -- A known message that doesn't have its file of a channel has none there, whatever failed before.
 abbrev pub KnownAreGone : Type 0
-KnownAreGone = (controls : Controls) (d : Disk) (h : List Event) → AreControls controls d → Legal d h → (a : List ℕ) (x : Actor) (start : ℕ) → (after d h).actors a ≡ Some x
+KnownAreGone = (d : Disk) (h : List Event) → Legal d h → (a : List ℕ) (x : Actor) (start : ℕ) → (after d h).actors a ≡ Some x
     → x.life ≡ Alive → x.program ≡ Sender start → BeginsTurn (desk_of x.past).row → (c : Channel) (k : Known) → IsKnown x.past k → has_file c k ≡ false
     → (after d h).disk.names (path (Of (lane_part c) k.n)) ≡ None

@@ -1,6 +1,5 @@
 -- Numbers whose message file is there, but neither their todo file nor their info file (INTERNALS, "Queue structure").
 use Rattle.std.specs.Prelude.{◌≡◌, ◌≢◌, ◌<◌, ◌≤◌, ◌^◌, ℕ, Bool, true, false, List, [], ◌∷◌, ◌++◌, Some, None, codes}
-use Rattle.address_rules.specs.declared.controls.Controls.{Controls}
 use Rattle.call_fs.specs.Disk.{Disk}
 use Rattle.call_fs.specs.declared.program.Port.TheVariants as port
 use Rattle.queue_clean.specs.declared.row.Row.{Row as CleanRow}
@@ -16,8 +15,7 @@ use Rattle.queue_states.specs.declared.state.State.TheVariants.{S2, S3}
 use Rattle.send_parts.specs.declared.row.Row.TheVariants as at
 use Rattle.send_parts.specs.declared.rows.FinishRow.TheVariants as finish
 use Rattle.world_events.specs.declared.event.Program.TheVariants.{Injector, Sender}
-use Rattle.mail_world.specs.History.{Actor, Event, State}
-use Rattle.mail_world.specs.History.{after as after_events}
+use Rattle.mail_world.specs.History.{Actor, Event, State, after as after_events}
 use Rattle.mail_world.specs.History.Life.{Alive}
 use Rattle.scenario.specs.Deeds.{Deed, after}
 use Rattle.world_law.specs.Crew.{place_in}
@@ -51,9 +49,9 @@ pub data IsMinded (s : State) (n : ℕ) : Type 0 where
 
 -- Where nothing fails somebody minds each such number.
 abbrev pub HalfWaysAreMinded : Type 0
-HalfWaysAreMinded = (controls : Controls) (d : Disk) (h : List Event) → GoesWell controls d h → (n : ℕ) → IsHalfWay (after_events d h).disk n → IsMinded (after_events d h) n
+HalfWaysAreMinded = (d : Disk) (h : List Event) → GoesWell d h → (n : ℕ) → IsHalfWay (after_events d h).disk n → IsMinded (after_events d h) n
 
 -- So none is left at a rest.
 abbrev pub NoneIsHalfWay : Type 0
-NoneIsHalfWay = (controls : Controls) (d : Disk) (later : List Deed) (first : Deed) (before : List Deed) → IsRest controls d later first before
+NoneIsHalfWay = (d : Disk) (later : List Deed) (first : Deed) (before : List Deed) → IsRest d later first before
     → (n : ℕ) → (state_of (after d (later ++ first ∷ before)).disk n ≢ S2) × (state_of (after d (later ++ first ∷ before)).disk n ≢ S3)

@@ -1,7 +1,6 @@
 -- Where what a sender has in flight is: asked for and not taken up, with the spawner, or reported and not taken (qmail-lspawn(8),
 -- qmail-rspawn(8)).
 use Rattle.std.specs.Prelude.{◌≡◌, ℕ, ◌+◌, List, [], ◌++◌, flat_map, true, false, Option, Some, None, codes}
-use Rattle.address_rules.specs.declared.controls.Controls.{Controls}
 use Rattle.call_fs.specs.Disk.{Among, Disk}
 use Rattle.call_fs.specs.declared.program.Port.TheVariants as port
 use Rattle.program_law.specs.Post.Posts.{HasPlainFields, owed_at, told_of}
@@ -46,7 +45,7 @@ pub record InHand (p : Place) (given : List ℕ) (reports : List Report) (slot m
 -- Where nothing fails there is one for each attempt in flight, and none for a free slot, until the sender or the spawner has ended, and while the
 -- spawner takes requests.
 abbrev pub FlightsAreInHand : Type 0
-FlightsAreInHand = (controls : Controls) (d : Disk) (h : List Event) → GoesWell controls d h → (c : Channel) (x y : Actor) (start : ℕ)
+FlightsAreInHand = (d : Disk) (h : List Event) → GoesWell d h → (c : Channel) (x y : Actor) (start : ℕ)
     → (after d h).actors (codes "sender") ≡ Some x → x.program ≡ Sender start → has_ended (desk_of x.past).row ≡ false
     → (after d h).actors (spawner_name c) ≡ Some y → IsSpawner c y.program → goes_on (stands_after c y.past).row ≡ true → (stands_after c y.past).inbox.intake ≡ Open
     → (slot : ℕ) → InHand (stands_after c y.past) ((after d h).pipework.pipes (spawner_name c) port.Input).bytes

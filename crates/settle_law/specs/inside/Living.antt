@@ -1,6 +1,5 @@
 -- That who serves a sender lives as long as it.
 use Rattle.std.specs.Prelude.{◌≡◌, ℕ, List, Some, codes}
-use Rattle.address_rules.specs.declared.controls.Controls.{Controls}
 use Rattle.call_fs.specs.Disk.{Disk}
 use Rattle.send_known.specs.declared.channel.Channel.{Channel}
 use Rattle.world_events.specs.declared.event.Program.{Program}
@@ -31,5 +30,5 @@ pub record IsServed (m : Servant) (s : State) : Type 0 where
 
 -- Where nothing fails that is so as long as the sender lives.
 abbrev pub ServantsLive : Type 0
-ServantsLive = (controls : Controls) (d : Disk) (h : List Event) → GoesWell controls d h → (m : Servant) (x : Actor) → (after d h).actors (codes "sender") ≡ Some x → x.life ≡ Alive
+ServantsLive = (d : Disk) (h : List Event) → GoesWell d h → (m : Servant) (x : Actor) → (after d h).actors (codes "sender") ≡ Some x → x.life ≡ Alive
     → IsSender x.program → IsServed m (after d h)

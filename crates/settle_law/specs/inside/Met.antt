@@ -3,7 +3,6 @@ use Rattle.std.specs.Prelude.{◌≡◌, ◌≢◌, ◌⊎◌, ◌<◌, ◌≤�
 use Rattle.std.specs.Ordering.{nat_cmp}
 use Rattle.std.specs.Cmp.Lexicographic.{slice_cmp}
 use Rattle.std.specs.declared.cmp.Ordering.TheVariants.{Less}
-use Rattle.address_rules.specs.declared.controls.Controls.{Controls}
 use Rattle.call_fs.specs.Disk.{Disk}
 use Rattle.call_fs.specs.Past.{IsRunBy}
 use Rattle.call_fs.specs.declared.past.GotData.{GotData}
@@ -110,5 +109,5 @@ pub record AreMet (d : Disk) (past : List Own) : Type 0 where
 
 -- So each preprocessed message is known where nothing fails, when a turn begins, if no todo pass was left.
 abbrev pub PreprocessedAreKnown : Type 0
-PreprocessedAreKnown = (controls : Controls) (d : Disk) (h : List Event) → GoesWell controls d h → (a : List ℕ) (x : Actor) (start : ℕ) → (after d h).actors a ≡ Some x → x.life ≡ Alive
+PreprocessedAreKnown = (d : Disk) (h : List Event) → GoesWell d h → (a : List ℕ) (x : Actor) (start : ℕ) → (after d h).actors a ≡ Some x → x.life ≡ Alive
     → x.program ≡ Sender start → BeginsTurn (desk_of x.past).row → (n : ℕ) → state_of (after d h).disk n ≡ S5 → (k : Known) × IsKnown x.past k × (k.n ≡ n)

@@ -1,9 +1,7 @@
 -- Which moments a sender is told (qmail-send(8)).
 use Rattle.std.specs.Prelude.{◌≡◌, ◌≤◌, ℕ, List, [], ◌∷◌, Some, All}
-use Rattle.address_rules.specs.declared.controls.Controls.{Controls}
 use Rattle.call_fs.specs.Disk.{Disk}
 use Rattle.call_fs.specs.declared.past.Own.{Own}
-use Rattle.program_law.specs.Sender.Control.{AreControls}
 use Rattle.retry_law.specs.Moments.{TellsMoments}
 use Rattle.world_events.specs.declared.event.Program.TheVariants.{Sender}
 use Rattle.mail_world.specs.History.{Actor, Event, Legal, after}
@@ -15,5 +13,5 @@ Rises (own ∷ past) = Rises past × All (λ (e : Own). e.read ≤ own.read) pas
 
 -- Each is one that a clock may tell, also of the info files that it looks at, whatever fails.
 abbrev pub PastsTellMoments : Type 0
-PastsTellMoments = (controls : Controls) (d : Disk) (h : List Event) → AreControls controls d → Legal d h → (a : List ℕ) (x : Actor) (start : ℕ) → (after d h).actors a ≡ Some x
+PastsTellMoments = (d : Disk) (h : List Event) → Legal d h → (a : List ℕ) (x : Actor) (start : ℕ) → (after d h).actors a ≡ Some x
     → x.program ≡ Sender start → All TellsMoments x.past × Rises x.past

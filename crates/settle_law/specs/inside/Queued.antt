@@ -1,6 +1,5 @@
 -- A search of `todo` from the start that gives no name: no message waits to be preprocessed.
 use Rattle.std.specs.Prelude.{◌≢◌, ◌<◌, ◌^◌, ℕ, List, [], ◌∷◌, ◌++◌, codes}
-use Rattle.address_rules.specs.declared.controls.Controls.{Controls}
 use Rattle.call_fs.specs.Apply.{Fits}
 use Rattle.call_fs.specs.Disk.{Disk}
 use Rattle.call_fs.specs.declared.calls.Answer.TheVariants.{NoName}
@@ -16,5 +15,5 @@ NoneIsQueued = (d : Disk) (wrote : ℕ) → Fits d (NextName (codes "todo") []) 
 
 -- So at a rest no message waits to be preprocessed.
 abbrev pub RestsUnqueued : Type 0
-RestsUnqueued = (controls : Controls) (d : Disk) (later : List Deed) (first : Deed) (before : List Deed) → IsRest controls d later first before
+RestsUnqueued = (d : Disk) (later : List Deed) (first : Deed) (before : List Deed) → IsRest d later first before
     → (n : ℕ) → state_of (after d (later ++ first ∷ before)).disk n ≢ S4

@@ -8,7 +8,6 @@ use Rattle.script_words.specs.declared.letter.Letter.{Letter}
 use Rattle.scenario.specs.Deeds.{Deed, after, history_of}
 use Rattle.scenario.specs.Turns.{IsSettled, Round, events_in, is_idle}
 use Rattle.call_fs.specs.declared.program.Ready.{Ready}
-use Rattle.address_rules.specs.declared.controls.Controls.{Controls}
 use Rattle.settle_law.specs.Ends.{StopsSo}
 use Rattle.settle_law.specs.Promised.{IsRest, OthersWait}
 use Rattle.settle_law.specs.Settled.{AllGone, Settled, SettledBy}
@@ -32,9 +31,9 @@ IdleRoundsRest = (d : Disk) (h : List Deed) (plan : Plan) (letter : Letter) (rou
 
 -- Such a rest is settled.
 abbrev pub RestsAreSettled : Type 0
-RestsAreSettled = (controls : Controls) (d : Disk) (later : List Deed) (first : Deed) (before : List Deed) → IsRest controls d later first before → Settled (after d (later ++ first ∷ before))
+RestsAreSettled = (d : Disk) (later : List Deed) (first : Deed) (before : List Deed) → IsRest d later first before → Settled (after d (later ++ first ∷ before))
 
 -- And if each report was of a success no message is left.
 abbrev pub RestsAreEmpty : Type 0
-RestsAreEmpty = (controls : Controls) (d : Disk) (later : List Deed) (first : Deed) (before : List Deed) → IsRest controls d later first before
+RestsAreEmpty = (d : Disk) (later : List Deed) (first : Deed) (before : List Deed) → IsRest d later first before
     → AllSucceed (history_of (later ++ first ∷ before)) → AllGone (after d (later ++ first ∷ before))

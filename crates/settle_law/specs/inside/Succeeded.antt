@@ -1,6 +1,5 @@
 -- Where each report was of a success (qmail-send(8)).
 use Rattle.std.specs.Prelude.{◌≡◌, ℕ, List, [], ◌∷◌, true, Some, All, IsSome, codes}
-use Rattle.address_rules.specs.declared.controls.Controls.{Controls}
 use Rattle.call_fs.specs.Disk.{Disk}
 use Rattle.call_fs.specs.declared.past.GotData.TheVariants as came
 use Rattle.call_fs.specs.declared.past.NeedData.TheVariants as needs
@@ -29,10 +28,10 @@ HearsSuccess (event ∷ past) = HearsSuccess past × ((c : Channel) (before byte
 
 -- So it is where nothing fails and each report that a spawner gave was of a success.
 abbrev pub ReportsSucceed : Type 0
-ReportsSucceed = (controls : Controls) (d : Disk) (h : List Event) → GoesWell controls d h → AllSucceed h → (x : Actor) (start : ℕ) → (after d h).actors (codes "sender") ≡ Some x
+ReportsSucceed = (d : Disk) (h : List Event) → GoesWell d h → AllSucceed h → (x : Actor) (start : ℕ) → (after d h).actors (codes "sender") ≡ Some x
     → x.program ≡ Sender start → HearsSuccess x.past
 
 -- Then a message that was tried on a channel and has a file there is at work there.
 abbrev pub TriedAreAtWork : Type 0
-TriedAreAtWork = (controls : Controls) (d : Disk) (h : List Event) → GoesWell controls d h → (a : List ℕ) (x : Actor) (start : ℕ) → (after d h).actors a ≡ Some x
+TriedAreAtWork = (d : Disk) (h : List Event) → GoesWell d h → (a : List ℕ) (x : Actor) (start : ℕ) → (after d h).actors a ≡ Some x
     → x.program ≡ Sender start → HearsSuccess x.past → (c : Channel) (n : ℕ) → tried_at x.past c n ≡ true → IsSome (job_of n (lane c (desk_of x.past).slots).jobs)

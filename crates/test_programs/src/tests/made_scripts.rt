@@ -48,42 +48,73 @@ const LONG: (u64, u64, usize, &[u8]) = (
     sender\nsettle K\nsum\n",
 );
 
-/// The script of a row is made.
-fn holds(alloc: Global, row: &Row) -> bool {
-    let Row(seed, count, lines) = *row;
-    let Ok(mut sink) = MemSink::new(alloc, 1_000, Vec::new(alloc)) else {
-        return false;
-    };
-    if seed > LAST_SEED || make(alloc, seed, count, &mut sink).is_err() {
-        return false;
+/// Makes the script of a seed and a count.
+fn makes(
+    alloc: Global,
+    seed: u64,
+    count: u64,
+    sink: &mut MemSink,
+) -> Option<Result<(), MakeError>> {
+    if seed > LAST_SEED {
+        return None;
     }
-    let taken = sink.taken();
+    Some(make(alloc, seed, count, sink))
+}
+
+/// Whether the text is the opening and these lines.
+fn is_script(taken: &[u8], lines: &[u8]) -> bool {
     taken.len() - lines.len().min(taken.len()) == OPENING.len()
         && taken.starts_with(OPENING)
         && taken.ends_with(lines)
 }
 
-/// A longer script is made.
-fn long_holds(alloc: Global) -> bool {
+/// The script of a row is made.
+fn is_made(alloc: Global, row: &Row, sink: &mut MemSink) -> bool {
+    let Row(seed, count, lines) = *row;
+    makes(alloc, seed, count, sink) == Some(Ok(())) && is_script(sink.taken(), lines)
+}
+
+/// The longer script is made.
+fn long_is_made(alloc: Global, sink: &mut MemSink) -> bool {
     let (seed, count, length, last) = LONG;
-    let Ok(mut sink) = MemSink::new(alloc, length, Vec::new(alloc)) else {
-        return false;
-    };
-    let made = make(alloc, seed, count, &mut sink);
-    made.is_ok()
+    makes(alloc, seed, count, sink) == Some(Ok(()))
         && sink.taken().len() == length
         && sink.taken().starts_with(OPENING)
         && sink.taken().ends_with(last)
 }
 
 /// An output with room for so many bytes takes that many of the longer script, and fails once.
-fn is_cut_at(alloc: Global, room: usize) -> bool {
+fn is_cut_at(alloc: Global, room: usize, sink: &mut MemSink) -> bool {
     let (seed, count, _, _) = LONG;
-    let Ok(mut sink) = MemSink::new(alloc, room, Vec::new(alloc)) else {
-        return false;
-    };
-    let made = make(alloc, seed, count, &mut sink);
-    made == Err(MakeError::Failed) && sink.faults() == 1 && sink.taken().len() == room
+    makes(alloc, seed, count, sink) == Some(Err(MakeError::Failed))
+        && sink.faults() == 1
+        && sink.taken().len() == room
+}
+
+/// What is made over a new output.
+#[derive(Clone, Copy)]
+enum Made<'a> {
+    /// The script of a row.
+    Row(&'a Row),
+    /// The longer script, whole or cut.
+    Whole,
+    Cut,
+}
+
+/// Whether that is so, over an output with room for so many bytes.
+fn holds(alloc: Global, what: Made<'_>, room: usize) -> bool {
+    match MemSink::new(alloc, room, Vec::new(alloc)) {
+        Ok(mut sink) => {
+            let is_so = match what {
+                Made::Row(row) => is_made(alloc, row, &mut sink),
+                Made::Whole => long_is_made(alloc, &mut sink),
+                Made::Cut => is_cut_at(alloc, room, &mut sink),
+            };
+            drop(sink);
+            is_so
+        }
+        Err(_) => false,
+    }
 }
 
 #[test]
@@ -91,14 +122,14 @@ fn scripts_are_made(rt: HostRuntime) {
     let alloc = rt.alloc();
     let mut all = true;
     for row in ROWS {
-        all = all && holds(alloc, row);
+        all = all && holds(alloc, Made::Row(row), 1_000);
     }
     assert!(rt; all);
 }
 
 #[test]
 fn pieces_are_one_script(rt: HostRuntime) {
-    assert!(rt; long_holds(rt.alloc()));
+    assert!(rt; holds(rt.alloc(), Made::Whole, LONG.2));
 }
 
 #[test]
@@ -106,7 +137,7 @@ fn outputs_that_are_full_take_a_prefix(rt: HostRuntime) {
     let alloc = rt.alloc();
     let mut all = true;
     for room in [0, 100, 8_191, 8_192, 20_000, 148_227] {
-        all = all && is_cut_at(alloc, room);
+        all = all && holds(alloc, Made::Cut, room);
     }
     assert!(rt; all);
 }

@@ -1,81 +1,47 @@
 // The sink in memory.
 
-use super::byte_texts::same;
 use super::fields::numbers;
 use outside::{Gave, MemSink, Sink};
 use std::alloc::Global;
 
-/// What is given, what comes of it, what the sink took so far, and its count of failures.
-struct Row {
-    bytes: &'static [u8],
-    gave: Gave,
-    taken: &'static [u8],
-    faults: u64,
-}
+/// What is given, what comes of it, what the sink took so far, and its count of failures. The second giving is planned to
+/// fail, and there is room for five bytes.
+const ROWS: &str = "ab | done | ab | 0
+c | failed | ab | 1
+d | done | abd | 1
+# two of them fit
+efg | failed | abdef | 2
+ | done | abdef | 2
+h | failed | abdef | 3
+ | done | abdef | 3";
 
-/// The second giving is planned to fail, and there is room for five bytes.
-const ROWS: [Row; 7] = [
-    Row {
-        bytes: b"ab",
-        gave: Gave::Done,
-        taken: b"ab",
-        faults: 0,
-    },
-    Row {
-        bytes: b"c",
-        gave: Gave::Failed,
-        taken: b"ab",
-        faults: 1,
-    },
-    Row {
-        bytes: b"d",
-        gave: Gave::Done,
-        taken: b"abd",
-        faults: 1,
-    },
-    // two of them fit
-    Row {
-        bytes: b"efg",
-        gave: Gave::Failed,
-        taken: b"abdef",
-        faults: 2,
-    },
-    Row {
-        bytes: b"",
-        gave: Gave::Done,
-        taken: b"abdef",
-        faults: 2,
-    },
-    Row {
-        bytes: b"h",
-        gave: Gave::Failed,
-        taken: b"abdef",
-        faults: 3,
-    },
-    Row {
-        bytes: b"",
-        gave: Gave::Done,
-        taken: b"abdef",
-        faults: 3,
-    },
-];
-
-/// Whether the sink does what the row says.
-fn takes(sink: &mut MemSink, row: &Row) -> bool {
-    sink.give(row.bytes) == row.gave && same(sink.taken(), row.taken) && sink.faults() == row.faults
-}
-
-/// Whether a new sink does what the rows say.
-fn takes_all(alloc: Global, rows: &[Row]) -> bool {
-    match MemSink::new(alloc, 5, numbers(alloc, "2")) {
-        Ok(mut sink) => rows.iter().all(|row| takes(&mut sink, row)),
-        Err(_) => false,
+/// What comes of a giving, as a text; None for any other text.
+fn gave_of(text: &str) -> Option<Gave> {
+    match text {
+        "done" => Some(Gave::Done),
+        "failed" => Some(Gave::Failed),
+        _ => None,
     }
 }
 
-#[test]
-fn a_sink_keeps_what_it_took(rt: HostRuntime) {
-    assert!(rt; takes_all(rt.alloc(), &ROWS));
+/// Whether the sink does what the row says.
+fn takes(sink: &mut MemSink, row: &str) -> bool {
+    let (bytes, rest) = row.split_once(" | ").unwrap_or((row, ""));
+    let (gave, rest) = rest.split_once(" | ").unwrap_or((rest, ""));
+    let (taken, faults) = rest.split_once(" | ").unwrap_or((rest, ""));
+    Some(sink.give(bytes.as_bytes())) == gave_of(gave)
+        && sink.taken() == taken.as_bytes()
+        && sink.faults() == faults.parse::<u64>().unwrap_or(u64::MAX)
+}
+
+/// Whether the sink does what the rows say. A line that begins with `#` is a comment.
+fn takes_rows(sink: &mut MemSink) -> bool {
+    for row in ROWS.lines() {
+        if !row.starts_with('#') && !takes(sink, row) {
+            return false;
+        }
+    }
+    true
 }
 
 /// How many bytes a sink has taken of pieces of 1,000 bytes when one first fails.
@@ -88,15 +54,28 @@ fn taken_of(sink: &mut MemSink, pieces: usize) -> usize {
     sink.taken().len()
 }
 
-/// Whether a sink with room for 90,500 bytes takes so many.
-fn is_filled(alloc: Global) -> bool {
-    match MemSink::new(alloc, 90_500, Vec::new(alloc)) {
-        Ok(mut sink) => taken_of(&mut sink, 100) == 90_500,
+/// Whether a new sink with this room, of which these givings are planned to fail, does what the rows say, or is filled.
+fn holds(alloc: Global, room: usize, fails: &str, are_rows: bool) -> bool {
+    match MemSink::new(alloc, room, numbers(alloc, fails)) {
+        Ok(mut sink) => {
+            let is_so = if are_rows {
+                takes_rows(&mut sink)
+            } else {
+                taken_of(&mut sink, 100) == room
+            };
+            drop(sink);
+            is_so
+        }
         Err(_) => false,
     }
 }
 
 #[test]
+fn a_sink_keeps_what_it_took(rt: HostRuntime) {
+    assert!(rt; holds(rt.alloc(), 5, "2", true));
+}
+
+#[test]
 fn a_sink_takes_as_much_as_it_has_room_for(rt: HostRuntime) {
-    assert!(rt; is_filled(rt.alloc()));
+    assert!(rt; holds(rt.alloc(), 90_500, "", false));
 }

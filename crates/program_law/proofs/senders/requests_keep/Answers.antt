@@ -2,4 +2,4 @@ use Rattle.program_law.proofs.Sender.Requests.{requests}
 use Rattle.program_law.proofs.senders.requests_keep.Goals as goal
 
 pub returns : goal.returns
-returns c = λ controls now q a ch d read came h. requests controls now q a ch d read came h
+returns c = λ now q a ch d read came h. requests now q a ch d read came h

@@ -5,5 +5,5 @@ pub returns : goal.returns
 returns c = record {
   knows = knows_kept;
   lanes = lanes_kept;
-  rests = λ controls now a o m q r E far spares row b s p among lanes h. rests_kept controls now a o m q r E far spares row b s p among lanes h;
+  rests = λ now a o m q r E far spares row b s p among lanes h. rests_kept now a o m q r E far spares row b s p among lanes h;
 }

@@ -3,7 +3,6 @@ use Rattle.std.proofs.lemmas.Result.{on_ok_weaker}
 use Rattle.std.specs.List.{zip}
 use Rattle.std.specs.Prelude.{flat_map}
 use Rattle.crash_fs.specs.Crash.{crash_disk}
-use Rattle.script_disks.specs.Controls.{controls_on}
 use Rattle.world_events.specs.Books.{books_of}
 use Rattle.world_events.specs.Inputs.{with_inputs}
 use Rattle.world_events.specs.declared.books.Entry.{Entry}
@@ -36,7 +35,7 @@ returns c =
           c.in_ok-put_each.ensures (after d h).books of.fates used
           ∙ ap (λ (t : List ℕ). t ++ flat_map (given_lines v) (zip entries c.deref.result.now)) c.new-own.ensures.items
           ∙ ap (λ (gs : List Given). flat_map (given_lines v) (zip entries gs)) c.deref.ensures.value
-          ∙ mails_shown d (history_of h) (crash_disk w.disk) w.present w.events c.args.overview entries given playing.is playing.starts playing.fed (of.disk ∙ playing.is.disk) (of.controls ∙ ap controls_on playing.is.disk)
+          ∙ mails_shown d (history_of h) (crash_disk w.disk) w.present w.events c.args.overview entries given playing.is playing.starts playing.fed (of.disk ∙ playing.is.disk)
           (c.entries.ensures ∙ c.books.ensures.models d (history_of h) playing.is) received,
     ))
     (if_put c.extend_from_slice.result c.args.text.now.items c.deref-2.result.now c.put_each.new.text.items c.extend_from_slice.new.self.items c.extend_from_slice.ensures.items c.deref-2.ensures.value)

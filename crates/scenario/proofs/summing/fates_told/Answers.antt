@@ -3,7 +3,6 @@ use Rattle.std.proofs.lemmas.Result.{IfOk-weaker}
 use Rattle.std.specs.List.{zip}
 use Rattle.std.specs.Prelude.{flat_map}
 use Rattle.crash_fs.specs.Crash.{crash_disk}
-use Rattle.script_disks.specs.Controls.{controls_on}
 use Rattle.world_events.specs.Books.{books_of}
 use Rattle.world_events.specs.Inputs.{with_inputs}
 use Rattle.world_events.specs.declared.books.Entry.{Entry}
@@ -31,6 +30,6 @@ returns c =
     let v : View = view_at c.args.overview (after d h).books in
     told (after d h).books of.fates used
     ∙ ap (λ (gs : List Given). flat_map (given_fates v) (zip entries gs)) c.deref.ensures.value
-    ∙ mails_summed d (history_of h) (crash_disk w.disk) w.present w.events c.args.overview entries given playing.is playing.starts playing.fed (of.disk ∙ playing.is.disk) (of.controls ∙ ap controls_on playing.is.disk)
+    ∙ mails_summed d (history_of h) (crash_disk w.disk) w.present w.events c.args.overview entries given playing.is playing.starts playing.fed (of.disk ∙ playing.is.disk)
     (c.entries.ensures ∙ c.books.ensures.models d (history_of h) playing.is) received)
     c.fates_of_each.ensures

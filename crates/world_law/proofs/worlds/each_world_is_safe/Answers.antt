@@ -1,17 +1,11 @@
-use Rattle.world_law.proofs.Alone.{told_safe, told_waiting}
 use Rattle.world_law.proofs.Promise.{worlds_are_safe}
-use Rattle.world_law.proofs.Led.{led_safe}
+use Rattle.world_law.proofs.Led.{led_safe, told_waiting}
 use Rattle.world_law.proofs.worlds.each_world_is_safe.Goals as goal
 
 pub returns-clause-safe : goal.returns-clause-safe
-returns-clause-safe g c = λ controls opening h has happened.
+returns-clause-safe g c = λ opening h happened.
     let w = c.args.world.now in
-    worlds_are_safe controls opening (record { disk = g.D.CallFs.disk w.disk; events = w.events; present = w.present }) h has happened
-
-pub returns-clause-alone : goal.returns-clause-alone
-returns-clause-alone g c = λ controls opening h happened none.
-    let w = c.args.world.now in
-    told_safe controls opening (g.D.CallFs.disk w.disk) w.events w.present h happened none
+    worlds_are_safe opening (record { disk = g.D.CallFs.disk w.disk; events = w.events; present = w.present }) h happened
 
 pub returns-clause-waiting : goal.returns-clause-waiting
 returns-clause-waiting g c = λ opening h happened none.

@@ -1,12 +1,12 @@
-use Rattle.std.proofs.Common.{◌≡◌, ◌⊎◌, inl, inr, ℕ, ◌+◌, ◌≤◌, List, [], ◌∷◌, ◌++◌, length, reverse, sym, ap, ◌∙◌, subst, arith}
-use Rattle.std.specs.Prelude.{drop}
+use Rattle.std.proofs.Common.{◌≡◌, ◌⊎◌, inl, inr, ℕ, ◌+◌, ◌-◌, ◌^◌, ◌≤◌, List, [], ◌∷◌, ◌++◌, length, reverse, sym, ap, ◌∙◌, subst, arith}
+use Rattle.std.specs.Prelude.{drop, min}
 use Rattle.std.proofs.lemmas.List.{length-append, length-drop}
 use Rattle.world_events.specs.declared.event.Event.{Event as Kept}
 use Rattle.world_events.specs.declared.event.Event.TheVariants as kept
 use Rattle.mail_world.specs.declared.actor.Actor.{Actor as Held}
 use Rattle.mail_world.specs.Books.{entries_of}
 use Rattle.world_pipes.specs.declared.mouths.Mouths.{Mouths}
-use Rattle.mail_world.specs.Crew.{AreNew, AreFresh}
+use Rattle.mail_world.specs.Crew.{AreFresh}
 use Rattle.mail_world.specs.Generations.{IsNoneAlive, starts_of}
 use Rattle.mail_world.specs.Starts.{AreStarts}
 use Rattle.mail_world.specs.Places.{place_of}
@@ -17,6 +17,7 @@ use Rattle.mail_world.proofs.Booked.{begun_booked}
 use Rattle.mail_world.proofs.Firsts.{lives_none}
 use Rattle.mail_world.proofs.Histories.{goes_on}
 use Rattle.mail_world.proofs.Living.{living_within, room_less}
+use Rattle.mail_world.proofs.NewCrew.{AreFour, four_of}
 use Rattle.world_events.proofs.Starting.{same_starts}
 use Rattle.mail_world.proofs.Starting.{starts_push}
 use Rattle.mail_world.proofs.Crewing.{members_start}
@@ -53,7 +54,7 @@ invariant_of-self-in_err-mails g c =
     }
 
 -- there is room for the stop of each
-few : (crew : ℕ) (four actors : List Held) → AreNew four → living (four ++ drop crew actors) ≤ length actors + 4
+few : (crew : ℕ) (four actors : List Held) → AreFour four → living (four ++ drop crew actors) ≤ length actors + 4
 few crew four actors new =
     let within = living_within (four ++ drop crew actors) in
     let all = length-append four (drop crew actors) in
@@ -81,7 +82,7 @@ invariant_of-self-2 g c =
     let told = g.D.CallFs.disk i.disk in
     let events = i.history.events.items in
     let four = c.in_ok-actors.actors.items in
-    let new = c.in_ok-actors.ensures in
+    let new = four_of four c.in_ok-actors.ensures in
     let rest = drop i.crew i.actors.items in
     let none = lives_none i.crew (place_of i.places) i.actors.items (known events) events i.present c.self.invariant.world.kept (subst (λ (w : Seen _). IsNoneAlive w.events) (sym c.self.view_is) c.requires) in
     let event : c.put.new.self.events.items ≡ events ++ kept.Generation i.present ∷ [] =
@@ -92,7 +93,7 @@ invariant_of-self-2 g c =
     let len : c.len-2.result ≡ length i.actors.items = c.len-2.ensures ∙ i.actors.ok.0 in
     let bound = few i.crew four i.actors.items new in record {
       world = rw (actors, event) (begun_keeps told (place_of i.places) i.crew i.actors.items four events i.present i.next_pid c.saturating_add-self-inside.result (counted i.bounces i.deliveries) c.self.invariant.world none c.self.invariant.piped.few
-          c.self.invariant.piped.wired.members new c.saturating_add-self-inside.ensures);
+          c.self.invariant.piped.wired.members new (c.saturating_add-self-inside.ensures ∙ ap (λ (n : ℕ). min (i.next_pid + n) (2 ^ 32 - 1)) c.started_by.ensures));
       room = rw (actors) (c.put.ensures.room (living (four ++ rest)) (room_less c.reserve-2.new.self (c.len-2.result + 5) (living (four ++ rest) + 1) (omega (arith, len, bound)) c.in_ok-reserve-2.ensures.room));
       booked = rw (actors, event) (begun_booked i.crew i.actors.items four events (entries_of i.books) new c.self.invariant.booked i.present);
       piped = rw (actors, event) (begun_piped i.crew i.mouths.items c.renew.new.mouths.items i.actors.items four events i.present c.self.invariant.piped

@@ -4,7 +4,7 @@ use Rattle.std.specs.BTreeMap.{get}
 use Rattle.script_fates.specs.declared.fates.Fates.{Fates}
 use Rattle.script_fates.specs.declared.fates.Spot.{Spot as KeptSpot}
 use Rattle.script_fates.specs.declared.fates.Tenure.{Tenure}
-use Rattle.script_fates.proofs.Lives.{enters_at, enters_nowhere}
+use Rattle.script_fates.proofs.Lives.{AddsSpot, changes_at, changes_nowhere}
 use Rattle.script_fates.proofs.Takings.{delivery_enters, note_enters}
 use Rattle.script_fates.proofs.fates.Fates.enter_mark.Goals as goal
 
@@ -17,11 +17,11 @@ returns-in_ok-push c = λ books h.
     let s : KeptSpot = record { channel = c.args.channel; place = c.args.mark.now.attempt.place } in
     let old : Fates = c.args.self.now in
     let was : Tenure = c.in-Some.tenure.now in
-    let now : Tenure = record { number = was.number; mail = was.mail; delivered = c.push.new.self } in
+    let now : Tenure = record { number = was.number; mail = was.mail; delivered = c.push.new.self; routes = was.routes } in
     let new : Fates = record { living = c.get_mut.follows.lender now; over = old.over } in
     let there : get nat_cmp old.living n ≡ Some was = search rules in
     delivery_enters old new books c.args.channel c.args.mark.now (search rules)
-    (enters_at old new n s was now there ((c.get_mut.follows.holds now).3 (search rules)) (refl, refl, c.in_ok-push.ensures.items) refl)
+    (changes_at (AddsSpot s) old new n was now there ((c.get_mut.follows.holds now).3 (search rules)) (refl, refl, c.in_ok-push.ensures.items, refl) refl)
     h
 
 pub returns-in_default : goal.returns-in_default
@@ -32,4 +32,4 @@ returns-in_default c = λ books h.
     let new : Fates = record { living = c.get_mut.follows.lender-at-none; over = old.over } in
     let stays = c.get_mut.follows.holds-at-none in
     let there : get nat_cmp old.living n ≡ None = search rules in
-    delivery_enters old new books c.args.channel c.args.mark.now (search rules) (enters_nowhere old new n s there (λ k. ap (λ m. get nat_cmp m k) stays) refl) h
+    delivery_enters old new books c.args.channel c.args.mark.now (search rules) (changes_nowhere (AddsSpot s) old new n there (λ k. ap (λ m. get nat_cmp m k) stays) refl) h
