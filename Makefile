@@ -43,11 +43,12 @@ host-checks:
 test:
 	rt ci
 
-# make install  puts QMAIL (./qmail), its manual pages, contrib's programs and the unit for systemd below PREFIX, /usr/local if
+# make install  puts QMAIL (./qmail), its manual pages, contrib's programs and the units for systemd below PREFIX, /usr/local if
 # none is given. The programs find each other there; `run` for runit or daemontools is below lib/qmail
 PREFIX = /usr/local
 QMAIL = qmail
-PROGRAMS = qmail-queue qmail-send qmail-first-queue remote-msmtp
+PROGRAMS = qmail-queue qmail-qmqpd qmail-send qmail-first-queue remote-msmtp
+UNITS = qmail-send.service qmail-qmqpd.socket qmail-qmqpd@.service
 INTO = $(DESTDIR)$(PREFIX)
 
 .PHONY: install
@@ -60,6 +61,8 @@ install:
 		sed 's:/usr/local:$(PREFIX):g' contrib/$$name > $(INTO)/bin/$$name && chmod 755 $(INTO)/bin/$$name || exit 1; \
 	done
 	sed 's:/usr/local:$(PREFIX):g' contrib/run > $(INTO)/lib/qmail/run && chmod 755 $(INTO)/lib/qmail/run
-	sed 's:/usr/local:$(PREFIX):g' contrib/qmail-send.service > $(INTO)/lib/systemd/system/qmail-send.service
+	for name in $(UNITS); do \
+		sed 's:/usr/local:$(PREFIX):g' contrib/$$name > $(INTO)/lib/systemd/system/$$name || exit 1; \
+	done
 	install -m 644 man/*.1 $(INTO)/share/man/man1
 	install -m 644 man/*.8 $(INTO)/share/man/man8

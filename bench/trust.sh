@@ -1,6 +1,7 @@
 #!/usr/bin/env bash
-# bench/trust.sh [LINES]: writes docs/TRUST.md anew: the definitions that the headline and the clauses of the command reach,
-# crate by crate in the order of crates.txt. What stands above its line `<!-- counted -->` is kept as it is; from there on all is made.
+# bench/trust.sh [LINES]: counts the definitions that the headline and the clauses of the command reach, and writes docs/TRUST.md anew: what
+# stands above its line `<!-- counted -->` is kept as it is; from there on all is made. `bench/trust.sh files` writes nothing, and prints them
+# file by file, crate by crate in the order of crates.txt, with the Rust types of each crate and the line of each definition.
 #
 # How it counts. A definition is an item of a crate's specs/ (abbrev, unfoldable, record, data, syntax), with its clauses
 # up to the next item. It reaches what it names: a name of its own file, or one that a `use` of its file imports, also as
@@ -332,19 +333,21 @@ for trait, path, items, part in handed:
         told_of.append(f'`{n}`:{k} {said[0].lower()}{said[1:]}')
     if told_of:
         out.append(f'- `{trait}` ({path[len("crates/"):]}): ' + '; '.join(told_of))
-out += ['', '## File by file\n', 'In the order of crates.txt: the Rust types of each crate, each file of its specs/ with its lines, and the line of each definition.']
-rows = collections.OrderedDict()
+files_told, rows = [], collections.OrderedDict()
 for c, rel, n in sorted(reached, key=lambda r: (place[r[0]], r[1], reached[r][0])):
     rows.setdefault(c, collections.OrderedDict()).setdefault(rel, []).append((n, reached[(c, rel, n)]))
 kinds = collections.defaultdict(list)
 for c, t in sorted(types):
     kinds[c].append(t)
 for c in sorted(set(rows) | set(kinds), key=lambda c: place[c]):
-    named = ', types ' + ', '.join(f'`{t}`' for t in kinds[c]) if kinds[c] else ''
-    out.append(f'\n**{c}**{named}\n')
+    named = ', types ' + ', '.join(kinds[c]) if kinds[c] else ''
+    files_told.append(f'{c}{named}')
     for rel, items in rows.get(c, {}).items():
         lines = sum(i[1] - i[0] + 1 for _, i in items)
-        out.append(f'- `specs/{rel.replace(".", "/")}.antt` ({lines}): ' + ', '.join(f'`{n}`:{i[0]}' for n, i in items))
+        files_told.append(f'  specs/{rel.replace(".", "/")}.antt ({lines}): ' + ', '.join(f'{n}:{i[0]}' for n, i in items))
+if sys.argv[1] == 'files':
+    print('\n'.join(files_told))
+    sys.exit(0)
 open('docs/TRUST.md', 'w').write('\n'.join(out) + '\n')
 for text in wrong:
     print('TRUST.md:', text, file=sys.stderr)

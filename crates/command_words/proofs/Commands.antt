@@ -5,10 +5,10 @@ use Rattle.std.proofs.lemmas.Option.{slice_get-map}
 use Rattle.std.proofs.lemmas.Slice.Eq.{bytes_eq-Decides}
 use Rattle.clap.specs.Words.{matches_of}
 use Rattle.command_words.specs.declared.command.Command.{Command}
-use Rattle.command_words.specs.declared.command.Command.TheVariants.{Play, Make, Queue, Send, Audit, Clean, Lspawn, Rspawn, Local, Work}
+use Rattle.command_words.specs.declared.command.Command.TheVariants.{Play, Make, Queue, Qmqpd, Send, Audit, Clean, Lspawn, Rspawn, Local, Work}
 use Rattle.command_words.specs.Delivery.{local_words}
 use Rattle.command_words.specs.Lines.{audit_line, clean_line, lspawn_line, play_line, queue_line, takes_words}
-use Rattle.command_words.specs.Reads.{dir_words, command_named, command_of, make_words, others_named, play_words, queue_words, rspawn_words, send_words, told_by, work_words}
+use Rattle.command_words.specs.Reads.{dir_words, command_named, command_of, make_words, others_named, play_words, qmqpd_words, queue_words, rspawn_words, send_words, told_by, work_words}
 
 -- the command of words whose first one is known
 pub named : (ws : List (String Global)) (word : Option (String Global)) → slice_get ws 0 ≡ word → command_of (map string_bytes ws) ≡ command_named (option_map string_bytes word) (map string_bytes ws)
@@ -30,8 +30,8 @@ passed b here there fails = ap (λ test. cond test here there) fails
 
 -- a first word that names no command
 pub names_none : (ws : List (String Global)) (word : String Global) (text : List ℕ) → slice_get ws 0 ≡ Some word → text ≡ string_bytes word → text ≢ codes "play" → text ≢ codes "queue" → text ≢ codes "send" → text ≢ codes "audit" → text ≢ codes "clean"
-    → text ≢ codes "lspawn" → text ≢ codes "rspawn" → text ≢ codes "local" → text ≢ codes "make" → text ≢ codes "work" → command_of (map string_bytes ws) ≡ None
-names_none ws word text first is play queue send audit clean lspawn rspawn local make work =
+    → text ≢ codes "lspawn" → text ≢ codes "rspawn" → text ≢ codes "local" → text ≢ codes "make" → text ≢ codes "work" → text ≢ codes "qmqpd" → command_of (map string_bytes ws) ≡ None
+names_none ws word text first is play queue send audit clean lspawn rspawn local make work qmqpd =
     let differ : (name : List ℕ) → text ≢ name → bytes_eq text name ≡ false = λ name other. differs (bytes_eq text name) text name (bytes_eq-Decides text name) other in
     named_word ws word text text first is refl
     ∙ passed _ _ _ (differ (codes "play") play)
@@ -44,6 +44,7 @@ names_none ws word text first is play queue send audit clean lspawn rspawn local
     ∙ passed _ _ _ (differ (codes "local") local)
     ∙ passed _ _ _ (differ (codes "make") make)
     ∙ passed _ _ _ (differ (codes "work") work)
+    ∙ passed _ _ _ (differ (codes "qmqpd") qmqpd)
 
 -- the words of another command are never `play`
 mapped_never : {A : Type 0} (make : A → Command) (told : Option A) → ((x : A) → make x ≢ Play) → option_map make told ≢ Some Play
@@ -68,7 +69,8 @@ others_never name words =
     (never_of (bytes_eq name (codes "rspawn")) _ _ (mapped_never Rspawn (rspawn_words words) (λ x e. cc))
     (never_of (bytes_eq name (codes "local")) _ _ (mapped_never Local (local_words words) (λ x e. cc))
     (never_of (bytes_eq name (codes "make")) _ _ (mapped_never Make (make_words words) (λ x e. cc))
-    (never_of (bytes_eq name (codes "work")) _ None (mapped_never Work (work_words words) (λ x e. cc)) (λ e. cc)))))))))
+    (never_of (bytes_eq name (codes "work")) _ _ (mapped_never Work (work_words words) (λ x e. cc))
+    (never_of (bytes_eq name (codes "qmqpd")) _ None (mapped_never Qmqpd (qmqpd_words words) (λ x e. cc)) (λ e. cc))))))))))
 
 by_tests : (play takes : Bool) (other : Option Command) (name : List ℕ) → Decides play (name ≡ codes "play") → other ≢ Some Play → cond play (cond takes (Some Play) None) other ≡ Some Play
     → (Some name ≡ Some (codes "play")) × (takes ≡ true)

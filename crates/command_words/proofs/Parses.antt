@@ -9,13 +9,14 @@ use Rattle.clap.specs.declared.parser.matches.ArgMatches.{ArgMatches}
 use Rattle.clap.specs.declared.parser.matches.Found.{Found}
 use Rattle.clap.proofs.WalkLemmas.{first_value-rows}
 use Rattle.call_fs.specs.declared.past.DeliveryWordsData.{DeliveryWordsData}
-use Rattle.command_words.specs.Lines.{local_line, make_line, play_line, queue_line, rspawn_line, send_line, takes_words, work_line}
+use Rattle.command_words.specs.Lines.{local_line, make_line, play_line, qmqpd_line, queue_line, rspawn_line, send_line, takes_words, work_line}
 use Rattle.command_words.specs.declared.command.Command.TheVariants.{Play, Queue}
+use Rattle.command_words.specs.declared.command.QmqpdWords.{QmqpdWords}
 use Rattle.command_words.specs.declared.command.QueueWords.{QueueWords}
 use Rattle.command_words.specs.declared.command.RspawnWords.{RspawnWords}
 use Rattle.command_words.specs.Delivery.{delivery_told, local_told, local_told_by, local_words, marked, told_as}
 use Rattle.command_words.specs.Numbers.{number_below, turns_of, uid_of, threads_of}
-use Rattle.command_words.specs.Reads.{dir_words, env_of, is_on, make_words, maker_told, maker_told_by, play_words, queue_words, rspawn_words, send_words, sender_told, sender_told_by, spawner_told, spawner_told_by, told, told_by, work_words}
+use Rattle.command_words.specs.Reads.{dir_words, env_of, is_on, make_words, maker_told, maker_told_by, play_words, qmqpd_words, queue_words, receiver_told, receiver_told_by, rspawn_words, send_words, sender_told, sender_told_by, spawner_told, spawner_told_by, told, told_by, work_words}
 
 -- an `Ok` says that no step failed
 pub taken : (a line : App) (words : List Text) (m : ArgMatches) → a ≡ line → is_simple_and_free line ≡ true → (is_simple_and_free a ≡ true → FailsBy (fault_of a words) (Ok m)) → takes_words line words ≡ true
@@ -181,6 +182,26 @@ work_read words found threads number takes is read told =
 pub work_refused : (words : List Text) → takes_words work_line words ≡ false → work_words words ≡ None
 unfolding work_words
 work_refused words refuses = ap (λ t. cond t (threads_of (first_of (codes "threads") (matches_of work_line words))) None) refuses
+
+-- the words of `qmqpd` that are taken tell it what clap found; what it is told, by what the getters of the matches read
+pub qmqpd_read : (words : List Text) (rows : List Row) → takes_words qmqpd_line words ≡ true → rows ≡ matches_of qmqpd_line words → qmqpd_words words ≡ receiver_told_by rows
+unfolding qmqpd_words
+qmqpd_read words rows takes is = ap (λ t. cond t (receiver_told_by (matches_of qmqpd_line words)) None) takes ∙ ap receiver_told_by (sym is)
+
+pub qmqpd_refused : (words : List Text) → takes_words qmqpd_line words ≡ false → qmqpd_words words ≡ None
+unfolding qmqpd_words
+qmqpd_refused words refuses = ap (λ t. cond t (receiver_told_by (matches_of qmqpd_line words)) None) refuses
+
+pub receiver_found : (found : Found) (dir uid : Option Text) (number : Option ℕ) → dir ≡ first_value found (codes "dir") → uid ≡ first_value found (codes "uid") → number ≡ uid_of uid
+    → receiver_told_by (rows_of found) ≡ receiver_told dir number
+receiver_found found dir uid number d u n =
+    ap (λ x. receiver_told x (uid_of (first_of (codes "uid") (rows_of found)))) (sym (d ∙ first_value-rows found (codes "dir")))
+    ∙ ap (λ x. receiver_told dir (uid_of x)) (sym (u ∙ first_value-rows found (codes "uid")))
+    ∙ ap (receiver_told dir) (sym n)
+
+pub no_receiver : (dir : Option Text) → receiver_told dir None ≡ None
+no_receiver None = refl
+no_receiver (Some dir) = refl
 
 -- the words of `local` that are taken tell it what clap found; what it is told, by what the getters of the matches read
 pub local_read : (words : List Text) (rows : List Row) → takes_words local_line words ≡ true → rows ≡ matches_of local_line words → local_words words ≡ local_told_by rows

@@ -5,18 +5,19 @@ use Rattle.mail_bytes.specs.Decimal.{number_of}
 use Rattle.clap.specs.Words.{first_of, matches_of}
 use Rattle.clap.specs.Walk.{Text}
 use Rattle.command_words.specs.declared.command.Command.{Command}
-use Rattle.command_words.specs.declared.command.Command.TheVariants.{Play, Make, Queue, Send, Audit, Clean, Lspawn, Rspawn, Local, Work}
+use Rattle.command_words.specs.declared.command.Command.TheVariants.{Play, Make, Queue, Qmqpd, Send, Audit, Clean, Lspawn, Rspawn, Local, Work}
 use Rattle.command_words.specs.declared.command.MakeWords.{MakeWords}
 use Rattle.command_words.specs.Delivery.{local_words}
 use Rattle.command_words.specs.Lines.{audit_line, clean_line, lspawn_line, make_line, play_line, queue_line, takes_words, work_line}
 use Rattle.command_words.specs.Numbers.{as_below, as_threads, number_below, threads_of}
-use Rattle.command_words.specs.Reads.{Reads, command_named, command_of, dir_words, make_words, maker_told, others_named, play_words, queue_words, rspawn_words, send_words, told_by, work_words}
+use Rattle.command_words.specs.Reads.{Reads, command_named, command_of, dir_words, make_words, maker_told, others_named, play_words, qmqpd_words, queue_words, rspawn_words, send_words, told_by, work_words}
 
 abbrev InRange : Option Command → Type 0
 InRange None = Unit {0}
 InRange (Some Play) = Unit {0}
 InRange (Some (Make told)) = (told.seed ≤ 65536) × (told.count ≤ 100000)
 InRange (Some (Queue told)) = Unit {0}
+InRange (Some (Qmqpd told)) = Unit {0}
 InRange (Some (Send told)) = Unit {0}
 InRange (Some (Audit dir)) = Unit {0}
 InRange (Some (Clean dir)) = Unit {0}
@@ -101,7 +102,8 @@ others_in name words =
     (by_choice (bytes_eq name (codes "rspawn")) _ _ (mapped Rspawn (rspawn_words words) (λ x. tt))
     (by_choice (bytes_eq name (codes "local")) _ _ (mapped Local (local_words words) (λ x. tt))
     (by_choice (bytes_eq name (codes "make")) _ _ (make_in words)
-    (by_choice (bytes_eq name (codes "work")) _ None (work_in words) tt))))))))
+    (by_choice (bytes_eq name (codes "work")) _ _ (work_in words)
+    (by_choice (bytes_eq name (codes "qmqpd")) _ None (mapped Qmqpd (qmqpd_words words) (λ x. tt)) tt)))))))))
 
 named_in : (first : Option Text) (words : List Text) → InRange (command_named first words)
 named_in None words = tt

@@ -26,6 +26,10 @@ abbrev pub queue_line : App
 queue_line =
     with_rule (with_rule (with_rule (with_rule (new_app (codes "queue")) (word_rule (codes "env"))) (word_rule (codes "dir"))) (option_rule (codes "uid"))) (flag_rule (codes "bounce"))
 
+-- `qmqpd DIR --uid N`
+abbrev pub qmqpd_line : App
+qmqpd_line = with_rule (with_rule (new_app (codes "qmqpd")) (word_rule (codes "dir"))) (option_rule (codes "uid"))
+
 -- `audit DIR`
 abbrev pub audit_line : App
 audit_line = with_rule (new_app (codes "audit")) (word_rule (codes "dir"))

@@ -1,7 +1,7 @@
 -- The places that words name, the channels of a command, and as which member of a generation it runs.
 use Rattle.std.specs.Prelude.{Option, Some, None}
 use Rattle.command_words.specs.declared.command.Command.{Command}
-use Rattle.command_words.specs.declared.command.Command.TheVariants.{Play, Make, Queue, Send, Audit, Clean, Lspawn, Rspawn, Local, Work}
+use Rattle.command_words.specs.declared.command.Command.TheVariants.{Play, Make, Queue, Qmqpd, Send, Audit, Clean, Lspawn, Rspawn, Local, Work}
 use Rattle.command_words.specs.declared.command.Channels.{Channels}
 use Rattle.command_words.specs.declared.command.Channels.TheVariants.{Nothing, Children, InputAndChildren, Links}
 use Rattle.command_words.specs.declared.command.Member.{Member}
@@ -16,6 +16,7 @@ places_of (Some Play) = record { env = None; dir = None }
 places_of (Some (Make maker)) = record { env = None; dir = None }
 places_of (Some (Work threads)) = record { env = None; dir = None }
 places_of (Some (Queue queue)) = record { env = queue.env; dir = Some queue.dir }
+places_of (Some (Qmqpd receiver)) = record { env = None; dir = Some receiver.dir }
 places_of (Some (Send sender)) = record { env = None; dir = Some sender.dir }
 places_of (Some (Audit dir)) = record { env = None; dir = Some dir }
 places_of (Some (Clean dir)) = record { env = None; dir = Some dir }
@@ -31,6 +32,7 @@ channels_of (Some Play) = Nothing
 channels_of (Some (Make maker)) = Nothing
 channels_of (Some (Work threads)) = Nothing
 channels_of (Some (Queue queue)) = Nothing
+channels_of (Some (Qmqpd receiver)) = Nothing
 channels_of (Some (Send sender)) = Links
 channels_of (Some (Audit dir)) = Nothing
 channels_of (Some (Clean dir)) = Nothing
@@ -45,6 +47,7 @@ member_of (Some Play) = None
 member_of (Some (Make maker)) = None
 member_of (Some (Work threads)) = None
 member_of (Some (Queue queue)) = None
+member_of (Some (Qmqpd receiver)) = None
 member_of (Some (Send sender)) = Some as_member.Send
 member_of (Some (Audit dir)) = None
 member_of (Some (Clean dir)) = Some as_member.Clean

@@ -4,14 +4,15 @@ use Rattle.std.specs.Option.{option_map_or}
 use Rattle.std.specs.Str.{bytes_eq}
 use Rattle.clap.specs.Words.{App, Row, Text, first_of, matches_of}
 use Rattle.command_words.specs.declared.command.Command.{Command}
-use Rattle.command_words.specs.declared.command.Command.TheVariants.{Play, Make, Queue, Send, Audit, Clean, Lspawn, Rspawn, Local, Work}
+use Rattle.command_words.specs.declared.command.Command.TheVariants.{Play, Make, Queue, Qmqpd, Send, Audit, Clean, Lspawn, Rspawn, Local, Work}
 use Rattle.command_words.specs.declared.command.MakeWords.{MakeWords}
+use Rattle.command_words.specs.declared.command.QmqpdWords.{QmqpdWords}
 use Rattle.command_words.specs.declared.command.QueueWords.{QueueWords}
 use Rattle.command_words.specs.declared.command.RspawnWords.{RspawnWords}
 use Rattle.command_words.specs.declared.command.SendWords.{SendWords}
 use Rattle.command_words.specs.Delivery.{local_words}
 use Rattle.command_words.specs.Numbers.{number_below, turns_of, uid_of, threads_of}
-use Rattle.command_words.specs.Lines.{audit_line, clean_line, lspawn_line, make_line, play_line, queue_line, rspawn_line, send_line, takes_words, work_line}
+use Rattle.command_words.specs.Lines.{audit_line, clean_line, lspawn_line, make_line, play_line, qmqpd_line, queue_line, rspawn_line, send_line, takes_words, work_line}
 
 -- the file of the envelope; `-` is none
 abbrev pub env_of : Text → Option Text
@@ -38,6 +39,19 @@ play_words words = if takes_words play_line words then Some Play else None
 -- the words after the name `queue`, whatever the first word is
 unfoldable pub queue_words : List Text → Option Command
 queue_words words = if takes_words queue_line words then option_map Queue (told_by (matches_of queue_line words)) else None
+
+-- what `qmqpd` is told, if the directory stands and the user is a number
+abbrev pub receiver_told : Option Text → Option ℕ → Option QmqpdWords
+receiver_told (Some dir) (Some uid) = Some (record { dir = dir; uid = uid })
+receiver_told _ _ = None
+
+-- the same, of what clap found
+abbrev pub receiver_told_by : List Row → Option QmqpdWords
+receiver_told_by rows = receiver_told (first_of (codes "dir") rows) (uid_of (first_of (codes "uid") rows))
+
+-- the words after the name `qmqpd`, whatever the first word is
+unfoldable pub qmqpd_words : List Text → Option QmqpdWords
+qmqpd_words words = if takes_words qmqpd_line words then receiver_told_by (matches_of qmqpd_line words) else None
 
 -- the directory that the words after a name tell, by the simple command that has that name
 unfoldable pub dir_words : App → List Text → Option Text
@@ -96,7 +110,8 @@ others_named name words = if bytes_eq name (codes "queue") then queue_words word
     else (if bytes_eq name (codes "rspawn") then option_map Rspawn (rspawn_words words)
     else (if bytes_eq name (codes "local") then option_map Local (local_words words)
     else (if bytes_eq name (codes "make") then option_map Make (make_words words)
-    else (if bytes_eq name (codes "work") then option_map Work (work_words words) else None))))))))
+    else (if bytes_eq name (codes "work") then option_map Work (work_words words)
+    else (if bytes_eq name (codes "qmqpd") then option_map Qmqpd (qmqpd_words words) else None)))))))))
 
 -- the command that the first word names
 abbrev pub command_named : Option Text → List Text → Option Command

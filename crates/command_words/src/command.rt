@@ -14,6 +14,8 @@ pub enum Command {
     Make(MakeWords),
     /// `queue`: puts a message into a queue.
     Queue(QueueWords),
+    /// `qmqpd`: takes a message in one package, and puts it into a queue.
+    Qmqpd(QmqpdWords),
     /// `send`: runs the sender, with its cleaner and its spawners.
     Send(SendWords),
     /// `audit`: prints what a queue holds; with the directory of the queue.
@@ -50,6 +52,15 @@ pub struct QueueWords {
     pub uid: u32,
     /// Whether the message is a bounce.
     pub bounce: bool,
+}
+
+/// What `qmqpd` is told.
+#[derive(Drop)]
+pub struct QmqpdWords {
+    /// The directory of the queue.
+    pub dir: ByteText,
+    /// The number of the user who sends; 0 if none is told.
+    pub uid: u32,
 }
 
 /// What `send` is told.

@@ -22,6 +22,10 @@ pub fn places(alloc: Global, words: &[String]) -> Result<Places, Memory>
             env: None,
             dir: Some(dir),
         }),
+        Ok(Command::Qmqpd(receiver)) => Ok(Places {
+            env: None,
+            dir: Some(receiver.dir),
+        }),
         Ok(Command::Send(sender)) => Ok(Places {
             env: None,
             dir: Some(sender.dir),

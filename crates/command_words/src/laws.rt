@@ -4,7 +4,7 @@ ghost use Rattle.call_fs.specs.declared.past.DeliveryWordsData.{DeliveryWordsDat
 ghost use Rattle.mail_bytes.specs.Decimal.{digits};
 ghost use Rattle.command_words.specs.declared.command.Command.{Command as Told};
 ghost use Rattle.command_words.specs.declared.command.MakeWords.{MakeWords};
-ghost use Rattle.command_words.specs.declared.command.Command.TheVariants.{Play, Make, Queue, Send, Audit, Clean, Lspawn, Rspawn, Local, Work};
+ghost use Rattle.command_words.specs.declared.command.Command.TheVariants.{Play, Make, Queue, Qmqpd, Send, Audit, Clean, Lspawn, Rspawn, Local, Work};
 ghost use Rattle.command_words.specs.Delivery.{HasBytes, delivery_words};
 ghost use Rattle.command_words.specs.Lines.{play_line, takes_words};
 ghost use Rattle.command_words.specs.Reads.{IsNoCommand, IsNoOption, Reads};
@@ -27,6 +27,11 @@ pub fn words_by_row()
         (Queue (record { env = Some (codes "ENV"); dir = codes "DIR"; uid = 0; bounce = false })) }
     ensures options { Reads (codes "queue" ∷ codes "--bounce" ∷ codes "-" ∷ codes "--uid" ∷ codes "7" ∷ codes "DIR" ∷ [])
         (Queue (record { env = None; dir = codes "DIR"; uid = 7; bounce = true })) }
+    ensures qmqpd { Reads (codes "qmqpd" ∷ codes "DIR" ∷ []) (Qmqpd (record { dir = codes "DIR"; uid = 0 })) }
+    ensures qmqpd_user { Reads (codes "qmqpd" ∷ codes "DIR" ∷ codes "--uid" ∷ codes "1000" ∷ [])
+        (Qmqpd (record { dir = codes "DIR"; uid = 1000 })) }
+    ensures qmqpd_no_directory { IsNoCommand (codes "qmqpd" ∷ []) }
+    ensures qmqpd_zero { IsNoCommand (codes "qmqpd" ∷ codes "DIR" ∷ codes "--uid" ∷ codes "01" ∷ []) }
     ensures send { Reads (codes "send" ∷ codes "DIR" ∷ codes "PROGRAM" ∷ codes "--turns" ∷ codes "5" ∷ [])
         (Send (record { dir = codes "DIR"; program = codes "PROGRAM"; turns = 5 })) }
     ensures turns_first { Reads (codes "send" ∷ codes "--turns=1000000" ∷ codes "--" ∷ codes "DIR" ∷ codes "-p" ∷ [])

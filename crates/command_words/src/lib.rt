@@ -10,6 +10,7 @@
 //! | `play` | plays a script |
 //! | `make SEED COUNT` | makes a script with COUNT mails, drawn from SEED; up to 100,000 of them, and a seed up to 65,536 |
 //! | `queue ENV DIR --uid N --bounce` | puts a message into the queue of DIR, as qmail-queue(8) |
+//! | `qmqpd DIR --uid N` | takes a message in one package, and puts it into the queue of DIR, as qmail-qmqpd(8) |
 //! | `send DIR PROGRAM --turns N` | runs the sender of the queue of DIR for N turns, from 1 to 1,000,000, as qmail-send(8) |
 //! | `audit DIR` | prints what the queue of DIR holds |
 //! | `clean DIR` | runs the cleaner over the queue of DIR |
@@ -37,12 +38,13 @@ mod laws;
 mod lines;
 mod maker;
 mod read;
+mod receiver;
 mod sender;
 mod threads;
 
 pub use command::{
-    Channels, Command, LocalWords, MakeWords, Member, Places, QueueWords, RspawnWords, SendWords,
-    WordsError,
+    Channels, Command, LocalWords, MakeWords, Member, Places, QmqpdWords, QueueWords, RspawnWords,
+    SendWords, WordsError,
 };
 pub use given::{channels, member, places};
 pub use laws::{

@@ -1,7 +1,7 @@
 // The simple `clap` commands.
 ghost use Rattle.std.specs.Prelude.{◌≡◌, IfOk};
 ghost use Rattle.clap.specs.Words.{app_of};
-ghost use Rattle.command_words.specs.Lines.{audit_line, clean_line, local_line, lspawn_line, make_line, play_line, queue_line, rspawn_line, send_line, with_program, with_word, work_line};
+ghost use Rattle.command_words.specs.Lines.{audit_line, clean_line, local_line, lspawn_line, make_line, play_line, qmqpd_line, queue_line, rspawn_line, send_line, with_program, with_word, work_line};
 
 use clap::builder::ValueParser;
 use clap::{Arg, ArgAction, Command};
@@ -28,6 +28,13 @@ pub fn queue_line<'a>(alloc: Global) -> Result<Command<'a>, Memory>
                 .long("bounce")
                 .action(ArgAction::SetTrue),
         )
+}
+
+/// The words of `qmqpd`. The error: out of memory.
+pub fn qmqpd_line<'a>(alloc: Global) -> Result<Command<'a>, Memory>
+    ensures { IfOk result (λ line. app_of line ≡ qmqpd_line) }
+{
+    with_word(alloc, Command::new(alloc, "qmqpd"), "dir")?.arg(Arg::new(alloc, "uid").long("uid"))
 }
 
 /// The words of `audit`. The error: out of memory.

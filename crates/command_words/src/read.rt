@@ -9,6 +9,7 @@ ghost use Rattle.command_words.specs.Numbers.{uid_of};
 use crate::delivery::read_local;
 use crate::lines::{audit_line, clean_line, lspawn_line, play_line, queue_line, rspawn_line};
 use crate::maker::read_make;
+use crate::receiver::read_qmqpd;
 use crate::sender::read_send;
 use crate::threads::read_work;
 use crate::{Command, QueueWords, RspawnWords, WordsError};
@@ -60,6 +61,10 @@ pub fn read_words(alloc: Global, words: &[String]) -> Result<Command, WordsError
         },
         "work" => match read_work(alloc, words) {
             Ok(threads) => Ok(Command::Work(threads)),
+            Err(why) => Err(why),
+        },
+        "qmqpd" => match read_qmqpd(alloc, words) {
+            Ok(receiver) => Ok(Command::Qmqpd(receiver)),
             Err(why) => Err(why),
         },
         _ => Err(WordsError::Usage),

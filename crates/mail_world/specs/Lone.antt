@@ -1,5 +1,8 @@
 -- What an actor of the class `Lone` may take and give. It starts alone with its whole input, which lies in its pipe, shut: nobody adds to it.
 -- It gives to nobody: what it gave is told by its own past, whatever became of it since.
+-- No program has this class yet, and nothing ties the class to `begins_lone` before one has: of the class alone it is known that it may start
+-- alone and is no member, and `happens` leaves the pipes as they are at a start. The first such program brings the case of `happens` that goes by
+-- `begins_lone`. What is said below holds of `begins_lone` and of events as they are.
 use Rattle.std.specs.Prelude.{◌≡◌, ◌≢◌, ◌⊎◌, ℕ, List, [], ◌∷◌, ◌++◌, bytes_eq, false, if◌then◌else◌, true, Option, Some, None}
 use Rattle.call_fs.specs.declared.past.GotData.{GotData}
 use Rattle.call_fs.specs.declared.past.GotData.TheVariants.{Took, Gave}
@@ -15,7 +18,7 @@ use Rattle.mail_world.specs.History.{Actor, Allowed, Event, MayRun, State, begin
 use Rattle.mail_world.specs.History.Event.{Act}
 use Rattle.mail_world.specs.Untouched.{is_halt}
 
--- what may be due to it: a file call, its input, its output, or its end
+-- what may be due to it: a file call, its input, its output, its end, or to wait
 abbrev pub IsLoneNeed : NeedData → Type 0
 IsLoneNeed (needs.File call) = Unit {0}
 IsLoneNeed (needs.Take port.Input) = Unit {0}

@@ -66,22 +66,14 @@ impl AnyMachine {
         requires { IsTrue (looked_of self.now) }
         ensures { result ≡ searches self.now }
     {
-        match self {
-            AnyMachine::Send(sender) => sender.get().is_searching(),
-            AnyMachine::Mail(_) | AnyMachine::Clean(_) | AnyMachine::Local(_) => false,
-            AnyMachine::Remote(_) | AnyMachine::Deliver(_) | AnyMachine::Over => false,
-        }
+        matches!(self, AnyMachine::Send(sender) if sender.get().is_searching())
     }
 
     /// Whether it is an injector whose input isn't given yet, and may still be.
     pub fn awaits(&self) -> bool
         ensures { result ≡ awaits_of self.now }
     {
-        match self {
-            AnyMachine::Mail(injector) => injector.get().awaits(),
-            AnyMachine::Clean(_) | AnyMachine::Send(_) | AnyMachine::Local(_) => false,
-            AnyMachine::Remote(_) | AnyMachine::Deliver(_) | AnyMachine::Over => false,
-        }
+        matches!(self, AnyMachine::Mail(injector) if injector.get().awaits())
     }
 
     /// It is given its input: this message and this envelope. Takes no memory. The condition: it awaits it.
@@ -89,10 +81,8 @@ impl AnyMachine {
         requires { IsTrue (awaits_of self.old) }
         ensures given { IsGiven message envelope self.old self.new }
     {
-        match self {
-            AnyMachine::Mail(injector) => injector.get_mut().give(message, envelope),
-            AnyMachine::Clean(_) | AnyMachine::Send(_) | AnyMachine::Local(_) => {}
-            AnyMachine::Remote(_) | AnyMachine::Deliver(_) | AnyMachine::Over => {}
+        if let AnyMachine::Mail(injector) = self {
+            injector.get_mut().give(message, envelope);
         }
     }
 
@@ -101,10 +91,8 @@ impl AnyMachine {
         ensures stands { (program : Runs) (past : List Own) → Follows self.old program past → Follows self.new program past }
         ensures over { awaits_of self.new ≡ false }
     {
-        match self {
-            AnyMachine::Mail(injector) => injector.get_mut().cut(),
-            AnyMachine::Clean(_) | AnyMachine::Send(_) | AnyMachine::Local(_) => {}
-            AnyMachine::Remote(_) | AnyMachine::Deliver(_) | AnyMachine::Over => {}
+        if let AnyMachine::Mail(injector) = self {
+            injector.get_mut().cut();
         }
     }
 
@@ -112,11 +100,7 @@ impl AnyMachine {
     pub fn is_through(&self) -> bool
         ensures { result ≡ is_through self.now }
     {
-        match self {
-            AnyMachine::Send(sender) => sender.get().is_between(),
-            AnyMachine::Mail(_) | AnyMachine::Clean(_) | AnyMachine::Local(_) => false,
-            AnyMachine::Remote(_) | AnyMachine::Deliver(_) | AnyMachine::Over => false,
-        }
+        matches!(self, AnyMachine::Send(sender) if sender.get().is_between())
     }
 }
 

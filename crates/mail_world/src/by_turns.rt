@@ -1,5 +1,4 @@
 // A world whose actors are stepped in turn.
-ghost use Rattle.std.specs.Prelude.{◌≡◌, ◌↔◌, Err, IsTrue};
 
 use crate::{ActorName, Did, World, WorldError};
 use call_fs::CallFs;
@@ -23,16 +22,9 @@ impl<D: CallFs> Stepped for World<D> {
         actor: ActorName,
     ) -> Result<Result<Did, WorldError>, Memory> {
         let answer = self.step(alloc, &actor);
-        if lacked_memory(&answer) {
+        if matches!(answer, Err(WorldError::Memory)) {
             return Err(AllocError);
         }
         Ok(answer)
     }
-}
-
-/// Whether there was no memory for a step.
-fn lacked_memory(answer: &Result<Did, WorldError>) -> bool
-    ensures { IsTrue result ↔ (answer.now ≡ Err WorldError.Memory) }
-{
-    matches!(answer, Err(WorldError::Memory))
 }

@@ -78,6 +78,8 @@ pub mod Exist
 pub mod Controls
 -- nobody changes a control file
 pub mod ControlsStay
+-- what a sender has read of the control files
+pub mod ControlsRead
 -- what rows do to the requests that lie ready
 pub mod AskingRows
 -- the requests that lie ready

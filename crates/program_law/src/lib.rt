@@ -10,7 +10,7 @@
 //! - `errands`: what is under way between a sender and its cleaner. A cleaner takes only old names in `pid` away: `old_names_go`.
 //! - `posts`: what lies between a sender and a spawner, and of which attempt each report is.
 //! - `senders`: what a living sender relies on. Each disk has controls, and no program of the queue changes a control file:
-//!   `controls_exist`, `controls_stay`.
+//!   `controls_exist`, `controls_stay`. A sender reads them as they are: `controls_are_read`.
 #![tactic(auto)]
 
 pub mod channels;

@@ -69,7 +69,9 @@
 //! - If each control file was there at the beginning and is on the disk, they stay as they are over a machine stop.
 //!   So they do by each step that leaves what isn't the queue's and what was there at the beginning, also by one
 //!   that takes a name in `pid` away. One that a name in `pid` leads to as well is no exception: the law
-//!   `controls_stay` (by `AreOld`, `LeavesControls`).
+//!   `controls_stay` (by `AreOld`, `LeavesControls`). A sender reads them as they are, whatever is answered: when it
+//!   has read all twelve, none of them is bad and its controls are what they say. What others do leaves what it has
+//!   read so far: the law `controls_are_read` (by `ControlStands`, `TheySay`).
 //! - The requests that lie ready are those of the attempts still to be given, each with the sender of its message's
 //!   injection; each message that is due is known. So it is at a sender's begin, after each event of it, after a
 //!   recipient is entered, and after a step of another actor that leaves alone what is preprocessed. So each giving
@@ -79,7 +81,7 @@
 ghost use Rattle.program_law.specs.Sender.Asking.{RequestsAreTexts, TextsKeep};
 ghost use Rattle.program_law.specs.Sender.Commands.{CleanersGoOn, WaitingRestsOn};
 ghost use Rattle.program_law.specs.Sender.Control.{ControlsExist};
-ghost use Rattle.program_law.specs.Sender.ControlFiles.{ControlsStay};
+ghost use Rattle.program_law.specs.Sender.ControlFiles.{ControlsAreRead, ControlsStay};
 ghost use Rattle.program_law.specs.Sender.Laws.{SendersArrive, SendersBegin, SortedIsLeftAlone};
 ghost use Rattle.program_law.specs.Sender.LeftAlone.{SendersAreLeftAlone};
 ghost use Rattle.program_law.specs.Sender.Marking.{MarksKeep};
@@ -246,6 +248,11 @@ pub fn others_spare()
 /// No program of the queue changes a control file, and none is lost in a machine stop.
 pub fn controls_stay()
     ensures { ControlsStay }
+{}
+
+/// A sender reads the control files as they are: when it has read them all, none of them is bad, and it has the controls that they say.
+pub fn controls_are_read()
+    ensures { ControlsAreRead }
 {}
 
 /// The requests that lie ready are those of the attempts still to be given, with the sender of the message as it is now: at first, after

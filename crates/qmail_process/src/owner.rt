@@ -69,7 +69,7 @@ fn status_of(name: &str) -> Option<u8>
     ensures { IfSome result IsRefusal }
 {
     match name {
-        "queue" => Some(IN_PID),
+        "queue" | "qmqpd" => Some(IN_PID),
         "send" => Some(NO_START),
         "clean" | "lspawn" | "rspawn" => Some(INPUT),
         "local" => Some(TEMPORARY),

@@ -10,6 +10,8 @@ pub mod Spawners
 pub mod Senders
 -- what `make` comes to
 pub mod Made
+-- what `qmqpd` comes to
+pub mod Packages
 -- what turns of threads made of a script's world
 pub mod Working
 -- what the command `work` did

@@ -4,6 +4,7 @@ use Rattle.std.specs.declared.alloc.Global.{Global}
 use Rattle.mail_bytes.specs.Told.{Rose, Meets, OnTold}
 use Rattle.command_words.specs.declared.command.LocalWords.{LocalWords}
 use Rattle.command_words.specs.declared.command.MakeWords.{MakeWords}
+use Rattle.command_words.specs.declared.command.QmqpdWords.{QmqpdWords}
 use Rattle.command_words.specs.declared.command.QueueWords.{QueueWords}
 use Rattle.command_words.specs.declared.command.RspawnWords.{RspawnWords}
 use Rattle.command_words.specs.declared.command.SendWords.{SendWords}
@@ -16,6 +17,7 @@ use Rattle.program_runner.specs.Members.{uncounted}
 use Rattle.program_runner.specs.Outside.{Outside as Around}
 use Rattle.queue_command.specs.Inputs.{Stream}
 use Rattle.queue_command.specs.Runs.{Outside as Injecting}
+use Rattle.qmqp_server.specs.Received.{Sunk}
 use Rattle.local_command.specs.Done.{Children}
 use Rattle.send_command.specs.Sent.{Logged}
 use Rattle.queue_limits.specs.declared.statuses.TheConstants.{DONE, INPUT, MALFORMED, MEMORY, NO_START, OUTPUT, USAGE}
@@ -24,11 +26,14 @@ use Rattle.qmail_top.specs.Families.{Family, HasNoChannels, HasSent, IsDelivery,
 use Rattle.qmail_top.specs.Making.{HasMade, IsMake, IsMaker}
 use Rattle.qmail_top.specs.SafePlays.{IsSafePrefixAtMost, PrintsSafely}
 use Rattle.qmail_top.specs.Works.{IsWork}
-use Rattle.qmail_top.specs.Command.{IsPlay, IsPrintedAtEnd, IsQueue, IsAudit, IsClean, HasRunQueue, NoneFailed, WasCleaned, usage_line}
+use Rattle.qmail_top.specs.Command.{IsPlay, IsPrintedAtEnd, IsQueue, IsAudit, IsClean, IsQmqpd, HasRunQmqpd, HasRunQueue, NoneFailed, WasCleaned, usage_line}
 
--- what each command sees of what is lent: the output; a source; the disk and the clock of an injection
+-- what each command sees of what is lent: the output, also as a sink; a source; the disk and the clock of an injection
 abbrev pub printed : Lent → Lent → Output
 printed old new = record { old = old.out.taken; new = new.out.taken; faults_old = old.out.faults; faults_new = new.out.faults }
+
+abbrev pub sunk : Lent → Lent → Sunk
+sunk old new = record { old = old.out.taken; new = new.out.taken; faults_old = old.out.faults; faults_new = new.out.faults }
 
 abbrev pub streamed : SourceLent → SourceLent → Stream
 streamed old new = record { old = old.left; new = new.left; faults_old = old.faults; faults_new = new.faults }
@@ -70,6 +75,8 @@ pub record Called (words : List (String Global)) (old new : Lent) (status : ℕ)
   pub usage_line : IsNoCommand (map string_bytes words) → status ≡ USAGE → Meets old.log.taken new.log.taken (λ before after. (text : List ℕ) × IsTakenText usage_line text (Rose old.log.faults new.log.faults) × (after ≡ before ++ text))
   pub make : (m : MakeWords) → IsMake words m → HasMade m (printed old new) status
   pub queue : (q : QueueWords) → IsQueue words q → HasRunQueue q old.pid (streamed old.message new.message) (streamed old.envelope new.envelope) (injecting old) (injecting new) status
+  pub qmqpd : (w : QmqpdWords) → IsQmqpd words w → HasRunQmqpd w old.pid (streamed old.message new.message) (injecting old) (injecting new) (sunk old new) status
+  pub qmqpd_beside : (w : QmqpdWords) → IsQmqpd words w → new.envelope ≡ old.envelope
   pub audit : IsAudit words → HasAudited (record { disk = old.disk; calls = old.calls; faults = old.disk_faults }) (record { disk = new.disk; calls = new.calls; faults = new.disk_faults }) (printed old new) status
   pub audit_unwritten : IsAudit words → (status ≡ MEMORY) ⊎ (status ≡ INPUT) → new.out ≡ old.out
   pub clean : IsClean words → WasCleaned (around old) (around new) status

@@ -2,7 +2,8 @@
 use Rattle.std.specs.Prelude.{◌≡◌, ◌⊎◌, ℕ, ◌<◌, List, [], ◌∷◌, ◌++◌, length, map, codes, Bool, false, Option, Some, None, if◌then◌else◌, String, string_bytes, Result, Ok, Err}
 use Rattle.std.specs.declared.alloc.Global.{Global}
 use Rattle.mail_bytes.specs.Told.{OnTold, Rose}
-use Rattle.command_words.specs.declared.command.Command.TheVariants.{Play, Queue, Audit, Clean}
+use Rattle.command_words.specs.declared.command.Command.TheVariants.{Play, Queue, Qmqpd, Audit, Clean}
+use Rattle.command_words.specs.declared.command.QmqpdWords.{QmqpdWords}
 use Rattle.command_words.specs.declared.command.QueueWords.{QueueWords}
 use Rattle.command_words.specs.Reads.{Reads}
 use Rattle.received_line.specs.declared.line.Invoked.{Invoked}
@@ -14,17 +15,21 @@ use Rattle.queue_command.specs.declared.input.Form.TheVariants.{Beside, Netstrin
 use Rattle.queue_command.specs.Inputs.{Stream}
 use Rattle.queue_command.specs.Runs.{Outside}
 use Rattle.queue_command.specs.Injected.{HasInjected}
+use Rattle.qmqp_server.specs.Received.{HasReceived, Sunk}
 use Rattle.script_lines.specs.Lines.{IsRefused, most_bytes}
 use Rattle.qmail_top.specs.declared.play_command.Failure.{Failure}
 use Rattle.qmail_top.specs.declared.play_command.Failure.TheVariants.{Memory, Output, Input, Malformed}
 use Rattle.queue_limits.specs.declared.statuses.TheConstants.{INPUT, MALFORMED, MEMORY, OUTPUT}
 
--- the words are `play`, `queue` with what it is told, or `audit` with a directory
+-- the words are `play`, `queue` or `qmqpd` with what it is told, or `audit` with a directory
 abbrev pub IsPlay : List (String Global) → Type 0
 IsPlay words = Reads (map string_bytes words) Play
 
 abbrev pub IsQueue : List (String Global) → QueueWords → Type 0
 IsQueue words queue = Reads (map string_bytes words) (Queue queue)
+
+abbrev pub IsQmqpd : List (String Global) → QmqpdWords → Type 0
+IsQmqpd words told = Reads (map string_bytes words) (Qmqpd told)
 
 abbrev pub IsAudit : List (String Global) → Type 0
 IsAudit words = (dir : List ℕ) × Reads (map string_bytes words) (Audit dir)
@@ -54,6 +59,10 @@ usage_line = codes "usage" ++ 10 ∷ []
 abbrev pub HasRunQueue : QueueWords → ℕ → Stream → Stream → Outside → Outside → ℕ → Type 0
 HasRunQueue queue pid message envelope old new status =
     HasInjected (record { uid = queue.uid; pid = pid; invoked = invoked_by queue }) (form_of queue.env) message envelope old new status
+
+-- The command `qmqpd` was done by this process; without memory for its words nothing was.
+abbrev pub HasRunQmqpd : QmqpdWords → ℕ → Stream → Outside → Outside → Sunk → ℕ → Type 0
+HasRunQmqpd told pid message old new sink status = HasReceived (record { uid = told.uid; pid = pid; invoked = Uid told.uid }) message old new sink status
 
 -- the exit status of a failure
 abbrev pub status_of : Failure → ℕ

@@ -3,6 +3,7 @@ ghost use Rattle.std.specs.Prelude.{◌≡◌, ◌≢◌, ◌⊎◌, ◌++◌, �
 ghost use Rattle.mail_bytes.specs.Told.{Rose, Meets, OnTold};
 ghost use Rattle.command_words.specs.declared.command.LocalWords.{LocalWords as Told};
 ghost use Rattle.command_words.specs.declared.command.MakeWords.{MakeWords as Makes};
+ghost use Rattle.command_words.specs.declared.command.QmqpdWords.{QmqpdWords as Receives};
 ghost use Rattle.command_words.specs.declared.command.QueueWords.{QueueWords as Wanted};
 ghost use Rattle.command_words.specs.declared.command.RspawnWords.{RspawnWords as Spawns};
 ghost use Rattle.command_words.specs.declared.command.SendWords.{SendWords as Sends};
@@ -19,7 +20,7 @@ ghost use Rattle.qmail_top.specs.Families.{HasNoChannels, HasSent, IsDelivery, I
 ghost use Rattle.qmail_top.specs.Making.{HasMade, IsMake, IsMaker};
 ghost use Rattle.qmail_top.specs.SafePlays.{IsSafePrefixAtMost, PrintsSafely};
 ghost use Rattle.qmail_top.specs.Works.{IsWork};
-ghost use Rattle.qmail_top.specs.Command.{IsPlay, IsPrintedAtEnd, IsQueue, IsAudit, IsClean, HasRunQueue, NoneFailed, WasCleaned, usage_line};
+ghost use Rattle.qmail_top.specs.Command.{IsPlay, IsPrintedAtEnd, IsQueue, IsAudit, IsClean, IsQmqpd, HasRunQmqpd, HasRunQueue, NoneFailed, WasCleaned, usage_line};
 
 use crate::making::make_script;
 use crate::play_command::play_script;
@@ -27,9 +28,10 @@ use crate::sending::be_sender;
 use audit_command::print_audit;
 use call_fs::CallFs;
 use clean_command::clean;
-use command_words::{Command, LocalWords, QueueWords, WordsError, read_words};
+use command_words::{Command, LocalWords, QmqpdWords, QueueWords, WordsError, read_words};
 use local_command::deliver;
 use outside::{Clock, Gate, Posts, Sink, Source, Spawner};
+use qmqp_server::receive;
 use queue_command::{Form, inject};
 use queue_limits::{DONE, INPUT, MALFORMED, MEMORY, NO_START, OUTPUT, USAGE};
 use received_line::Invoked;
@@ -82,6 +84,15 @@ pub fn qmail_alone<
         (record { disk = D.disk disk.old; calls = D.calls disk.old; faults = D.faults disk.old; moments = K.calls clock.old })
         (record { disk = D.disk disk.new; calls = D.calls disk.new; faults = D.faults disk.new; moments = K.calls clock.new })
         result }
+
+    // `qmqpd`: what it read, each file call, each reading of the clock, what it answered, and why it ended so
+    ensures qmqpd { (w : Receives) → IsQmqpd words.now w → HasRunQmqpd w (K.pid clock.old)
+        (record { old = M.left message.old; new = M.left message.new; faults_old = M.faults message.old; faults_new = M.faults message.new })
+        (record { disk = D.disk disk.old; calls = D.calls disk.old; faults = D.faults disk.old; moments = K.calls clock.old })
+        (record { disk = D.disk disk.new; calls = D.calls disk.new; faults = D.faults disk.new; moments = K.calls clock.new })
+        (record { old = O.taken out.old; new = O.taken out.new; faults_old = O.faults out.old; faults_new = O.faults out.new })
+        result }
+    ensures qmqpd_beside { (w : Receives) → IsQmqpd words.now w → envelope.new ≡ envelope.old }
 
     // `audit`: what it does to the disk, what it prints, and the causes of the statuses
     ensures audit { IsAudit words.now → HasAudited
@@ -192,6 +203,7 @@ pub fn qmail_alone<
         // no threads
         Ok(Command::Work(_)) => NO_START,
         Ok(Command::Queue(queue)) => queue_message(alloc, queue, disk, message, envelope, clock),
+        Ok(Command::Qmqpd(told)) => receive_package(alloc, told, disk, message, out, clock),
         Ok(Command::Send(told)) => be_sender(alloc, told, disk, log, clock, posts, spawn, gate),
         Ok(Command::Audit(_)) => print_audit(alloc, disk, out),
         Ok(Command::Clean(_)) => clean(alloc, disk, message, out, clock),
@@ -242,6 +254,25 @@ fn queue_message<D: CallFs, M: Source, E: Source, K: Clock>(
     inject(
         alloc, queue.uid, invoked, form, disk, message, envelope, clock,
     )
+}
+
+/// Takes the package of the command `qmqpd`.
+fn receive_package<D: CallFs, M: Source, O: Sink, K: Clock>(
+    alloc: Global,
+    told: QmqpdWords,
+    disk: &mut D,
+    message: &mut M,
+    out: &mut O,
+    clock: &mut K,
+) -> u8
+    ensures { HasRunQmqpd told (K.pid clock.old)
+        (record { old = M.left message.old; new = M.left message.new; faults_old = M.faults message.old; faults_new = M.faults message.new })
+        (record { disk = D.disk disk.old; calls = D.calls disk.old; faults = D.faults disk.old; moments = K.calls clock.old })
+        (record { disk = D.disk disk.new; calls = D.calls disk.new; faults = D.faults disk.new; moments = K.calls clock.new })
+        (record { old = O.taken out.old; new = O.taken out.new; faults_old = O.faults out.old; faults_new = O.faults out.new })
+        result }
+{
+    receive(alloc, told.uid, disk, message, out, clock)
 }
 
 /// Makes the delivery of the command `local`.

@@ -4,7 +4,7 @@
 //! The command `play` reads a script of mails and steps, and plays it over a disk in memory; the crate `scenario` says
 //! what a script is and what it prints. `work` runs the mails of a script by threads (`actor_runner`). `make` prints a script
 //! of many mails (the crate `script_maker`). `queue` puts a
-//! message into a queue (`queue_command`), `audit` prints what a queue holds (`audit_command`), and `clean` runs the
+//! message into a queue (`queue_command`), `qmqpd` takes one in a package (`qmqp_server`), `audit` prints what a queue holds (`audit_command`), and `clean` runs the
 //! cleaner (`clean_command`). `lspawn` and `rspawn` run the spawners (`spawn_command`), and `local` makes a local delivery
 //! (`local_command`). `send` starts the cleaner and the spawners, and is the sender (`send_command`). The exit statuses are
 //! those of qmail-queue(8) if it has one.
@@ -17,6 +17,7 @@
 //!   `usage`, or a prefix of it if it failed. What each command leaves untouched: `qmail`: `usage`, `no_command`, `usage_line`,
 //!   and those of "untouched".
 //! - `queue`: a whole injection, for what the words say: `qmail`: `queue` (by `HasRunQueue`).
+//! - `qmqpd`: one package, its injection and its answer: `qmail`: `qmqpd` (by `HasRunQmqpd`), `qmqpd_beside`.
 //! - `make`: with status 0 the output took exactly the script of the words, and else a prefix of it. 53 only if its count of
 //!   failures rose, and otherwise that is as before: `qmail`: `make` (by `HasMade`).
 //! - `audit`: its lines, its statuses and what it leaves: `qmail`: `audit` (by `HasAudited`), `audit_unwritten`.

@@ -3,6 +3,7 @@ ghost use Rattle.std.specs.Prelude.{◌≡◌, ◌≢◌, ◌⊎◌, ◌++◌, �
 ghost use Rattle.mail_bytes.specs.Told.{Rose, Meets, OnTold};
 ghost use Rattle.command_words.specs.declared.command.LocalWords.{LocalWords as Told};
 ghost use Rattle.command_words.specs.declared.command.MakeWords.{MakeWords as Makes};
+ghost use Rattle.command_words.specs.declared.command.QmqpdWords.{QmqpdWords as Receives};
 ghost use Rattle.command_words.specs.declared.command.QueueWords.{QueueWords as Wanted};
 ghost use Rattle.command_words.specs.declared.command.RspawnWords.{RspawnWords as Spawns};
 ghost use Rattle.command_words.specs.declared.command.SendWords.{SendWords as Sends};
@@ -16,7 +17,7 @@ ghost use Rattle.qmail_top.specs.Families.{HasNoChannels, HasSent, IsDelivery, I
 ghost use Rattle.qmail_top.specs.Making.{HasMade, IsMake, IsMaker};
 ghost use Rattle.qmail_top.specs.SafePlays.{IsSafePrefixAtMost, PrintsSafely};
 ghost use Rattle.qmail_top.specs.Works.{IsWork, WasWorked};
-ghost use Rattle.qmail_top.specs.Command.{IsPlay, IsPrintedAtEnd, IsQueue, IsAudit, IsClean, HasRunQueue, NoneFailed, WasCleaned, usage_line};
+ghost use Rattle.qmail_top.specs.Command.{IsPlay, IsPrintedAtEnd, IsQueue, IsAudit, IsClean, IsQmqpd, HasRunQmqpd, HasRunQueue, NoneFailed, WasCleaned, usage_line};
 
 use crate::alone::qmail_alone;
 use crate::work_command::work_script;
@@ -44,6 +45,10 @@ use std::thread::Threads;
 ///
 /// `queue` injects the message that `message` gives, for the envelope that `envelope` gives, or if its word is `-` as
 /// the second netstring of `message`, into the queue on `disk`; its exit statuses are those of qmail-queue(8).
+///
+/// `qmqpd` takes one package of `message`, injects its message into the queue on `disk`, and gives one answer to `out`. 0: it was
+/// given. 31: the package is too long. 51: out of memory, before any file call. 53: `out` failed. 54: `message` failed, or ended
+/// before the package did. 91: it is malformed. It is the program of qmail-qmqpd(8).
 ///
 /// `audit` prints what the queue on `disk` holds to `out`: `pid COUNT`, then each number that has a file with its state, a
 /// line each. 0: all was printed. 51: out of memory. 53: `out` failed. 54: `disk` failed, or a directory of the queue is
@@ -120,6 +125,15 @@ pub fn qmail<
         (record { disk = D.disk disk.old; calls = D.calls disk.old; faults = D.faults disk.old; moments = K.calls clock.old })
         (record { disk = D.disk disk.new; calls = D.calls disk.new; faults = D.faults disk.new; moments = K.calls clock.new })
         result }
+
+    // `qmqpd`: what it read, each file call, each reading of the clock, what it answered, and why it ended so
+    ensures qmqpd { (w : Receives) → IsQmqpd words.now w → HasRunQmqpd w (K.pid clock.old)
+        (record { old = M.left message.old; new = M.left message.new; faults_old = M.faults message.old; faults_new = M.faults message.new })
+        (record { disk = D.disk disk.old; calls = D.calls disk.old; faults = D.faults disk.old; moments = K.calls clock.old })
+        (record { disk = D.disk disk.new; calls = D.calls disk.new; faults = D.faults disk.new; moments = K.calls clock.new })
+        (record { old = O.taken out.old; new = O.taken out.new; faults_old = O.faults out.old; faults_new = O.faults out.new })
+        result }
+    ensures qmqpd_beside { (w : Receives) → IsQmqpd words.now w → envelope.new ≡ envelope.old }
 
     // `audit`: what it does to the disk, what it prints, and the causes of the statuses
     ensures audit { IsAudit words.now → HasAudited

@@ -13,7 +13,7 @@ use Rattle.queue_command.proofs.Sources.{weaker}
 use Rattle.queue_command.specs.inside.Reading.{IsBad}
 
 -- a head that began in a part which has none ends with the next byte
-whole_head : (part : List ℕ) (byte n used : ℕ) → ((m k : ℕ) → ¬ (IsHead part m k)) → IsHead (part ++ byte ∷ []) n used → part ++ byte ∷ [] ≡ head n
+pub whole_head : (part : List ℕ) (byte n used : ℕ) → ((m k : ℕ) → ¬ (IsHead part m k)) → IsHead (part ++ byte ∷ []) n used → part ++ byte ∷ [] ≡ head n
 whole_head part byte n used none is =
     elim (nat_le used (length part)) as (λ t. nat_le used (length part) ≡ t → part ++ byte ∷ [] ≡ head n) [
       | true ↦ λ e.

@@ -10,7 +10,9 @@ pub mod Keeping
 pub mod Portions
 -- some arguments are possible
 pub mod Possible
--- an injector that runs to its end
+-- an injector that takes its turns
+pub mod Going
+-- one that is fed from its sources, and runs to its end
 pub mod Runs
 -- pid names
 pub mod PidNames

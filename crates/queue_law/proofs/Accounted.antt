@@ -47,7 +47,7 @@ found_among s (x ∷ xs) e = ⊎_elim
     (λ (far : is_spot s x ≡ false). inr (found_among s xs (sym (ap (λ (b : Bool). b || list_any (is_spot s) xs) far) ∙ e)))
     (cases_Bool (is_spot s x))
 
-among_found : (s : Spot) (xs : List Spot) → Among s xs → list_any (is_spot s) xs ≡ true
+pub among_found : (s : Spot) (xs : List Spot) → Among s xs → list_any (is_spot s) xs ≡ true
 among_found s [] h = absurd h
 among_found s (x ∷ xs) h = ⊎_elim
     (λ (same : s ≡ x). ap (λ (b : Bool). b || list_any (is_spot s) xs) (ap (is_spot s) (sym same) ∙ spot_itself s))

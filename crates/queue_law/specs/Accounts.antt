@@ -89,8 +89,7 @@ AllAccounted = (q : Queue) → Sound q → (i : Injection) → IsInjected q.book
 abbrev pub RecipientsAreNumbered : Type 0
 RecipientsAreNumbered = (args : Arguments) (k : ℕ) → k < length (recipients_of args) → (r : Recipient args) × (length r.earlier ≡ k)
 
--- A record of a channel file, as it is read, is that of this recipient. It reads `D` only if that one was reported delivered, or its note is
--- synced.
+-- A record of a channel file, as it is read, is that of this recipient. It reads `D` only if a sender wrote a mark over it.
 pub record IsRecordOf (i : Injection) (ch : Channel) (r : Recipient i.args) (it : Record) : Type 0 where
   pub on : (spot_in i r).channel ≡ ch
   pub place_is : it.place ≡ (spot_in i r).place

@@ -23,7 +23,8 @@ use Rattle.queue_paths.specs.Names.{Name, parse, path}
 use Rattle.retry_law.proofs.Comings.{arrives_coming, row_leads}
 use Rattle.retry_law.proofs.Events.{cleaned_same, stated_same}
 use Rattle.retry_law.proofs.KnownNow.{known_now, was_known}
-use Rattle.retry_law.specs.Infos.{AllTellInfos, BirthsAreInfos, Infos, TellsInfos, coming, has_written, pass_tells, tells, written}
+use Rattle.retry_law.proofs.LetGo.{held_before, held_lives}
+use Rattle.retry_law.specs.Infos.{AllTellInfos, BirthsAreInfos, Infos, TellsInfos, coming, has_written, lets_go, pass_tells, tells, written}
 use Rattle.send_core.proofs.Asked.{Facts, FinishSays, KnowsAt, PassSays, SweepSays}
 use Rattle.send_core.proofs.Coming.{by_file}
 use Rattle.send_core.proofs.Runs.{all_kept, facts}
@@ -216,23 +217,33 @@ module _ (S : ℕ → List ℕ → Type 0) (t : Facts) (d : Desk) (now : ℕ) (c
 
 -- At each event
 
--- what is known has the birth that its info file says
-abbrev pub Said : (ℕ → Option ℕ) → List Own → Type 0
-Said info past = (n moment : ℕ) → known_in past n ≡ true → info n ≡ Some moment → (births past).of n ≡ moment
+-- what is known has the birth that its info file says, until the sender has ended
+abbrev pub Said : (ℕ → Option ℕ) → Option ℕ → List Own → Type 0
+Said info turns past = (n moment : ℕ) → has_ended (place_after turns past).row ≡ false → known_in past n ≡ true → info n ≡ Some moment → (births past).of n ≡ moment
+
+-- or all but what it lets go of, whose info file somebody else may write
+abbrev pub SaidElse : (ℕ → Option ℕ) → Option ℕ → List Own → Type 0
+SaidElse info turns past = (n moment : ℕ) → lets_go (place_after turns past).row n ≡ false → known_in past n ≡ true → info n ≡ Some moment → (births past).of n ≡ moment
 
 -- and so has what becomes known next
 abbrev pub Coming : (ℕ → Option ℕ) → Option ℕ → List Own → Type 0
 Coming info turns past = (it : Birth) (moment : ℕ) → coming (place_after turns past).row (place_after turns past).pass ≡ Some it → info it.n ≡ Some moment → it.moment ≡ moment
 
 abbrev pub AreInfos : (ℕ → Option ℕ) → Option ℕ → List Own → Type 0
-AreInfos info turns past = Said info past × Coming info turns past
+AreInfos info turns past = SaidElse info turns past × Coming info turns past
 
 module _ (turns : Option ℕ) where
-  pub none_known : (info : ℕ → Option ℕ) → AreInfos info turns []
-  none_known info = ((λ n moment known there. absurd (cc)), (λ it moment is there. absurd (cc)))
+  none_known : (info : ℕ → Option ℕ) → Said info turns [] × Coming info turns []
+  none_known info = ((λ n moment alive known there. absurd (cc)), (λ it moment is there. absurd (cc)))
 
-  module _ (info later : ℕ → Option ℕ) (event : Own) (before : List Own) (run : IsRunBy (Next turns) (event ∷ before)) (tell : TellsInfos info later turns before event) (said : Said info before)
-      (next : Coming info turns before) where
+  pub else_said : (info : ℕ → Option ℕ) (past : List Own) → Said info turns past × Coming info turns past → AreInfos info turns past
+  else_said info past all = ((λ n moment held. all.0 n moment (held_lives (place_after turns past).row n held)), all.1)
+
+  pub none_at_first : (info : ℕ → Option ℕ) → AreInfos info turns []
+  none_at_first info = else_said info [] (none_known info)
+
+  module _ (info later : ℕ → Option ℕ) (event : Own) (before : List Own) (run : IsRunBy (Next turns) (event ∷ before)) (tell : TellsInfos info later turns before event)
+      (said : SaidElse info turns before) (next : Coming info turns before) where
     abbrev d : Desk
     d = place_after turns before
 
@@ -266,27 +277,30 @@ module _ (turns : Option ℕ) where
       had : info l.0.n ≡ Some moment
       had = tell.next l.0 was l.4 moment (ap later l.2 ∙ there)
 
-    said_on : Said later (event ∷ before)
-    said_on n moment known there = by (known_by event.due event.came (births before).command n false) refl where
+    said_on : Said later turns (event ∷ before)
+    said_on n moment alive known there = by (known_by event.due event.came (births before).command n false) refl where
       by : (b : Bool) → known_by event.due event.came (births before).command n false ≡ b → (births (event ∷ before)).of n ≡ moment
       by true e = learnt n moment e there
       by false e =
           let was : known_in before n ≡ true = was_known event before n known e in
-          birth_kept n event.read (births before) event.due event.came (known_in before n) e known ∙ said n moment was (tell.known n moment was there)
+          let held = held_before turns event before run n alive known in
+          birth_kept n event.read (births before) event.due event.came (known_in before n) e known ∙ said n moment held was (tell.known n moment held was there)
 
-  pub infos_on : (info later : ℕ → Option ℕ) (event : Own) (before : List Own) → IsRunBy (Next turns) (event ∷ before) → TellsInfos info later turns before event → AreInfos info turns before → AreInfos later turns (event ∷ before)
+  pub infos_on : (info later : ℕ → Option ℕ) (event : Own) (before : List Own) → IsRunBy (Next turns) (event ∷ before) → TellsInfos info later turns before event → AreInfos info turns before
+      → Said later turns (event ∷ before) × Coming later turns (event ∷ before)
   infos_on info later event before run tell h = (said_on info later event before run tell h.0 h.1, next_on info later event before run tell h.0 h.1)
 
   -- of each that the sender knows
-  pub known_said : (info : ℕ → Option ℕ) (past : List Own) → IsRunBy (Next turns) past → has_ended (place_after turns past).row ≡ false → Said info past → (k : Known)
+  pub known_said : (info : ℕ → Option ℕ) (past : List Own) → IsRunBy (Next turns) past → has_ended (place_after turns past).row ≡ false → Said info turns past → (k : Known)
       → Contains (place_after turns past).book.messages.known k → (moment : ℕ) → info k.n ≡ Some moment → k.birth ≡ moment
   known_said info past run alive said k there moment is =
       All-contains (λ (x : Known). x.birth ≡ (births past).of x.n) (place_after turns past).book.messages.known k (known_are_of_past turns past run alive).born there
-      ∙ said k.n moment (known_now turns past run k there) is
+      ∙ said k.n moment alive (known_now turns past run k there) is
 
-  all_said : (infos : Infos) (past : List Own) → IsRunBy (Next turns) past → AllTellInfos infos turns past → AreInfos (infos past) turns past
+  all_said : (infos : Infos) (past : List Own) → IsRunBy (Next turns) past → AllTellInfos infos turns past → Said (infos past) turns past × Coming (infos past) turns past
   all_said infos [] run all = none_known (infos [])
-  all_said infos (event ∷ before) run all = infos_on (infos before) (infos (event ∷ before)) event before run all.1 (all_said infos before run.0 all.0)
+  all_said infos (event ∷ before) run all =
+      infos_on (infos before) (infos (event ∷ before)) event before run all.1 (else_said (infos before) before (all_said infos before run.0 all.0))
 
 pub births_are_infos : BirthsAreInfos
 births_are_infos infos turns past run all alive k there moment is = known_said turns (infos past) past run alive (all_said turns infos past run all).0 k there moment is

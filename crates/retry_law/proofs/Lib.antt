@@ -20,6 +20,8 @@ pub mod Finishes
 pub mod Left
 -- which message becomes known next
 pub mod Comings
+-- what a sender knows after an event it didn't let go of before
+pub mod LetGo
 -- births are the moments of info files
 pub mod Infos
 -- when nothing fails, by the rows

@@ -1,5 +1,5 @@
 -- When births are the moments of info files, by the sender's past (qmail-send(8)).
-use Rattle.std.specs.Prelude.{◌≡◌, ℕ, List, [], ◌∷◌, Bool, true, false, Option, Some, None, Contains}
+use Rattle.std.specs.Prelude.{◌≡◌, ◌==◌, ℕ, List, [], ◌∷◌, Bool, true, false, Option, Some, None, Contains}
 use Rattle.call_fs.specs.Past.{IsRunBy}
 use Rattle.call_fs.specs.declared.calls.Answer.TheVariants as answer
 use Rattle.call_fs.specs.declared.calls.Answer.{Answer}
@@ -13,6 +13,7 @@ use Rattle.send_core.specs.declared.desk.Desk.{Desk}
 use Rattle.send_parts.specs.declared.row.Row.TheVariants as at
 use Rattle.send_parts.specs.declared.row.Row.{Row}
 use Rattle.send_known.specs.declared.known.Known.{Known}
+use Rattle.send_parts.specs.declared.rows.FinishRow.TheVariants as finish
 use Rattle.send_parts.specs.declared.rows.StartRow.TheVariants as start
 use Rattle.send_runs.specs.Knowing.{known_in}
 use Rattle.todo_pass.specs.Table.{Pass}
@@ -71,11 +72,18 @@ coming row p = None
 abbrev pub told_after : Option ℕ → List Own → Own → Option Birth
 told_after turns past event = let d : Desk = place_after turns past in tells (row_now d event.read event.ready) d.pass event.read event.came
 
--- What an event tells of an info file is so on the disk. The info file of a message that is known, or becomes known next, isn't written but by an
--- event that tells so. By the moments of these files before and after it.
+-- The sender lets go of a number: it told the cleaner to remove the message, and took no answer yet, so that the number may be another message's
+-- already; or it has ended.
+abbrev pub lets_go : Row → ℕ → Bool
+lets_go (at.Finish finish.Take m) n = m == n
+lets_go (at.Ended status) n = true
+lets_go row n = false
+
+-- What an event tells of an info file is so on the disk. The info file of a message that is known and not let go of, or becomes known next,
+-- isn't written but by an event that tells so. By the moments of these files before and after it.
 pub record TellsInfos (info later : ℕ → Option ℕ) (turns : Option ℕ) (past : List Own) (event : Own) : Type 0 where
   pub told : (it : Birth) → told_after turns past event ≡ Some it → (moment : ℕ) → later it.n ≡ Some moment → it.moment ≡ moment
-  pub known : (n moment : ℕ) → known_in past n ≡ true → later n ≡ Some moment → info n ≡ Some moment
+  pub known : (n moment : ℕ) → lets_go (place_after turns past).row n ≡ false → known_in past n ≡ true → later n ≡ Some moment → info n ≡ Some moment
   pub next : (it : Birth) → coming (place_after turns past).row (place_after turns past).pass ≡ Some it → told_after turns past event ≡ None → (moment : ℕ) → later it.n ≡ Some moment → info it.n ≡ Some moment
 
 abbrev pub AllTellInfos : Infos → Option ℕ → List Own → Type 0

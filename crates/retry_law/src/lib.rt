@@ -20,7 +20,8 @@
 //! - A known message may be finished at once if no finish of it failed while it was known: `finishes_at_once`. So may each if no finish
 //!   was put off, by the rows: `none_is_put_off` (both in `specs/Finishes.antt`).
 //! - The birth of a known message is the moment at which its info file was last written, whatever a disk has of info files, if what events tell of
-//!   them is so, and no other event writes that of a message which is known or becomes known next: `births_are_infos` (`specs/Infos.antt`).
+//!   them is so, and no other event writes that of a message which becomes known next, or is known and not let go of: `births_are_infos`
+//!   (`specs/Infos.antt`).
 //! - No number of `todo` was left last if no todo pass was left: `no_number_left`. A search of `todo` goes on after a name only directly after a
 //!   search that gave one which is no number: `strays_were_given` (both in `specs/Left.antt`).
 //!

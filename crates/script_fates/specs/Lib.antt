@@ -2,5 +2,7 @@
 pub mod Lasting
 -- what events of injectors and senders enter in the books
 pub mod Entering
+-- the control files that are kept
+pub mod Routers
 -- the lives of messages stand for the books
 pub mod Fates

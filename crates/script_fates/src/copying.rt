@@ -1,5 +1,5 @@
-// Control files that a sender has read, kept when it is gone.
-ghost use Rattle.std.specs.Prelude.{◌≡◌, IfOk};
+// Control files that a sender has read: copied, and compared.
+ghost use Rattle.std.specs.Prelude.{◌≡◌, ◌↔◌, IfOk, IsTrue};
 ghost use Rattle.queue_law.specs.Ledgers.{unrouted};
 
 use address_rules::{Controls, TextList, VirtualDomain, VirtualDomains};
@@ -76,4 +76,63 @@ fn lines_of(alloc: Global, domains: &VirtualDomains) -> Result<VirtualDomains, M
         })?;
     }
     Ok(VirtualDomains::from_vec(lines))
+}
+
+/// Whether these are the same controls.
+pub fn are_same(one: &Controls, other: &Controls) -> bool
+    ensures { IsTrue result ↔ (one.now ≡ other.now) }
+{
+    one.me.is(other.me.as_slice())
+        && are_same_texts(&one.locals, &other.locals)
+        && are_same_texts(&one.percent_hack, &other.percent_hack)
+        && are_same_lines(&one.virtual_domains, &other.virtual_domains)
+        && one.env_no_at_host.is(other.env_no_at_host.as_slice())
+        && one.bounce_from.is(other.bounce_from.as_slice())
+        && one.bounce_host.is(other.bounce_host.as_slice())
+        && one.double_bounce_to.is(other.double_bounce_to.as_slice())
+        && one
+            .double_bounce_host
+            .is(other.double_bounce_host.as_slice())
+        && one.concurrency_local == other.concurrency_local
+        && one.concurrency_remote == other.concurrency_remote
+        && one.queue_lifetime == other.queue_lifetime
+}
+
+/// Whether these are the same texts.
+fn are_same_texts(one: &TextList, other: &TextList) -> bool
+    ensures { IsTrue result ↔ (one.now ≡ other.now) }
+{
+    let (texts, others) = (one.as_slice(), other.as_slice());
+    if texts.len() != others.len() {
+        return false;
+    }
+    for at in 0..texts.len() {
+        if !texts[at].is(others[at].as_slice()) {
+            return false;
+        }
+    }
+    true
+}
+
+/// Whether these are the same lines.
+fn are_same_lines(one: &VirtualDomains, other: &VirtualDomains) -> bool
+    ensures { IsTrue result ↔ (one.now ≡ other.now) }
+{
+    let (lines, others) = (one.as_slice(), other.as_slice());
+    if lines.len() != others.len() {
+        return false;
+    }
+    for at in 0..lines.len() {
+        if !is_same_line(&lines[at], &others[at]) {
+            return false;
+        }
+    }
+    true
+}
+
+/// Whether these are the same line.
+fn is_same_line(one: &VirtualDomain, other: &VirtualDomain) -> bool
+    ensures { IsTrue result ↔ (one.now ≡ other.now) }
+{
+    one.domain.is(other.domain.as_slice()) && one.prefix.is(other.prefix.as_slice())
 }

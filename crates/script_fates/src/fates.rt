@@ -16,7 +16,7 @@ ghost use Rattle.script_fates.specs.Entering.{HasDue, booked_after, entered_of, 
 ghost use Rattle.script_fates.specs.Fates.{AreFates, no_books, spot_of};
 ghost use Rattle.script_fates.specs.Lasting.{lasts, is_channel, is_delivered, is_entered_so, is_spot, routes_by, routes_over};
 
-use crate::copying::{copied, unrouted};
+use crate::routers::Routers;
 use actor_names::ActorName;
 use address_rules::Controls;
 use call_fs::{NeedData, Own, Port};
@@ -45,9 +45,9 @@ pub struct Tenure {
     pub mail: ActorName,
     /// Its recipients of whom senders took reports that they were delivered to.
     pub delivered: Vec<Spot>,
-    /// The control files by which its recipients are routed: a copy of what the sender had read that last gave its todo command; none
-    /// before that.
-    pub routes: Controls,
+    /// The place of the control files by which its recipients are routed: of what the sender had read that last gave its todo command;
+    /// none before that.
+    pub routes: Option<usize>,
 }
 
 /// The lives of messages by the events so far.
@@ -57,6 +57,8 @@ pub struct Fates {
     living: BTreeMap<u64, Tenure>,
     /// Those that are over.
     over: Vec<Tenure>,
+    /// The control files by which their recipients are routed.
+    routers: Routers,
 }
 
 impl Fates {
@@ -67,6 +69,7 @@ impl Fates {
         Fates {
             living: BTreeMap::new(alloc),
             over: Vec::new(alloc),
+            routers: Routers::new(alloc),
         }
     }
 
@@ -106,7 +109,7 @@ impl Fates {
         ensures { (books : Books) → AreFates self.now books → is_number n ≡ true → option_copied result ≡ routes_by books mail.now (Some n) }
     {
         match self.living.get(&n) {
-            Some(tenure) if tenure.is_of(mail) => Some(&tenure.routes),
+            Some(tenure) if tenure.is_of(mail) => self.routers.at(tenure.routes),
             _ => self.past_routes(n, mail),
         }
     }
@@ -121,7 +124,7 @@ impl Fates {
             .rev()
             .find(|one| one.number == n && one.is_of(mail));
         match latest {
-            Some(tenure) => Some(&tenure.routes),
+            Some(tenure) => self.routers.at(tenure.routes),
             None => None,
         }
     }
@@ -138,7 +141,7 @@ impl Fates {
             number,
             mail: actor.copy(),
             delivered: Vec::new(alloc),
-            routes: unrouted(alloc),
+            routes: None,
         };
         if let Some(before) = self.living.insert(number, tenure)? {
             self.over.push(before)?;
@@ -171,7 +174,7 @@ impl Fates {
         sender.look(own.read.min(LAST_MOMENT), own.ready);
         match sender.routing() {
             Some(n) => {
-                self.route(n, copied(alloc, sender.controls())?);
+                self.route(alloc, n, sender.controls())?;
                 go_on(alloc, sender, own)
             }
             None => go_on(alloc, sender, own),
@@ -179,12 +182,14 @@ impl Fates {
     }
 
     /// Routes the message of this number by these controls, if it lives.
-    fn route(&mut self, n: u64, routes: Controls)
-        ensures { (books : Books) → AreFates self.old books → AreFates self.new (entered_in books n (Routes routes)) }
+    fn route(&mut self, alloc: Global, n: u64, controls: &Controls) -> Result<(), Memory>
+        ensures { OnOk result ((books : Books) → AreFates self.old books → AreFates self.new (entered_in books n (Routes controls.now))) }
     {
+        let place = self.routers.keep(alloc, controls)?;
         if let Some(tenure) = self.living.get_mut(&n) {
-            tenure.routes = routes;
+            tenure.routes = Some(place);
         }
+        Ok(())
     }
 
     /// The same, of a taking from the spawner of this channel.

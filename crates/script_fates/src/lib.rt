@@ -3,9 +3,9 @@
 //! routed, and which of these senders took reports of that they were delivered to. Events of injectors and senders alone tell of these, so the contracts speak of the books alone (`specs/Fates.antt`); which
 //! events those are stands in scenario, which goes through a world's.
 //!
-//! In memory is kept: of each life its mail, one copy of the control files that route it, and a spot of each recipient that was
-//! delivered to. Of the senders only the newest is kept, by whoever goes through the events; so how many started makes no
-//! difference.
+//! In memory is kept: of each life its mail, and a spot of each recipient that was delivered to. Of control files a copy is kept as a
+//! sender gives a todo command, unless they say the same as the copy before; each life has the place of its own. Of the senders only
+//! the newest is kept, by whoever goes through the events; so how many started makes no difference.
 //!
 //! It is a crate of its own, and no part of scenario, for the checker alone: so a check of either stays short.
 //!
@@ -22,5 +22,6 @@
 
 mod copying;
 mod fates;
+mod routers;
 
 pub use fates::{Fates, Spot};

@@ -4,7 +4,7 @@ ghost use Rattle.call_fs.specs.declared.past.Own.{Own};
 ghost use Rattle.call_fs.specs.Program.{due_of, came_of};
 ghost use Rattle.mail_bytes.specs.Moments.{IsMoment};
 ghost use Rattle.send_jobs.specs.Sending.{lane};
-ghost use Rattle.send_core.specs.Booked.{routing_at, routing_by};
+ghost use Rattle.send_core.specs.Booked.{routing_at};
 ghost use Rattle.send_core.specs.Log.{log_since};
 ghost use Rattle.send_core.specs.Stands.{Logs, Stands, due_now, gone_on, is_between, is_search, looked_at, row_of};
 ghost use Rattle.send_core.specs.Table.{Next, begun, due_at, takes_memory};
@@ -163,8 +163,8 @@ impl Sender {
         requires { IsTrue self.now.looked }
         ensures { result ≡ routing_at (row_of self.now) self.now.desk }
     {
-        match self.row {
-            Row::InTodo => routing(&self.desk.pass),
+        match (self.row, self.desk.pass.row()) {
+            (Row::InTodo, PassRow::Give) => Some(self.desk.pass.number()),
             _ => None,
         }
     }
@@ -211,16 +211,6 @@ impl Sender {
         )?;
         self.looked = false;
         Ok(())
-    }
-}
-
-/// The number of the message of a pass, if that gives the todo command next.
-fn routing(pass: &Pass) -> Option<u64>
-    ensures { result ≡ routing_by pass.now.row pass.now.n }
-{
-    match pass.row() {
-        PassRow::Give => Some(pass.number()),
-        _ => None,
     }
 }
 

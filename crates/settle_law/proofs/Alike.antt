@@ -72,12 +72,7 @@ put_tells f m k y same a = ⊎_elim
 
 search_pipes : (w : Pipework) (a : List ℕ) (due : NeedData) (came : GotData) (wrote : ℕ) → is_search_call due ≡ true → pipework_after w a due came wrote ≡ w
 search_pipes w a (needs.File call) came wrote search = refl
-search_pipes w a (needs.Take from) came wrote search = absurd (cc)
-search_pipes w a (needs.Give to bytes) came wrote search = absurd (cc)
-search_pipes w a (needs.Start asked) came wrote search = absurd (cc)
-search_pipes w a (needs.Command bytes) came wrote search = absurd (cc)
-search_pipes w a needs.Wait came wrote search = absurd (cc)
-search_pipes w a (needs.Ended status) came wrote search = absurd (cc)
+search_pipes w a row came wrote search = absurd (cc)
 
 search_disk : (d : Disk) (read : ℕ) (due : NeedData) (came : GotData) (wrote : ℕ) → is_search_call due ≡ true → disk_after d read due came wrote ≡ d
 search_disk d read (needs.File (NextName dir from)) (Answered told) wrote search = refl
@@ -112,15 +107,7 @@ deed_alike : (d : Disk) (before : List Deed) (deed : Deed) → is_search_deed de
 deed_alike d before (Came (Act a own wrote)) search =
     let parts = and_parts (bytes_eq a (codes "sender")) (is_search_call own.due) search in
     search_alike (after d before) a own wrote ((bytes_eq-Decides a (codes "sender")).0 parts.0) parts.1
-deed_alike d before (Came (Start a program)) search = absurd (cc)
-deed_alike d before (Came (Child parent own a program)) search = absurd (cc)
-deed_alike d before (Came (Generation crew)) search = absurd (cc)
-deed_alike d before (Came (Report slot output)) search = absurd (cc)
-deed_alike d before (Came (End a read ready status)) search = absurd (cc)
-deed_alike d before (Came (Stop a)) search = absurd (cc)
-deed_alike d before (Came (Moment m)) search = absurd (cc)
-deed_alike d before (Came (Halt how contents)) search = absurd (cc)
-deed_alike d before (Fed a own c message envelope) search = absurd (cc)
+deed_alike d before row search = absurd (cc)
 
 pub searches_alike : (d : Disk) (h events : List Deed) → list_all is_search_deed events ≡ true → AreAlike (after d h) (after d (events ++ h))
 searches_alike d h [] all = alike_itself (after d h)

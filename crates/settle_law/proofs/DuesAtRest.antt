@@ -41,17 +41,7 @@ use Rattle.settle_law.proofs.Searching.{Keeps, turn_keeps}
 -- the row of a search
 search_at : (row : Row) → is_search row ≡ true → (s : Search) × (row ≡ at.FindTodo s)
 search_at (at.FindTodo s) e = (s, refl)
-search_at (at.Turn p) e = absurd (cc)
-search_at (at.Start row) e = absurd (cc)
-search_at (at.TakeLink c) e = absurd (cc)
-search_at (at.Mark row m) e = absurd (cc)
-search_at (at.UnlinkFile c n p) e = absurd (cc)
-search_at (at.ReadFile c n begun reading) e = absurd (cc)
-search_at (at.Request c) e = absurd (cc)
-search_at at.InTodo e = absurd (cc)
-search_at (at.Finish row n) e = absurd (cc)
-search_at (at.Sweep row) e = absurd (cc)
-search_at (at.Ended status) e = absurd (cc)
+search_at row e = absurd (cc)
 
 -- One search
 

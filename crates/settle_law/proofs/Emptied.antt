@@ -38,7 +38,9 @@ use Rattle.mail_world.specs.History.{Actor, next_of}
 use Rattle.scenario.specs.Deeds.{Deed, after, history_of}
 use Rattle.scenario.specs.Turns.{is_search_call}
 use Rattle.world_law.proofs.Ran.{have_run}
-use Rattle.settle_law.specs.Promised.{IsRest, RestsHold}
+use Rattle.settle_law.specs.Ends.{deeds_of}
+use Rattle.settle_law.specs.Promised.{RestsHold}
+use Rattle.settle_law.proofs.SenderRests.{SendersRest, newest_rest}
 use Rattle.settle_law.specs.inside.Rests.{IsWholeTurn}
 use Rattle.settle_law.specs.inside.Steps.{RestsAreEmpty}
 use Rattle.settle_law.specs.Settled.{AllGone, WaitsForRetry}
@@ -65,9 +67,9 @@ has_so Remote k past both e = sym both.1 ∙ e
 none_some : {A : Type 0} (o : Option A) → o ≡ None → IsSome o → ⊥
 none_some {A = A} o none some = absurd (cc (sym (ap (λ (p : Option A). is_some p) none) ∙ some))
 
-module _ (d : Disk) (later : List Deed) (first : Deed) (before : List Deed) (rest : IsRest d later first before) (all : AllSucceed (history_of (later ++ first ∷ before))) where
+module _ (d : Disk) (later : List Deed) (first : Deed) (before : List Deed) (rest : SendersRest d later first before) (all : AllSucceed (history_of (later ++ first ∷ before))) where
   abbrev x : Actor
-  x = rest.turn.sender
+  x = rest.turn.actor
 
   abbrev y : Actor
   y = turned.y d later first before rest.turn
@@ -148,6 +150,10 @@ module _ (d : Disk) (later : List Deed) (first : Deed) (before : List Deed) (res
         (suffices (after d (later ++ first ∷ before)) y.past ready h n)
 
 pub rests_are_empty_by : RestsHold → RestsAreEmpty
-rests_are_empty_by hold d later first before rest all =
-    let h = hold d later first before rest (turned.y d later first before rest.turn) (turned.is_now d later first before rest.turn) in
-    all_gone d later first before rest all h.0 h.1
+rests_are_empty_by hold d turns before rest all =
+    let w = newest_rest d turns before rest in
+    let y = turned.y d w.later w.first w.before w.rest.turn in
+    let is : (after d (deeds_of turns ++ before)).actors (codes "sender") ≡ Some y = ap (λ (l : List Deed). (after d l).actors (codes "sender")) w.are ∙ turned.is_now d w.later w.first w.before w.rest.turn in
+    let h = hold d turns before rest y is in
+    subst (λ (l : List Deed). AllGone (after d l)) (sym w.are)
+    (all_gone d w.later w.first w.before w.rest (subst (λ (l : List Deed). AllSucceed (history_of l)) w.are all) h.0 (subst (λ (l : List Deed). HasRest (after d l) y.past h.0) w.are h.1))

@@ -55,7 +55,12 @@ use Rattle.settle_law.specs.inside.Free.{RestsFree}
 use Rattle.settle_law.specs.inside.InHand.{InHand, coming, count}
 use Rattle.settle_law.specs.inside.Living.Servant.{Spawns}
 use Rattle.settle_law.specs.inside.Rests.{IsWholeTurn}
-use Rattle.settle_law.specs.Promised.{IsRest}
+use Rattle.settle_law.specs.Ends.{deeds_of}
+use Rattle.settle_law.proofs.SenderRests.{SendersRest, newest_rest}
+use Rattle.settle_law.proofs.Searchers.{searches_not}
+use Rattle.settle_law.proofs.Searching.{turn_keeps}
+use Rattle.world_law.proofs.Tenants.{some_actor}
+use Rattle.send_jobs.specs.declared.slots.Slots.{Slots}
 use Rattle.settle_law.specs.Rests.{BeginsTurn}
 use Rattle.settle_law.specs.Suffices.{desk_of}
 use Rattle.settle_law.specs.Well.{GoesWell}
@@ -222,7 +227,7 @@ linked : (c : Channel) (s : State) (start : ℕ) → holds (slice_get (found_by 
 linked Local s start = refl
 linked Remote s start = refl
 
-module _ (d : Disk) (later : List Deed) (first : Deed) (before : List Deed) (rest : IsRest d later first before) where
+module _ (d : Disk) (later : List Deed) (first : Deed) (before : List Deed) (rest : SendersRest d later first before) where
   abbrev s : State
   s = after d before
 
@@ -230,7 +235,7 @@ module _ (d : Disk) (later : List Deed) (first : Deed) (before : List Deed) (res
   now = after d (later ++ first ∷ before)
 
   abbrev x : Actor
-  x = rest.turn.sender
+  x = rest.turn.actor
 
   abbrev own : Own
   own = rest.turn.searches.own
@@ -267,7 +272,7 @@ module _ (d : Disk) (later : List Deed) (first : Deed) (before : List Deed) (res
 
     can : CanNot now (spawner_name c) (next_of y.program y.past now.now (found_by now (spawner_name c) y.program))
     can = subst (λ (r : Ready). CanNot now (spawner_name c) (next_of y.program y.past now.now r)) (ap (λ (o : Option Actor). found_at now (spawner_name c) o) still)
-        (rest.others.waits (spawner_name c) y still alive (λ same. not_spawner c (sym same)))
+        (rest.others.waits (spawner_name c) y still alive (searches_not (spawner_name c) (λ same. not_spawner c (sym same))))
 
     waits : Waits now (spawner_name c) (stands_after c y.past)
     waits = spawner_waits now c (spawner_name c) y.program y.past now.now serves run none can
@@ -296,5 +301,16 @@ module _ (d : Disk) (later : List Deed) (first : Deed) (before : List Deed) (res
       let served = servants_live d (history_of before) earlier (Spawns c) x rest.turn.is (turned.alive d later first before rest.turn rest.well) (subst IsSender (sym sends.1) tt) in
       free c served.actor served.is served.alive served.serves slot
 
+pub free_before : (d : Disk) (later : List Deed) (first : Deed) (before : List Deed) (rest : SendersRest d later first before)
+    → (c : Channel) (slot : ℕ) → attempt_in (lane c (desk_of rest.turn.actor.past).slots).slots slot ≡ None
+free_before d later first before rest c slot = all_free d later first before rest c slot
+
+-- nor at its end, since searches leave the slots
 pub rests_free : RestsFree
-rests_free d later first before rest c slot = all_free d later first before rest c slot
+rests_free d turns before rest z there c slot =
+    let w = newest_rest d turns before rest in
+    let y = turned.y d w.later w.first w.before w.rest.turn in
+    let is : (after d (deeds_of turns ++ before)).actors (codes "sender") ≡ Some y = ap (λ (l : List Deed). (after d l).actors (codes "sender")) w.are ∙ turned.is_now d w.later w.first w.before w.rest.turn in
+    let keeps = turn_keeps w.rest.turn.actor.past w.rest.turn.searches.own (turned.more d w.later w.first w.before w.rest.turn) (turned.whole d w.later w.first w.before w.rest.turn) in
+    subst (λ (o : Actor). attempt_in (lane c (desk_of o.past).slots).slots slot ≡ None) (some_actor y z (sym is ∙ there))
+    (subst (λ (s : Slots). attempt_in (lane c s).slots slot ≡ None) (sym keeps.slots) (free_before d w.later w.first w.before w.rest c slot))

@@ -194,17 +194,7 @@ is_greeting c past = is_greet (stands_after c past).row
 
 greet_row : (row : Row) → is_greet row ≡ true → row ≡ at.Greet
 greet_row at.Greet e = refl
-greet_row at.Idle e = absurd (cc)
-greet_row at.TakeInput e = absurd (cc)
-greet_row at.OpenMess e = absurd (cc)
-greet_row (at.ReadMess fd) e = absurd (cc)
-greet_row (at.CloseMess fd whole) e = absurd (cc)
-greet_row at.Start e = absurd (cc)
-greet_row at.Feed e = absurd (cc)
-greet_row (at.TakeOutput slot) e = absurd (cc)
-greet_row (at.TakeStatus slot) e = absurd (cc)
-greet_row at.Report e = absurd (cc)
-greet_row (at.Ended status) e = absurd (cc)
+greet_row row e = absurd (cc)
 
 heeded_no : (o : Option Request) (p : Place) → is_greet (heeded o p).row ≡ false
 heeded_no None p = refl

@@ -5,6 +5,7 @@ use Rattle.address_rules.specs.declared.controls.Controls.{Controls}
 use Rattle.call_fs.specs.Disk.{Disk}
 use Rattle.call_fs.specs.Past.{IsRunBy}
 use Rattle.call_fs.specs.declared.past.Own.{Own}
+use Rattle.call_fs.specs.declared.program.Ready.{Ready}
 use Rattle.queue_law.specs.Routes.{lane_part}
 use Rattle.queue_paths.specs.Names.Name.{Of}
 use Rattle.queue_paths.specs.Names.Part.{Info}
@@ -27,28 +28,29 @@ use Rattle.scenario.specs.Deeds.{Deed, after, history_of}
 use Rattle.world_law.proofs.Histories.{safe_always}
 use Rattle.world_law.proofs.Ran.{have_run}
 use Rattle.world_law.proofs.Tenants.{some_actor}
-use Rattle.settle_law.specs.Promised.{IsRest, RestsHold}
+use Rattle.settle_law.specs.Promised.{RestsHold}
 use Rattle.settle_law.specs.inside.Rests.{IsWholeTurn}
 use Rattle.settle_law.specs.Rests.{IsAtRest}
 use Rattle.settle_law.specs.Suffices.{HasRest, IsDueSo, IsKnown, desk_of}
 use Rattle.settle_law.specs.Well.{GoesWell}
 use Rattle.settle_law.proofs.Alike.{AreAlike}
-use Rattle.settle_law.proofs.FreeRests.{rests_free}
+use Rattle.settle_law.proofs.FreeRests.{free_before}
 use Rattle.settle_law.proofs.HasSlots.{rests_have_slots, told_same}
 use Rattle.settle_law.proofs.KnownBorn.{known_are_born}
 use Rattle.settle_law.proofs.KnownDue.{known_are_due}
 use Rattle.settle_law.proofs.KnownGone.{known_are_gone}
 use Rattle.settle_law.proofs.KnownUndone.{known_are_undone}
-use Rattle.settle_law.proofs.NoneHalfWay.{none_is_half_way}
-use Rattle.settle_law.proofs.NoneQueued.{unqueued}
+use Rattle.settle_law.proofs.NoneHalfWay.{not_half_way}
+use Rattle.settle_law.proofs.NoneQueued.{unqueued_then}
 use Rattle.settle_law.proofs.PreprocessedKnown.{preprocessed_are_known}
+use Rattle.settle_law.proofs.SenderRests.{SendersRest, newest_rest}
 use Rattle.settle_law.proofs.Searching.{Keeps, turn_keeps}
 use Rattle.settle_law.proofs.Staying.{rests_stay}
 use Rattle.settle_law.proofs.TurnPasts as turned
 use Rattle.settle_law.proofs.Unfailing.{known_finish_at_once}
 use Rattle.send_runs.specs.Status.{allowed}
 
-module _ (d : Disk) (later : List Deed) (first : Deed) (before : List Deed) (rest : IsRest d later first before) where
+module _ (d : Disk) (later : List Deed) (first : Deed) (before : List Deed) (rest : SendersRest d later first before) where
   abbrev s : State
   s = after d before
 
@@ -57,7 +59,7 @@ module _ (d : Disk) (later : List Deed) (first : Deed) (before : List Deed) (res
 
   -- the sender before its first search, and after all
   abbrev x : Actor
-  x = rest.turn.sender
+  x = rest.turn.actor
 
   abbrev y : Actor
   y = turned.y d later first before rest.turn
@@ -100,7 +102,7 @@ module _ (d : Disk) (later : List Deed) (first : Deed) (before : List Deed) (res
       (subst (λ (k : Controls). 0 < allowed c k) (told_same x.past run whole.begins own more) (rest.may y is_now c))
 
   free : (c : Channel) (slot : ℕ) → attempt_in (lane c (desk_of x.past).slots).slots slot ≡ None
-  free = rests_free d later first before rest
+  free = free_before d later first before rest
 
   known_before : (k : Known) → IsKnown y.past k → IsKnown x.past k
   known_before k known = subst (λ (m : Messages). Contains m.known k) keeps.messages known
@@ -108,9 +110,9 @@ module _ (d : Disk) (later : List Deed) (first : Deed) (before : List Deed) (res
   has : HasRest now y.past own.ready
   has = record {
     safe = (safe_always d (history_of (later ++ first ∷ before)) rest.well.legal).states;
-    no_s2 = λ n. (none_is_half_way d later first before rest n).0;
-    no_s3 = λ n. (none_is_half_way d later first before rest n).1;
-    no_s4 = unqueued d later first before rest;
+    no_s2 = λ n. (not_half_way d later first before rest n).0;
+    no_s3 = λ n. (not_half_way d later first before rest n).1;
+    no_s4 = unqueued_then d later first before rest;
     known = λ n e.
         let k = preprocessed_are_known d (history_of before) well (codes "sender") x sends.0 rest.turn.is alive sends.1 whole.begins n
         (subst (λ (disk : Disk). state_of disk n ≡ S5) (sym alike.disk) e) in
@@ -129,8 +131,15 @@ module _ (d : Disk) (later : List Deed) (first : Deed) (before : List Deed) (res
         (known_are_born d (history_of before) well.legal (codes "sender") x sends.0 rest.turn.is alive sends.1 whole.begins k info (known_before k known));
   }
 
-pub rests_hold : RestsHold
-rests_hold d later first before rest z there =
+hold_then : (d : Disk) (later : List Deed) (first : Deed) (before : List Deed) → SendersRest d later first before → (z : Actor)
+    → (after d (later ++ first ∷ before)).actors (codes "sender") ≡ Some z → (ready : Ready) × HasRest (after d (later ++ first ∷ before)) z.past ready
+hold_then d later first before rest z there =
     let y = turned.y d later first before rest.turn in
     let same : y ≡ z = some_actor y z (sym (turned.is_now d later first before rest.turn) ∙ there) in
     (rest.turn.searches.own.ready, subst (λ (u : Actor). HasRest (after d (later ++ first ∷ before)) u.past rest.turn.searches.own.ready) same (has d later first before rest))
+
+pub rests_hold : RestsHold
+rests_hold d turns before rest =
+    let w = newest_rest d turns before rest in
+    subst (λ (l : List Deed). (z : Actor) → (after d l).actors (codes "sender") ≡ Some z → (ready : Ready) × HasRest (after d l) z.past ready) (sym w.are)
+    (hold_then d w.later w.first w.before w.rest)

@@ -30,6 +30,7 @@ use Rattle.settle_law.specs.Promised.{OthersWait}
 use Rattle.settle_law.proofs.Alike.{WaitsIn, alike_turned, searches_alike, waits_alike}
 use Rattle.settle_law.proofs.Places.{HoldsBefore, HoldsOfAll, newest_holds, next_holds, none_before, none_left}
 use Rattle.settle_law.proofs.Refused.{refused_cannot}
+use Rattle.settle_law.proofs.Searchers.{is_no_sender}
 use Rattle.settle_law.proofs.Starts.{searches_start, there_started}
 use Rattle.settle_law.proofs.Stopping.{not_refused}
 
@@ -122,7 +123,7 @@ module _ (d : Disk) (g : List Deed) (plan : Plan) where
   round_rests letter parts [] turn reports quiet all =
       let told : AreReported d (events_of parts ++ g) letter [] = subst (λ (t : List ℕ). AreReportsAfter d (events_of parts ++ g) letter t []) quiet reports in
       record {
-        waits = λ a x is alive far. turn_rests parts turn quiet all a x is alive far;
+        waits = λ a x is alive none. turn_rests parts turn quiet all a x is alive (is_no_sender a none);
         reported = told.none;
       }
 

@@ -184,17 +184,7 @@ by_way way.NoMemory text s now d e = (λ no. absurd (cc), none_over (is_again s)
 after_row : (row : Row) (d : Desk) (now : ℕ) (came : GotData) → Leads row → is_between (moved_by row now came d).row ≡ true → After d now came
 after_row (at.FindTodo s) d now came l e =
     let it = by_way (said came).way (said came).bytes s now d e in record { finished = it.1.0; swept = it.1.1; no_name = it.0 }
-after_row (at.Turn p) d now came l e = absurd (cc)
-after_row (at.Start row) d now came l e = absurd (cc)
-after_row (at.TakeLink c) d now came l e = absurd (cc)
-after_row (at.Mark row m) d now came l e = absurd (cc)
-after_row (at.UnlinkFile c n p) d now came l e = absurd (cc)
-after_row (at.ReadFile c n begun reading) d now came l e = absurd (cc)
-after_row (at.Request c) d now came l e = absurd (cc)
-after_row at.InTodo d now came l e = absurd (cc)
-after_row (at.Finish row n) d now came l e = absurd (cc)
-after_row (at.Sweep row) d now came l e = absurd (cc)
-after_row (at.Ended status) d now came l e = absurd (cc)
+after_row row d now came l e = absurd (cc)
 
 ends_over : (d : Desk) (event : Own) → ends_idle d event ≡ true → After d event.read event.came
 ends_over d event e =

@@ -7,8 +7,8 @@ use Rattle.call_fs.specs.declared.past.GotData.TheVariants as came
 use Rattle.call_fs.specs.declared.past.GotData.{GotData}
 use Rattle.call_fs.specs.declared.past.Own.{Own}
 use Rattle.queue_paths.specs.Names.Part.{Info}
-use Rattle.retry_law.proofs.Infos.{AreInfos, infos_on, known_said, none_known}
-use Rattle.retry_law.specs.Infos.{pass_tells, tells}
+use Rattle.retry_law.proofs.Infos.{AreInfos, else_said, infos_on, known_said, none_at_first}
+use Rattle.retry_law.specs.Infos.{lets_go, pass_tells, tells}
 use Rattle.send_core.specs.Agrees.{has_ended}
 use Rattle.send_core.specs.Births.{Birth}
 use Rattle.send_core.specs.Table.{Next, place_after, row_now}
@@ -26,8 +26,9 @@ use Rattle.mail_world.specs.History.Life.{Alive}
 use Rattle.mail_world.specs.History.{Actor, Event, Legal, MayBear, State, after, disk_after, next_of}
 use Rattle.world_law.proofs.Ran.{have_run}
 use Rattle.settle_law.proofs.InfoFiles.{has_info, info_in, info_is, same_look}
-use Rattle.settle_law.proofs.LivingSenders.Concerns.{Knows, KnowsNext}
-use Rattle.settle_law.proofs.LivingSenders.{Concerns, LeavesItsOwn, all_held}
+use Rattle.settle_law.proofs.Concerns.Concerns.{Knows, KnowsNext}
+use Rattle.settle_law.proofs.Concerns.{Concerns, LeavesItsOwn}
+use Rattle.settle_law.proofs.LivingSenders.{all_held}
 use Rattle.settle_law.proofs.OwnInfos.{own_tells}
 use Rattle.settle_law.specs.inside.Births.{KnownAreBorn}
 use Rattle.settle_law.specs.Rests.{BeginsTurn}
@@ -40,7 +41,7 @@ Born d past = AreInfos (info_in d) None past
 -- who leaves the info files of its own numbers leaves that
 others_born : (d e : Disk) (past : List Own) → LeavesItsOwn d e past → Born d past → Born e past
 others_born d e past left h =
-    ((λ n moment known there. h.0 n moment known (same n (Knows known) moment there)), (λ it moment is there. h.1 it moment is (same it.n (KnowsNext it is refl) moment there))) where
+    ((λ n moment held known there. h.0 n moment held known (same n (Knows known held) moment there)), (λ it moment is there. h.1 it moment is (same it.n (KnowsNext it is refl) moment there))) where
       same : (n : ℕ) → Concerns past n → (moment : ℕ) → info_in e n ≡ Some moment → info_in d n ≡ Some moment
       same n concerns moment there = info_is d n moment (same_look d e n (left Info n refl concerns) moment (has_info e n moment there))
 
@@ -60,13 +61,14 @@ none_told it e = absurd (cc)
 
 child_born : (s : State) (parent : List ℕ) (own : Own) (a : List ℕ) (program : Program) (may : MayBear s parent own a program) → IsRunBy (Next None) (own ∷ may.actor.past) → Born s.disk may.actor.past
     → Born s.disk (own ∷ may.actor.past)
-child_born s parent own a program may run h = infos_on None (info_in s.disk) (info_in s.disk) own may.actor.past run
+child_born s parent own a program may run h = else_said None (info_in s.disk) (own ∷ may.actor.past)
+    (infos_on None (info_in s.disk) (info_in s.disk) own may.actor.past run
     (record {
       told = λ it e moment there. none_told it (sym tells_none ∙ e);
-      known = λ n moment known there. there;
+      known = λ n moment held known there. there;
       next = λ it e none moment there. there;
     })
-    h
+    h)
   where
     tells_none : let d : Desk = place_after None may.actor.past in tells (row_now d own.read own.ready) d.pass own.read own.came ≡ None
     tells_none =
@@ -82,9 +84,10 @@ all_any (e ∷ h) = all_any h
 
 all_born : (d : Disk) → (h : List Event) → Legal d h → (a : List ℕ) (x : Actor) → (after d h).actors a ≡ Some x → (start : ℕ) → x.program ≡ Sender start → x.life ≡ Alive
     → IsRunBy (Next None) x.past → Born (after d h).disk x.past
-all_born d h legal = all_held any_event Born (λ e. none_known None (info_in e))
+all_born d h legal = all_held any_event Born (λ e. none_at_first None (info_in e))
     (λ s I a own wrote may start is good run h.
-    infos_on None (info_in s.disk) (info_in (disk_after s.disk own.read own.due own.came wrote)) own may.actor.past run (own_tells s I a own wrote may start is run.0) h)
+    let later = info_in (disk_after s.disk own.read own.due own.came wrote) in
+    else_said None later (own ∷ may.actor.past) (infos_on None (info_in s.disk) later own may.actor.past run (own_tells s I a own wrote may start is run.0) h))
     (λ s a own b program may start is run h. child_born s a own b program may run h)
     others_born d h legal (all_any h)
 
@@ -92,9 +95,15 @@ begins_lives : (row : Row) → BeginsTurn row → has_ended row ≡ false
 begins_lives (at.Ended status) begins = absurd begins
 begins_lives r begins = refl
 
+begins_held : (row : Row) (n : ℕ) → BeginsTurn row → lets_go row n ≡ false
+begins_held (at.Ended status) n begins = absurd begins
+begins_held (at.Finish r m) n begins = absurd begins
+begins_held r n begins = refl
+
 pub known_are_born : KnownAreBorn
 known_are_born d h legal a x start is alive program begins k info known there =
     let t : State = after d h in
     let run : IsRunBy (Next None) x.past = subst (λ (p : Program). IsRunBy (next_of p) x.past) program (have_run d h legal a x is) in
-    sym (known_said None (info_in t.disk) x.past run (begins_lives (desk_of x.past).row begins) (all_born d h legal a x is start program alive run).0 k known (t.disk.files info).moment
+    let born = all_born d h legal a x is start program alive run in
+    sym (known_said None (info_in t.disk) x.past run (begins_lives (desk_of x.past).row begins) (λ n moment lives. born.0 n moment (begins_held (desk_of x.past).row n begins)) k known (t.disk.files info).moment
     (info_is t.disk k.n (t.disk.files info).moment (info, there, refl)))

@@ -51,8 +51,9 @@ use Rattle.settle_law.proofs.DuesAtRest.{clear_at, run_before, unlinks_none}
 use Rattle.settle_law.proofs.LaneTexts.{files_on}
 use Rattle.settle_law.proofs.LeftSteps.{MarkNeeds, RowNeeds, StartNeeds, acts_hold, arrives_hold, fewer_tried, lane_keeps}
 use Rattle.settle_law.proofs.Lefts.{lefts_keep}
-use Rattle.settle_law.proofs.LivingSenders.Concerns.{HasJob, Knows}
-use Rattle.settle_law.proofs.LivingSenders.{LeavesItsOwn, all_held}
+use Rattle.settle_law.proofs.Concerns.Concerns.{HasJob, KnowsFile}
+use Rattle.settle_law.proofs.Concerns.{LeavesItsOwn}
+use Rattle.settle_law.proofs.LivingSenders.{all_held}
 use Rattle.settle_law.proofs.Searching.{turn_keeps}
 use Rattle.settle_law.proofs.TriedFiles.{event_tried}
 use Rattle.settle_law.proofs.TriedKnown.{known_tried, known_tried_stay}
@@ -84,7 +85,9 @@ others_tried d e past left h =
       h.0,
       λ ch. lane_keeps (known_tried past ch) (files_on d ch) (files_on e ch) (first_at desk.row ch) (lane ch desk.slots)
           (λ n job there spoilt records was. ap records_at (left (lane_part ch) n (lane_later ch) (HasJob ch job there)))
-          (λ n none t records was. ap records_at (left (lane_part ch) n (lane_later ch) (Knows (and_parts (tried_at past ch n) (known_in past n) t).1)))
+          (λ n none t records was.
+          let both = and_parts (tried_at past ch n) (known_in past n) t in
+          ap records_at (left (lane_part ch) n (lane_later ch) (KnowsFile ch both.1 (and_parts (is_some (tried_in ch n past)) (has_in ch n past) both.0).1)))
           (h.1 ch),
     )
 

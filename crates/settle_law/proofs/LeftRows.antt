@@ -346,10 +346,7 @@ module _ (tried : Channel → ℕ → Bool) (files : Channel → Files) where
 
   f_unlinked : (w : Way) (c : Channel) (n : ℕ) (p : Point) (now : ℕ) (d : Desk) → is_fine w ≡ true → tried c n ≡ false → D d.slots → Fin (unlinked w c n p now d)
   f_unlinked way.Fine c n p now d fine gone h = (tt, on_lane Keeps_on c (ended n) d.slots (λ ch far. h ch) (gone_keeps (tried c) (files c) Unwritten (lane c d.slots) n gone (h c)))
-  f_unlinked way.Over c n p now d fine gone h = absurd (cc)
-  f_unlinked way.Absent c n p now d fine gone h = absurd (cc)
-  f_unlinked way.NoMemory c n p now d fine gone h = absurd (cc)
-  f_unlinked way.Broken c n p now d fine gone h = absurd (cc)
+  f_unlinked row c n p now d fine gone h = absurd (cc)
 
 pub rows_hold_tried : RowsHoldTried
 rows_hold_tried = record {

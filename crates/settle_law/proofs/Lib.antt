@@ -20,6 +20,8 @@ pub mod Unqueued
 pub mod NoneQueued
 -- of which facts a settled state comes
 pub mod Sufficing
+-- who searches
+pub mod Searchers
 -- how `settle` ends
 pub mod Stopping
 -- states that are alike but for what the sender did
@@ -70,6 +72,8 @@ pub mod RoutesShort
 pub mod Strays
 -- a search that ended an idle turn was the whole turn
 pub mod WholeTurns
+-- a rest by its newest turn
+pub mod SenderRests
 -- a whole idle turn in a play, by the sender's past
 pub mod TurnPasts
 -- who serves a sender lives as long as it
@@ -100,7 +104,9 @@ pub mod SenderRows
 pub mod InfoFiles
 -- what an injector, a cleaner and those that only read leave of the files that preprocessing makes
 pub mod LaterLeft
--- events of others leave info files
+-- which numbers concern a sender
+pub mod Concerns
+-- events of others leave a sender its own
 pub mod OthersInfos
 -- what an event of a sender tells of info files
 pub mod OwnInfos

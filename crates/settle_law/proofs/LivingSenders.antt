@@ -9,17 +9,7 @@ use Rattle.call_fs.specs.Maps.{put_at}
 use Rattle.call_fs.specs.Past.{IsRunBy}
 use Rattle.call_fs.specs.declared.past.NeedData.{NeedData}
 use Rattle.call_fs.specs.declared.past.Own.{Own}
-use Rattle.queue_law.specs.Numbers.{find, is_later}
-use Rattle.queue_paths.specs.Names.Name.{Of}
-use Rattle.queue_paths.specs.Names.{Part}
-use Rattle.retry_law.specs.Infos.{coming}
-use Rattle.send_core.specs.Births.{Birth}
-use Rattle.send_core.specs.Table.{Next, place_after}
-use Rattle.send_jobs.specs.Jobs.{job_of}
-use Rattle.send_jobs.specs.Sending.{lane}
-use Rattle.send_jobs.specs.declared.jobs.Job.{Job}
-use Rattle.send_known.specs.declared.channel.Channel.{Channel}
-use Rattle.send_runs.specs.Knowing.{known_in}
+use Rattle.send_core.specs.Table.{Next}
 use Rattle.world_events.specs.declared.event.Program.TheVariants.{Sender}
 use Rattle.world_events.specs.declared.event.Program.{Program}
 use Rattle.mail_world.proofs.Members.{are_four}
@@ -30,18 +20,8 @@ use Rattle.world_law.proofs.Histories.{always}
 use Rattle.world_law.proofs.Tenants.{some_actor}
 use Rattle.world_law.specs.Crew.{IsNamed}
 use Rattle.world_law.specs.Inv.{Inv}
+use Rattle.settle_law.proofs.Concerns.{LeavesItsOwn}
 use Rattle.settle_law.proofs.OthersInfos.{later_left}
-
--- A number that concerns a sender: it knows the message, or knows it next, or has a job on it.
-pub data Concerns (past : List Own) (n : ℕ) : Type 0 where
-  Knows : known_in past n ≡ true → Concerns past n
-  KnowsNext : (it : Birth) → coming (place_after None past).row (place_after None past).pass ≡ Some it → it.n ≡ n → Concerns past n
-  HasJob : (c : Channel) (job : Job) → job_of n (lane c (place_after None past).slots).jobs ≡ Some job → Concerns past n
-
--- Of each such number the files that preprocessing made are as they were. Of others somebody else may make them: who takes up a number that
--- this sender doesn't know yet.
-abbrev pub LeavesItsOwn : Disk → Disk → List Own → Type 0
-LeavesItsOwn d e past = (part : Part) (n : ℕ) → is_later part ≡ true → Concerns past n → find e.names e.files (Of part n) ≡ find d.names d.files (Of part n)
 
 over_dead : (status : ℕ) → Over status ≡ Alive → ⊥
 over_dead status e = cc
@@ -95,7 +75,8 @@ module _ (ok : Event → Bool) (P : Disk → List Own → Type 0) (none : (d : D
         let other : b ≡ codes "sender" = subst (IsNamed b) program (I.crew b y is) in
         absurd (far (other ∙ sym mine))
     others_by p e_is b y far is start program alive run =
-        others s.disk e y.past (λ part n later concerns. later_left s I a own wrote may (λ h. subst IsSender e_is h) part n later) (R b y is start program alive run)
+        let other : b ≡ codes "sender" = subst (IsNamed b) program (I.crew b y is) in
+        others s.disk e y.past (later_left s I a own wrote may (λ h. subst IsSender e_is h) y start (ap s.actors (sym other) ∙ is) program alive) (R b y is start program alive run)
 
     own_held : Holds e (record { program = x.program; past = own ∷ x.past; life = x.life })
     own_held start program alive run = does s I a own wrote may start program good run (R a x may.reads.is start program alive run.0)

@@ -1,6 +1,6 @@
 -- Each preprocessed message is met by the sender that lives.
 use Rattle.std.proofs.Common.{◌≡◌, ◌≢◌, inr, ⊎_elim, ℕ, List, [], ◌∷◌, Option, Some, None, refl, sym, ap, ◌∙◌, subst}
-use Rattle.std.specs.Prelude.{codes, option_map}
+use Rattle.std.specs.Prelude.{IsSome, codes, option_map}
 use Rattle.call_fs.proofs.Maps.{put_at_cases}
 use Rattle.call_fs.specs.Disk.{Disk, Open as OpenFile}
 use Rattle.call_fs.specs.Maps.{put_at}
@@ -18,6 +18,9 @@ use Rattle.retry_law.specs.Left.{NoneLeft}
 use Rattle.send_core.specs.Table.{Next, due_at, row_now}
 use Rattle.send_core.specs.declared.desk.Desk.{Desk}
 use Rattle.send_parts.specs.declared.row.Row.{Row}
+use Rattle.send_parts.specs.declared.row.Row.TheVariants as at
+use Rattle.send_parts.specs.declared.rows.FinishRow.TheVariants as finish
+use Rattle.send_parts.specs.declared.rows.SweepRow.TheVariants as sweep
 use Rattle.world_events.specs.declared.event.Program.TheVariants.{Sender}
 use Rattle.world_events.specs.declared.event.Program.{Program}
 use Rattle.mail_world.proofs.Members.{are_four}
@@ -28,10 +31,9 @@ use Rattle.world_law.proofs.Histories.{always}
 use Rattle.world_law.proofs.Tenants.{some_actor}
 use Rattle.world_law.specs.Crew.{IsNamed}
 use Rattle.world_law.specs.Inv.{Inv}
-use Rattle.settle_law.proofs.InfoFiles.{HasInfo, SameInfo, same_look}
+use Rattle.settle_law.proofs.FiledCalls.{some_of}
 use Rattle.settle_law.proofs.Meeting.{stays_met}
 use Rattle.settle_law.proofs.OthersFiled.{other_filed}
-use Rattle.settle_law.proofs.OthersInfos.{other_left}
 use Rattle.settle_law.proofs.OwnFiled.{own_filed, own_gone, own_shows}
 use Rattle.settle_law.proofs.Removals.{none_removed, started_shows}
 use Rattle.settle_law.specs.inside.Met.{AreMet, Comes, IsFiled, Removes, Shows}
@@ -61,12 +63,14 @@ put_over d actors a x life dead R = put_met d actors a (record { program = x.pro
 
 -- An event of an actor
 
--- an info file that isn't there by one look isn't there by the same look later
-none_left : (d e : Disk) (n : ℕ) → SameInfo d e n → d.names (path (Of Info n)) ≡ None → e.names (path (Of Info n)) ≡ None
-none_left d e n same none = by (e.names (path (Of Info n))) refl where
-  by : (o : Option ℕ) → e.names (path (Of Info n)) ≡ o → o ≡ None
-  by None is = refl
-  by (Some i) is = let was : HasInfo d n (e.files i).moment = same (e.files i).moment (i, is, refl) in let there : d.names (path (Of Info n)) ≡ Some was.0 = was.1 in absurd (cc)
+unfiled : (o : Option ℕ) → o ≡ None → IsSome o → ⊥
+unfiled o none some = let w = some_of o some in let bad : ◌≡◌ {A = Option ℕ} None (Some w.0) = sym none ∙ w.1 in cc
+
+-- to one that it has removed it doesn't come
+comes_apart : (row : Row) (d : Desk) (n : ℕ) → Removes row n → Comes row d n → ⊥
+comes_apart (at.Finish finish.Take m) d n removes comes = comes
+comes_apart (at.Sweep (sweep.Take dir m)) d n removes comes = comes
+comes_apart row d n removes comes = removes
 
 module _ (s : State) (I : Inv s) (R : AllMet s.disk s.actors) (a : List ℕ) (own : Own) (wrote : ℕ) (may : MayDo s a own wrote) where
   abbrev x : Actor
@@ -82,7 +86,11 @@ module _ (s : State) (I : Inv s) (R : AllMet s.disk s.actors) (a : List ℕ) (ow
         (λ (there : IsFiled s.disk n). was.met n low high there)
         (λ (all : (y : Actor) (start : ℕ) → s.actors (codes "sender") ≡ Some y → y.program ≡ Sender start → y.life ≡ Alive → Comes (desk_of y.past).row (desk_of y.past) n). inr (comes n all))
         (other_filed s I a own wrote may other n filed);
-    gone = λ n removes. none_left s.disk e n (same_look s.disk e n (other_left s I a own wrote may other n)) (was.gone n removes);
+    gone = λ n removes filed. ⊎_elim
+        (λ (there : IsFiled s.disk n). was.gone n removes there)
+        (λ (all : (y : Actor) (start : ℕ) → s.actors (codes "sender") ≡ Some y → y.program ≡ Sender start → y.life ≡ Alive → Comes (desk_of y.past).row (desk_of y.past) n).
+        comes_apart (desk_of past).row (desk_of past) n removes (comes n all))
+        (other_filed s I a own wrote may other n filed);
   }
 
   -- another sender lives: then its event is no sender's
@@ -100,7 +108,7 @@ module _ (s : State) (I : Inv s) (R : AllMet s.disk s.actors) (a : List ℕ) (ow
     met = λ n low high filed.
         let there : IsFiled s.disk n = own_filed s I a own wrote may start program n filed in
         stays_met own x.past run stays.1 n low high (own_shows s I a own wrote may start program n low high there was.gone) (was.met n low high there);
-    gone = own_gone s I a own wrote may start program run.1.1;
+    gone = λ n removes filed. unfiled (e.names (path (Of Info n))) (own_gone s I a own wrote may start program run.1.1 n removes) filed.1;
   }
     where
       was : AreMet s.disk x.past

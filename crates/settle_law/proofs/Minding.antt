@@ -35,7 +35,7 @@ use Rattle.queue_law.proofs.Looks.{find_none, find_some, found}
 use Rattle.queue_law.specs.Books.{Injection}
 use Rattle.queue_law.specs.Cleaners.{CleanerStands, Rests, StandsAt as CleanStandsAt}
 use Rattle.queue_law.specs.Injectors.{InTime, Relies}
-use Rattle.queue_law.specs.Numbers.{About, Entry, Phase, Queue, about, entry, look}
+use Rattle.queue_law.specs.Numbers.{About, Entry, Phase, Queue, about, entry, find, look}
 use Rattle.queue_law.specs.Numbers.Phase.{Finished, Free, Queued, Sorted}
 use Rattle.queue_paths.specs.Dirs.{queue_dirs}
 use Rattle.queue_paths.specs.Names.{Name, path}
@@ -60,7 +60,7 @@ use Rattle.todo_pass.specs.declared.row.Row.TheVariants as todo
 use Rattle.world_events.specs.declared.event.Program.{Program}
 use Rattle.world_events.specs.declared.event.Program.TheVariants.{Injector, Cleaner, Sender, LocalSpawner, RemoteSpawner, Delivery}
 use Rattle.world_pipes.specs.Pipework.{Pipe, Yields, pipes_after}
-use Rattle.mail_world.specs.History.{Actor, ComesOf, IsCleaner, IsSender, Life, MayDo, State, acted, disk_after, finished, next_of}
+use Rattle.mail_world.specs.History.{Actor, ComesOf, IsCleaner, IsSender, Life, MayDo, MayRead, State, acted, disk_after, finished, next_of}
 use Rattle.mail_world.specs.History.Life.{Alive}
 use Rattle.mail_world.specs.Untouched.{queue}
 use Rattle.mail_world.proofs.Coming.{may_come}
@@ -81,7 +81,7 @@ use Rattle.settle_law.proofs.FreeRests.{length_none}
 use Rattle.settle_law.proofs.HalfDisks.{IsUndone, Undoes, UnlinksTodo, is_refusal, is_refused, was_half_by}
 use Rattle.settle_law.proofs.HalfRows.{IsClearing, IsTakingInfo, IsTakingTodo, apart, cleaner_takes, injector_links, local_undoes_none, spawner_undoes_none, sender_takes}
 use Rattle.settle_law.proofs.Injecting.{MayLink, begins, goes_on}
-use Rattle.settle_law.proofs.OthersInfos.{other_left}
+use Rattle.settle_law.proofs.OthersInfos.{cleaner_left}
 use Rattle.settle_law.proofs.PartDirs.{has_todo_dir}
 use Rattle.settle_law.proofs.Removing.{row_after}
 use Rattle.settle_law.proofs.ServedPasts.{at_row, by_answer}
@@ -320,13 +320,21 @@ module _ (s : State) (H : Holds s) (a : List ℕ) (own : Own) (wrote : ℕ) (may
     not_sender : IsSender x.program → ⊥
     not_sender sends = subst IsSender is sends
 
+    may_read : MayRead s a (record { program = Cleaner began; past = x.past; life = Alive }) own.read
+    may_read = subst (λ (l : Life). MayRead s a (record { program = Cleaner began; past = x.past; life = l }) own.read) may.reads.alive
+        (subst (λ (p : Program). MayRead s a (record { program = p; past = x.past; life = x.life }) own.read) is may.reads)
+
+    -- it leaves each info file
+    left : (n : ℕ) → find t.disk.names t.disk.files (Of Info n) ≡ find s.disk.names s.disk.files (Of Info n)
+    left n = cleaner_left s H.inv a own wrote began x.past may_read own.due own.came (due_of (Cleaner began) is) may.came Info n refl
+
     -- a todo file goes only from a message that has its info file
     todo_kept : (n : ℕ) → IsHalfWay t.disk n → (row : CleanRow) → cleaner_row ≡ row → IsTakingTodo row n → ⊥
     todo_kept n half (clean.UnlinkSecond (TodoCommand m)) e same =
         let rests : Rests s.now q (clean.UnlinkSecond (TodoCommand m)) = subst (λ (r : CleanRow). CleanStandsAt s.now q r (clean_after x.past)) e stood in
         let info = rests.rest.0.made.info in
         let there : look q (Of Info n) ≡ Some info.file = ap (λ (k : ℕ). look q (Of Info k)) (sym same) ∙ info.there in
-        none_some info.file (sym (find_none t.disk.names t.disk.files (Of Info n) half.no_info) ∙ other_left s H.inv a own wrote may not_sender n ∙ there)
+        none_some info.file (sym (find_none t.disk.names t.disk.files (Of Info n) half.no_info) ∙ left n ∙ there)
     todo_kept n half r e taking = absurd taking
 
     cleaner_waits : (n : ℕ) → IsHalfWay t.disk n → WaitsOn n

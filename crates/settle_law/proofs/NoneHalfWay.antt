@@ -34,7 +34,8 @@ use Rattle.scenario.specs.Turns.{is_search_call}
 use Rattle.world_law.proofs.Tenants.{some_actor}
 use Rattle.settle_law.specs.inside.HalfWay.{IsHalfWay, IsMinded, NoneIsHalfWay}
 use Rattle.settle_law.specs.inside.HalfWay.IsMinded.{Gives, Injects, Waits}
-use Rattle.settle_law.specs.Promised.{IsRest}
+use Rattle.settle_law.proofs.SenderRests.{SendersRest, newest_rest}
+use Rattle.settle_law.proofs.Searchers.{searches_not}
 use Rattle.settle_law.specs.Rests.{BeginsTurn}
 use Rattle.settle_law.specs.Suffices.{desk_of}
 use Rattle.settle_law.specs.Well.{GoesWell}
@@ -94,7 +95,7 @@ search_gives due d text e is = false≢true (ap is_search_call (sym is) ∙ e)
 no_finish : (row : Row) (step : FinishRow) (n : ℕ) → row ≡ at.Finish step n → BeginsTurn row → ⊥
 no_finish row step n e begins = subst BeginsTurn e begins
 
-module _ (d : Disk) (later : List Deed) (first : Deed) (before : List Deed) (rest : IsRest d later first before) (n : ℕ) where
+module _ (d : Disk) (later : List Deed) (first : Deed) (before : List Deed) (rest : SendersRest d later first before) (n : ℕ) where
   abbrev h : List Event
   h = history_of before
 
@@ -106,7 +107,7 @@ module _ (d : Disk) (later : List Deed) (first : Deed) (before : List Deed) (res
   t = after d (later ++ first ∷ before)
 
   abbrev x : Actor
-  x = rest.turn.sender
+  x = rest.turn.actor
 
   abbrev own : Own
   own = rest.turn.searches.own
@@ -125,7 +126,7 @@ module _ (d : Disk) (later : List Deed) (first : Deed) (before : List Deed) (res
 
   none_finishes : (z : Actor) (step : FinishRow) → s.actors (codes "sender") ≡ Some z → (desk_of z.past).row ≡ at.Finish step n → ⊥
   none_finishes z step is row =
-      no_finish (desk_of x.past).row step n (subst (λ (o : Actor). (desk_of o.past).row ≡ at.Finish step n) (some_actor z x (sym is ∙ rest.turn.is)) row) rest.turn.begins
+      no_finish (desk_of x.past).row step n (subst (λ (o : Actor). (desk_of o.past).row ≡ at.Finish step n) (some_actor z x (sym is ∙ rest.turn.is)) row) (turned.whole d later first before rest.turn).begins
 
   -- whoever else lives waits
   left : (b : List ℕ) → b ≢ codes "sender" → t.actors b ≡ s.actors b
@@ -133,7 +134,7 @@ module _ (d : Disk) (later : List Deed) (first : Deed) (before : List Deed) (res
 
   cannot : (b : List ℕ) (z : Actor) → s.actors b ≡ Some z → z.life ≡ Alive → b ≢ codes "sender" → CanNot t b (next_of z.program z.past t.now (found_by t b z.program))
   cannot b z is alive far =
-      subst (λ (r : Ready). CanNot t b (next_of z.program z.past t.now r)) (ap (λ (o : Option Actor). found_at t b o) (left b far ∙ is)) (rest.others.waits b z (left b far ∙ is) alive far)
+      subst (λ (r : Ready). CanNot t b (next_of z.program z.past t.now r)) (ap (λ (o : Option Actor). found_at t b o) (left b far ∙ is)) (rest.others.waits b z (left b far ∙ is) alive (searches_not b far))
 
   -- nobody is next to give a child its input
   none_feeds : (slot : Slot) (b : List ℕ) → IsFeeding s.actors s.pipework slot b → ⊥
@@ -164,7 +165,7 @@ module _ (d : Disk) (later : List Deed) (first : Deed) (before : List Deed) (res
 
       by : (o : Option Slot) → s.pipework.slots b ≡ o → ⊥
       by None alone =
-          others_end.mails d (history_of (later ++ first ∷ before)) rest.well rest.others b z args (left b far ∙ is) alive far runs
+          others_end.mails d (history_of (later ++ first ∷ before)) rest.well rest.others b z args (left b far ∙ is) alive (searches_not b far) runs
           (ap (λ (w : Pipework). w.slots b) (sym alike.pipework) ∙ alone)
       by (Some slot) at_it =
           let f : IsFed s.actors s.pipework slot b = fed_always d h well.legal well.well b slot at_it in
@@ -178,8 +179,14 @@ module _ (d : Disk) (later : List Deed) (first : Deed) (before : List Deed) (res
   none_half : IsHalfWay t.disk n → ⊥
   none_half half = none_minds (half_ways_are_minded d h well n (subst (λ (disk : Disk). IsHalfWay disk n) (sym alike.disk) half))
 
-pub none_is_half_way : NoneIsHalfWay
-none_is_half_way d later first before rest n = (
+pub not_half_way : (d : Disk) (later : List Deed) (first : Deed) (before : List Deed) → SendersRest d later first before
+    → (n : ℕ) → (state_of (after d (later ++ first ∷ before)).disk n ≢ S2) × (state_of (after d (later ++ first ∷ before)).disk n ≢ S3)
+not_half_way d later first before rest n = (
   λ e. none_half d later first before rest n (in_second (after d (later ++ first ∷ before)).disk n e),
   λ e. none_half d later first before rest n (in_third (after d (later ++ first ∷ before)).disk n e),
 )
+
+pub none_is_half_way : NoneIsHalfWay
+none_is_half_way d turns before rest n =
+    let w = newest_rest d turns before rest in
+    subst (λ (l : List Deed). (state_of (after d l).disk n ≢ S2) × (state_of (after d l).disk n ≢ S3)) (sym w.are) (not_half_way d w.later w.first w.before w.rest n)

@@ -1,5 +1,5 @@
 -- At a rest no message waits to be preprocessed: the first search of its turn found none.
-use Rattle.std.proofs.Common.{◌≡◌, ◌⊎◌, inl, inr, ⊎_elim, ℕ, List, [], ◌∷◌, ◌++◌, true, not, ◌&&◌, Option, Some, None, refl, sym, ap, ◌∙◌, subst, codes}
+use Rattle.std.proofs.Common.{◌≡◌, ◌≢◌, ◌⊎◌, inl, inr, ⊎_elim, ℕ, List, [], ◌∷◌, ◌++◌, true, not, ◌&&◌, Option, Some, None, refl, sym, ap, ◌∙◌, subst, codes}
 use Rattle.std.specs.Prelude.{Contains}
 use Rattle.std.specs.List.{list_all}
 use Rattle.std.proofs.lemmas.Bool.{and_parts, false≢true}
@@ -15,6 +15,7 @@ use Rattle.call_fs.specs.declared.past.GotData.TheVariants as came
 use Rattle.call_fs.specs.declared.past.NeedData.{NeedData}
 use Rattle.call_fs.specs.declared.past.NeedData.TheVariants as needs
 use Rattle.call_fs.specs.declared.past.Own.{Own}
+use Rattle.queue_states.specs.declared.state.State.TheVariants.{S4}
 use Rattle.queue_states.specs.States.{state_of}
 use Rattle.retry_law.specs.Left.{NoneLeft}
 use Rattle.retry_law.proofs.Left.{no_number_left}
@@ -36,7 +37,7 @@ use Rattle.scenario.specs.Chains.{EachFollows}
 use Rattle.scenario.specs.Deeds.{Deed, after, history_of}
 use Rattle.settle_law.specs.inside.Queued.{RestsUnqueued}
 use Rattle.settle_law.specs.inside.Rests.{IsWholeTurn, SearchesOn, ends_turn}
-use Rattle.settle_law.specs.Promised.{IsRest}
+use Rattle.settle_law.proofs.SenderRests.{SendersRest, newest_rest}
 use Rattle.settle_law.specs.Suffices.{desk_of}
 use Rattle.settle_law.specs.Well.{GoesWell, came_well, goes_well, is_well_answered}
 use Rattle.settle_law.proofs.FromStart.{begins_search, from_start}
@@ -98,12 +99,12 @@ module _ (past : List Own) (first : Own) (turned_in : (desk_of (first ∷ past))
 
 -- The first search
 
-module _ (d : Disk) (later : List Deed) (first : Deed) (before : List Deed) (rest : IsRest d later first before) where
+module _ (d : Disk) (later : List Deed) (first : Deed) (before : List Deed) (rest : SendersRest d later first before) where
   abbrev s : State
   s = after d before
 
   abbrev x : Actor
-  x = rest.turn.sender
+  x = rest.turn.actor
 
   abbrev own : Own
   own = rest.turn.searches.own
@@ -158,7 +159,12 @@ module _ (d : Disk) (later : List Deed) (first : Deed) (before : List Deed) (res
       (came_so s (codes "sender") (codes "todo") [] own.came wrote (subst (λ (n : NeedData). ComesOf s (codes "sender") n own.came wrote) due may.came) (has_todo d (history_of before) well.legal.0)
       (and_parts (goes_well (Act (codes "sender") own wrote)) (list_all goes_well (history_of before)) well.well).0)
 
-pub unqueued : RestsUnqueued
-unqueued d later first before rest n e =
+pub unqueued_then : (d : Disk) (later : List Deed) (first : Deed) (before : List Deed) → SendersRest d later first before → (n : ℕ) → state_of (after d (later ++ first ∷ before)).disk n ≢ S4
+unqueued_then d later first before rest n e =
     none (after d before).disk rest.turn.searches.wrote (found_none d later first before rest) n (waits_small d (history_of (later ++ first ∷ before)) n rest.well e)
     (ap (λ (disk : Disk). state_of disk n) (turned.alike d later first before rest.turn).disk ∙ e)
+
+pub unqueued : RestsUnqueued
+unqueued d turns before rest n =
+    let w = newest_rest d turns before rest in
+    subst (λ (l : List Deed). state_of (after d l).disk n ≢ S4) (sym w.are) (unqueued_then d w.later w.first w.before w.rest n)

@@ -292,11 +292,11 @@ module _ (s : State) (I : Inv s) (a : List ℕ) (own : Own) (wrote : ℕ) (may :
     scan_shows (start.StatInfo dir m) got st comes = absurd comes
     scan_shows r got st comes = tt
 
-    row_shows : (r : Row) (got : GotData) → At r → ComesOf s a (due_at r d) got wrote → ((m : ℕ) → Removes r m → s.disk.names (path (Of Info m)) ≡ None) → Shows r d got n
+    row_shows : (r : Row) (got : GotData) → At r → ComesOf s a (due_at r d) got wrote → ((m : ℕ) → Removes r m → IsFiled s.disk m → ⊥) → Shows r d got n
     row_shows (at.Start r) got st comes gone = scan_shows r got st comes
-    row_shows r got st comes gone = λ removes. not_missing (gone n removes)
+    row_shows r got st comes gone = λ removes. gone n removes filed
 
-    pub own_shows : ((m : ℕ) → Removes d.row m → s.disk.names (path (Of Info m)) ≡ None) → Shows row d own.came n
+    pub own_shows : ((m : ℕ) → Removes d.row m → IsFiled s.disk m → ⊥) → Shows row d own.came n
     own_shows gone = row_shows row own.came here came_here (λ m removes. gone m (arrived_removes d own.read own.ready m removes))
 
   -- The command to remove a message is given only where its info file is gone

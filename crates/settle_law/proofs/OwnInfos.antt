@@ -319,7 +319,7 @@ module _ (s : State) (I : Inv s) (a : List ℕ) (own : Own) (wrote : ℕ) (may :
   tells_here : IsRunBy (Next None) past → TellsInfos (info_in s.disk) (info_in (Then (due_at row d) own.came)) None past own
   tells_here run = record {
     told = λ it e moment later. row_told row own.came here came_here it e moment (has_info (Then (due_at row d) own.came) it.n moment later);
-    known = λ n moment known later. info_is s.disk n moment (known_kept (due_at row d) own.came refl came_here run n known moment (has_info (Then (due_at row d) own.came) n moment later));
+    known = λ n moment held known later. info_is s.disk n moment (known_kept (due_at row d) own.came refl came_here run n known moment (has_info (Then (due_at row d) own.came) n moment later));
     next = λ it e none moment later.
         info_is s.disk it.n moment
         (by_spares (due_at row d) own.came it.n came_here (next_spares row here it (arrives_coming d.row d.pass d own.read own.ready ∙ e)) moment (has_info (Then (due_at row d) own.came) it.n moment later));

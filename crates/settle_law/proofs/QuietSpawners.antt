@@ -65,6 +65,7 @@ use Rattle.world_law.proofs.Tenants.{some_actor}
 use Rattle.scenario.proofs.Carried.{lives_actor}
 use Rattle.settle_law.specs.inside.Free.{OthersEnd, OthersRunNone}
 use Rattle.settle_law.specs.Promised.{OthersWait}
+use Rattle.settle_law.proofs.Searchers.{is_no_sender, searches_not}
 use Rattle.settle_law.specs.Well.{GoesWell}
 use Rattle.settle_law.proofs.Dropping.{HasDrop, drops_always}
 use Rattle.settle_law.proofs.PipeEvents.{spawned_run, spawner_apart}
@@ -180,7 +181,7 @@ module _ (d : Disk) (h : List Event) (well : GoesWell d h) (others : OthersWait 
 
   -- what waits, by what it finds
   waits_so : (a : List ℕ) (x : Actor) → s.actors a ≡ Some x → x.life ≡ Alive → a ≢ codes "sender" → CanNot s a (next_of x.program x.past s.now (found_by s a x.program))
-  waits_so a x is alive apart = subst (λ (r : Ready). CanNot s a (next_of x.program x.past s.now r)) (ap (λ (o : Option Actor). found_at s a o) is) (others.waits a x is alive apart)
+  waits_so a x is alive apart = subst (λ (r : Ready). CanNot s a (next_of x.program x.past s.now r)) (ap (λ (o : Option Actor). found_at s a o) is) (others.waits a x is alive (searches_not a apart))
 
   -- who feeds a child doesn't wait
   feeds_not : (a : List ℕ) (x : Actor) (k : ℕ) → s.actors a ≡ Some x → x.life ≡ Alive → a ≢ codes "sender" → FeedsNow x k → ⊥
@@ -438,7 +439,7 @@ module _ (d : Disk) (h : List Event) (well : GoesWell d h) (others : OthersWait 
 
 pub others_end : OthersEnd
 others_end = record {
-  mails = λ d h well others. alone_acts d h well others;
+  mails = λ d h well others a x args there alive none. alone_acts d h well others a x args there alive (is_no_sender a none);
   children = λ d h well others. child_acts d h well others;
 }
 

@@ -309,19 +309,9 @@ module _ (past : List Own) where
   needs_done (at.Turn point.Finish) d now ready h calm =
       unneeded (finishing_by (next_idle now d)) (from_sweep d now ready) (finishing_needs (next_idle now d)) (sweep_needs d now ready (unmarked point.Finish d h.2 h))
   needs_done (at.Turn point.Sweep) d now ready h calm = sweep_needs d now ready (unmarked point.Sweep d h.2 h)
-  needs_done (at.Turn point.TakeRemote) d now ready h calm = absurd (cc)
-  needs_done (at.Turn point.Reports) d now ready h calm = absurd (cc)
-  needs_done (at.Turn (point.Pass c may)) d now ready h calm = absurd (cc)
   needs_done (at.FindTodo s) d now ready h calm = refl
   needs_done (at.Ended status) d now ready h calm = refl
-  needs_done (at.TakeLink c) d now ready h calm = absurd (cc)
-  needs_done (at.Mark row m) d now ready h calm = absurd (cc)
-  needs_done (at.UnlinkFile c n p) d now ready h calm = absurd (cc)
-  needs_done (at.ReadFile c n begun reading) d now ready h calm = absurd (cc)
-  needs_done (at.Request c) d now ready h calm = absurd (cc)
-  needs_done at.InTodo d now ready h calm = absurd (cc)
-  needs_done (at.Finish row n) d now ready h calm = absurd (cc)
-  needs_done (at.Sweep row) d now ready h calm = absurd (cc)
+  needs_done row d now ready h calm = absurd (cc)
 
   busy_so : (d : Desk) (now : ℕ) (ready : Ready) → Fits d.row d → IsQuiet d → needs_busy (row_now d now ready) ≡ true → d.busy ≡ true
   busy_so d now ready h quiet needs = by d.busy refl
@@ -340,13 +330,9 @@ quiet_always (event ∷ before) run =
     act_quiet (row_now d event.read event.ready) event.read event.came d (busy_so before d event.read event.ready (keeps None before run.0).0 quiet) quiet
 
 stands_so : (row : Row) (d : Desk) (now : ℕ) (ready : Ready) → is_calm row d.last_left ≡ true → is_search (arrive row d now ready) ≡ true → BeginsTurn row ⊎ GoesOn row d.last_left
-stands_so (at.Start row) d now ready calm found = absurd (cc)
 stands_so (at.Turn point.TakeLocal) d now ready calm found = inl tt
 stands_so (at.Turn point.Finish) d now ready calm found = inl tt
 stands_so (at.Turn point.Sweep) d now ready calm found = inl tt
-stands_so (at.Turn point.TakeRemote) d now ready calm found = absurd (cc)
-stands_so (at.Turn point.Reports) d now ready calm found = absurd (cc)
-stands_so (at.Turn (point.Pass c may)) d now ready calm found = absurd (cc)
 stands_so (at.FindTodo s) d now ready calm found = inr (by s d.last_left calm)
   where
     by : (s : Search) (left : List ℕ) → goes_on s left ≡ true → GoesOn (at.FindTodo s) left
@@ -354,15 +340,7 @@ stands_so (at.FindTodo s) d now ready calm found = inr (by s d.last_left calm)
     by search.FromStart [] e = absurd (cc)
     by search.FromStart (b ∷ bs) e = λ none. absurd (cc)
     by (search.AfterStray again) left e = tt
-stands_so (at.Ended status) d now ready calm found = absurd (cc)
-stands_so (at.TakeLink c) d now ready calm found = absurd (cc)
-stands_so (at.Mark row m) d now ready calm found = absurd (cc)
-stands_so (at.UnlinkFile c n p) d now ready calm found = absurd (cc)
-stands_so (at.ReadFile c n begun reading) d now ready calm found = absurd (cc)
-stands_so (at.Request c) d now ready calm found = absurd (cc)
-stands_so at.InTodo d now ready calm found = absurd (cc)
-stands_so (at.Finish row n) d now ready calm found = absurd (cc)
-stands_so (at.Sweep row) d now ready calm found = absurd (cc)
+stands_so row d now ready calm found = absurd (cc)
 
 not_true : (b : Bool) → not b ≡ true → b ≡ false
 not_true true e = absurd (cc)

@@ -64,17 +64,7 @@ way_keeps way.NoMemory text s now d = none_keeps (is_again s) d.last_left d now
 
 row_keeps : (row : Row) (d : Desk) (now : ℕ) (came : GotData) → is_search row ≡ true → Keeps d (act row now came d)
 row_keeps (at.FindTodo s) d now came search = way_keeps (said came).way (said came).bytes s now d
-row_keeps (at.Turn p) d now came search = absurd (cc)
-row_keeps (at.Start row) d now came search = absurd (cc)
-row_keeps (at.TakeLink c) d now came search = absurd (cc)
-row_keeps (at.Mark row m) d now came search = absurd (cc)
-row_keeps (at.UnlinkFile c n p) d now came search = absurd (cc)
-row_keeps (at.ReadFile c n begun reading) d now came search = absurd (cc)
-row_keeps (at.Request c) d now came search = absurd (cc)
-row_keeps at.InTodo d now came search = absurd (cc)
-row_keeps (at.Finish row n) d now came search = absurd (cc)
-row_keeps (at.Sweep row) d now came search = absurd (cc)
-row_keeps (at.Ended status) d now came search = absurd (cc)
+row_keeps row d now came search = absurd (cc)
 
 pub search_keeps : (d : Desk) (event : Own) → is_search (row_now d event.read event.ready) ≡ true → Keeps d (moved d event)
 search_keeps d event search =

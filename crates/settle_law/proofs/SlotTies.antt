@@ -110,10 +110,7 @@ module _ (mine : List Own) (own : Own) (asked : ChildData) where
 
   local_low : (r : LocalRow) → (local_after mine).row ≡ r → Tells mine (local_after mine).work → local_due_at r own.ready (local_after mine) ≡ needs.Start asked → slot_of asked < 120
   local_low local_at.Serves is t due = let l = local_after mine in started_low (local_program l) l.work refl t due
-  local_low local_at.OpenUsers is t due = absurd (cc)
-  local_low (local_at.ReadUsers fd) is t due = absurd (cc)
-  local_low (local_at.CloseUsers fd whole) is t due = absurd (cc)
-  local_low local_at.OutOfMemory is t due = absurd (cc)
+  local_low row is t due = absurd (cc)
 
   low_on : (c : Channel) → IsRunBy (next_on c) (own ∷ mine) → own.due ≡ needs.Start asked → slot_of asked < 120
   low_on Local run due = local_low (local_after mine).row refl (tells_on Local mine run.0) (run.1.0 ∙ due)

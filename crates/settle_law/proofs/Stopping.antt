@@ -1,5 +1,5 @@
 -- How `settle` ends.
-use Rattle.std.proofs.Common.{◌≡◌, ◌==◌, ◌⊎◌, ℕ, suc, ◌+◌, List, [], ◌∷◌, ◌++◌, length, inl, inr, Bool, true, false, not, ◌&&◌, ◌||◌, if◌then◌else◌, Some, bytes_eq, codes, nat_lt, refl, sym, ap, ◌∙◌, subst, append_assoc}
+use Rattle.std.proofs.Common.{◌≡◌, ◌==◌, ◌⊎◌, ℕ, suc, ◌+◌, List, [], ◌∷◌, ◌++◌, length, inl, inr, Bool, true, false, not, ◌&&◌, ◌||◌, if◌then◌else◌, Some, bytes_eq, codes, nat_lt, refl, sym, ap, ◌∙◌, subst, append_assoc, arith}
 use Rattle.std.specs.List.{count_by, list_all, list_any}
 use Rattle.std.proofs.lemmas.Bool.{and_parts}
 use Rattle.std.proofs.lemmas.Slice.Eq.{bytes_eq-Decides}
@@ -24,7 +24,9 @@ use Rattle.scenario.proofs.Carried.{living_in}
 use Rattle.scenario.proofs.Outcomes.{alive_waits}
 use Rattle.scenario.proofs.StepKinds.{HasDone, has_stepped}
 use Rattle.scenario.proofs.StepKinds.HasDone.{Bears, Calls, Feeds, Finishes, Passes}
-use Rattle.settle_law.specs.Ends.{EndsIdle, FindsAll, StopsSo}
+use Rattle.world_events.specs.Searches.{searches}
+use Rattle.settle_law.specs.Ends.{FindsAll, HasEndedIdle, StopsSo}
+use Rattle.settle_law.proofs.Searchers.{is_sender}
 use Rattle.settle_law.specs.inside.Steps.{SettleStops}
 use Rattle.settle_law.specs.Ends.StopsSo.{Rests, TooLong, TooMany}
 
@@ -86,9 +88,16 @@ turn_prints d h plan (part ∷ before) are = by (part_prints d h plan before par
     by (inl none) = inl none
     by (inr is) = inr (part.actor, is)
 
--- What an idle round ends with.
+-- What an idle round ends with: a search of the sender
 
-ends_idle : (d : Disk) (before : List Deed) (deed : Deed) → is_search_deed deed ≡ true → idles (after d before) (event_in deed) ≡ true → EndsIdle d deed before
+record Ended (d : Disk) (deed : Deed) (before : List Deed) : Type 0 where
+  own : Own
+  wrote : ℕ
+  is : deed ≡ Came (Act (codes "sender") own wrote)
+  search : is_search_call own.due ≡ true
+  idle : idled_by ((after d before).actors (codes "sender")) own ≡ true
+
+ends_idle : (d : Disk) (before : List Deed) (deed : Deed) → is_search_deed deed ≡ true → idles (after d before) (event_in deed) ≡ true → Ended d deed before
 ends_idle d before (Came (Act a own wrote)) search idle =
     let parts = and_parts (bytes_eq a (codes "sender")) (is_search_call own.due) search in
     let same : a ≡ codes "sender" = (bytes_eq-Decides a (codes "sender")).0 parts.0 in
@@ -99,29 +108,21 @@ ends_idle d before (Came (Act a own wrote)) search idle =
       search = parts.1;
       idle = subst (λ b. idled_by ((after d before).actors b) own ≡ true) same idle;
     }
-ends_idle d before (Came (Start a program)) search idle = absurd (cc)
-ends_idle d before (Came (Child parent own a program)) search idle = absurd (cc)
-ends_idle d before (Came (Generation crew)) search idle = absurd (cc)
-ends_idle d before (Came (Report slot output)) search idle = absurd (cc)
-ends_idle d before (Came (End a read ready status)) search idle = absurd (cc)
-ends_idle d before (Came (Stop a)) search idle = absurd (cc)
-ends_idle d before (Came (Moment m)) search idle = absurd (cc)
-ends_idle d before (Came (Halt how contents)) search idle = absurd (cc)
-ends_idle d before (Fed a own c message envelope) search idle = absurd (cc)
+ends_idle d before row search idle = absurd (cc)
 
 -- Who searched found all that was ready: its event is a step of a run.
 
-own_by_found : (s : State) (a : List ℕ) (own other : Own) (wrote n : ℕ) → Came (Act (codes "sender") own wrote) ≡ Came (Act a other n) → other.read ≡ s.now → other.ready ≡ found_in s a → FindsAll s own
+own_by_found : (s : State) (a : List ℕ) (own other : Own) (wrote n : ℕ) → Came (Act (codes "sender") own wrote) ≡ Came (Act a other n) → other.read ≡ s.now → other.ready ≡ found_in s a → FindsAll s (codes "sender") own
 own_by_found s a own other wrote n e now found =
     let same : own ≡ other = cc in
     let name : a ≡ codes "sender" = cc in
     record { now = ap (λ (o : Own). o.read) same ∙ now; found = ap (λ (o : Own). o.ready) same ∙ found ∙ ap (found_in s) name }
 
 step_finds : (d : Disk) (h : List Deed) (plan : Plan) (a : List ℕ) (deed : Deed) (own : Own) (wrote : ℕ) → StepsTo d h plan a (Happens deed) → deed ≡ Came (Act (codes "sender") own wrote)
-    → FindsAll (after d h) own
+    → FindsAll (after d h) (codes "sender") own
 step_finds d h plan a deed own wrote step is = let it = has_stepped d h plan a deed step in by it.actor it.did
   where
-    by : (x : Actor) → HasDone plan (after d h) (next_pid h) (counts_in h) a x deed → FindsAll (after d h) own
+    by : (x : Actor) → HasDone plan (after d h) (next_pid h) (counts_in h) a x deed → FindsAll (after d h) (codes "sender") own
     by x (Calls c) = own_by_found (after d h) a own _ wrote 0 (sym is ∙ c.4) refl refl
     by x (Passes p) = own_by_found (after d h) a own _ wrote 0 (sym is ∙ p.is) refl refl
     by x (Finishes e) = let both = sym is ∙ e.2 in absurd (cc)
@@ -130,41 +131,38 @@ step_finds d h plan a deed own wrote step is = let it = has_stepped d h plan a d
 
 -- the newest deed of a turn
 turn_finds : (d : Disk) (h : List Deed) (plan : Plan) (parts : List Part) → EachFollows (TurnsOn d h plan) parts → (deed : Deed) (before : List Deed) → events_of parts ≡ deed ∷ before
-    → (own : Own) (wrote : ℕ) → deed ≡ Came (Act (codes "sender") own wrote) → FindsAll (after d (before ++ h)) own
+    → (own : Own) (wrote : ℕ) → deed ≡ Came (Act (codes "sender") own wrote) → FindsAll (after d (before ++ h)) (codes "sender") own
 turn_finds d h plan [] are deed before newest own wrote is = absurd (cc)
 turn_finds d h plan (part ∷ parts) are deed before newest own wrote is =
     by part.events (λ (e : events_of parts ≡ deed ∷ before). turn_finds d h plan parts are.0 deed before e own wrote is) are.1.run newest
   where
-    by : (events : List Deed) → (events_of parts ≡ deed ∷ before → FindsAll (after d (before ++ h)) own) → IsRunOf d (events_of parts ++ h) (plan_through plan (events_of parts)) part.actor events part.text → events ++ events_of parts ≡ deed ∷ before
-        → FindsAll (after d (before ++ h)) own
+    by : (events : List Deed) → (events_of parts ≡ deed ∷ before → FindsAll (after d (before ++ h)) (codes "sender") own) → IsRunOf d (events_of parts ++ h) (plan_through plan (events_of parts)) part.actor events part.text → events ++ events_of parts ≡ deed ∷ before
+        → FindsAll (after d (before ++ h)) (codes "sender") own
     by [] earlier run e = earlier e
     by (newer ∷ older) earlier run e =
         let same : newer ≡ deed = cc in
         let rest : older ++ events_of parts ≡ before = cc in
         let all : older ++ (events_of parts ++ h) ≡ before ++ h = sym (append_assoc older (events_of parts) h) ∙ ap (λ (l : List Deed). l ++ h) rest in
-        subst (λ (l : List Deed). FindsAll (after d l) own) all
+        subst (λ (l : List Deed). FindsAll (after d l) (codes "sender") own) all
         (step_finds d (older ++ (events_of parts ++ h)) (plan_through (plan_through plan (events_of parts)) older) part.actor newer own wrote run.are_steps.1.2 (same ∙ is))
 
 -- of a round that does nothing but search
 round_finds : (d : Disk) (h : List Deed) (plan : Plan) (letter : Letter) (parts : List Part) (slots : List ℕ) → EachFollows (TurnsOn d h plan) parts
     → list_all is_search_deed (reports_of letter slots ++ events_of parts) ≡ true → (deed : Deed) (before : List Deed) → reports_of letter slots ++ events_of parts ≡ deed ∷ before
-    → (own : Own) (wrote : ℕ) → deed ≡ Came (Act (codes "sender") own wrote) → FindsAll (after d (before ++ h)) own
+    → (own : Own) (wrote : ℕ) → deed ≡ Came (Act (codes "sender") own wrote) → FindsAll (after d (before ++ h)) (codes "sender") own
 round_finds d h plan letter parts [] are all deed before newest own wrote is = turn_finds d h plan parts are deed before newest own wrote is
 round_finds d h plan letter parts (slot ∷ slots) are all deed before newest own wrote is = absurd (cc)
 
 record Newest (d : Disk) (events h : List Deed) : Type 0 where
   deed : Deed
-  older : List Deed
   rest : List Deed
   newest : events ≡ deed ∷ rest
-  older_is : older ≡ rest ++ h
-  is : events ++ h ≡ deed ∷ older
-  ends : EndsIdle d deed older
+  ends : Ended d deed (rest ++ h)
 
 newest_ends : (d : Disk) (events h : List Deed) → list_all is_search_deed events ≡ true → has_idled d h events ≡ true → Newest d events h
 newest_ends d [] h all idle = absurd (cc)
 newest_ends d (x ∷ before) h all idle =
-    record { deed = x; older = before ++ h; rest = before; newest = refl; older_is = refl; is = refl; ends = ends_idle d (before ++ h) x (and_parts (is_search_deed x) (list_all is_search_deed before) all).0 idle }
+    record { deed = x; rest = before; newest = refl; ends = ends_idle d (before ++ h) x (and_parts (is_search_deed x) (list_all is_search_deed before) all).0 idle }
 
 rests_so : (d : Disk) (h : List Deed) (plan : Plan) (letter : Letter) (round : Round) (before : List Round) (text : List ℕ) → text ≡ []
     → EachFollows (TurnsOn d (events_in letter before ++ h) plan) round.parts → is_idle d (events_in letter before ++ h) letter round ≡ true → StopsSo d h letter (round ∷ before) text
@@ -174,10 +172,17 @@ rests_so d h plan letter round before text none are idle =
     let parts = and_parts (are_searches events) (has_idled d g events) idle in
     let all = (and_parts (list_all is_search_deed events) (count_by is_first_deed events == 1) parts.0).0 in
     let newest = newest_ends d events g all parts.1 in
-    let finds : FindsAll (after d newest.older) newest.ends.own =
-    subst (λ (l : List Deed). FindsAll (after d l) newest.ends.own) (sym newest.older_is)
-    (round_finds d g plan letter round.parts round.slots are all newest.deed newest.rest newest.newest newest.ends.own newest.ends.wrote newest.ends.is) in
-    Rests none round before refl idle newest.deed newest.older (append_assoc events (events_in letter before) h ∙ newest.is) newest.ends finds
+    let ends = newest.ends in
+    let finds = round_finds d g plan letter round.parts round.slots are all newest.deed newest.rest newest.newest ends.own ends.wrote ends.is in
+    let sender : HasEndedIdle d (codes "sender") events g = record {
+      newer = [];
+      deed = newest.deed;
+      older = newest.rest;
+      are = newest.newest;
+      others = λ k x below. absurd (omega (arith, below));
+      ends = record { own = ends.own; wrote = ends.wrote; is = ends.is; search = ends.search; idle = ends.idle; finds = finds };
+    } in
+    Rests none round before refl idle (λ a search. subst (λ (b : List ℕ). HasEndedIdle d b events g) (sym (is_sender a search)) sender)
 
 -- All rounds
 

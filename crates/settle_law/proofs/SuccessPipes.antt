@@ -60,23 +60,11 @@ data Gift (given told text : List ℕ) : Type 0 where
 gift_at : (program : ChildData) (p : Place) (row : Row) (given told text : List ℕ) → Says row p given told → due_at program row p ≡ needs.Give port.Output text → Gift given told text
 gift_at program p at.Greet given told text h e = First h.0 (cc)
 gift_at program p at.Report given told text h e = let same : p.report ≡ text = cc in Reported h.0 (subst IsWhole same h.1)
-gift_at program p at.Idle given told text h e = absurd (cc)
-gift_at program p at.TakeInput given told text h e = absurd (cc)
-gift_at program p at.OpenMess given told text h e = absurd (cc)
-gift_at program p (at.ReadMess fd) given told text h e = absurd (cc)
-gift_at program p (at.CloseMess fd whole) given told text h e = absurd (cc)
-gift_at program p at.Start given told text h e = absurd (cc)
-gift_at program p at.Feed given told text h e = absurd (cc)
-gift_at program p (at.TakeOutput slot) given told text h e = absurd (cc)
-gift_at program p (at.TakeStatus slot) given told text h e = absurd (cc)
-gift_at program p (at.Ended code) given told text h e = absurd (cc)
+gift_at program p row given told text h e = absurd (cc)
 
 local_gift : (row : LocalRow) (l : LocalPlace) (ready : Ready) (given told text : List ℕ) → Says l.work.row l.work given told → local.due_at row ready l ≡ needs.Give port.Output text → Gift given told text
-local_gift local_at.OpenUsers l ready given told text h e = absurd (cc)
-local_gift (local_at.ReadUsers fd) l ready given told text h e = absurd (cc)
-local_gift (local_at.CloseUsers fd whole) l ready given told text h e = absurd (cc)
 local_gift local_at.Serves l ready given told text h e = gift_at (local.program_of l) l.work (row_now l.work ready) given told text (comes l.work.row l.work ready given told h) e
-local_gift local_at.OutOfMemory l ready given told text h e = absurd (cc)
+local_gift row l ready given told text h e = absurd (cc)
 
 gift_on : (c : Channel) (mine : List Own) (own : Own) (given text : List ℕ) → IsRunBy (next_on c) (own ∷ mine) → Says (stands_after c mine).row (stands_after c mine) given (reported mine)
     → own.due ≡ needs.Give port.Output text → Gift given (reported mine) text

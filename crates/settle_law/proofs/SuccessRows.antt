@@ -286,10 +286,7 @@ module _ (tried : Channel → ℕ → Bool) where
 
   opened_fine : (w : Way) (m : Marked) (fd : Fd) (d : Desk) → is_fine w ≡ true → Held d.slots → Fine (mark_opened w m fd d)
   opened_fine way.Fine m fd d fine h = (tt, h)
-  opened_fine way.Over m fd d fine h = absurd (cc)
-  opened_fine way.Absent m fd d fine h = absurd (cc)
-  opened_fine way.NoMemory m fd d fine h = absurd (cc)
-  opened_fine way.Broken m fd d fine h = absurd (cc)
+  opened_fine row m fd d fine h = absurd (cc)
 
   made_fine : (c : Channel) (n place : ℕ) (d : Desk) → Held d.slots → Fine (mark_over true (record { channel = c; n = n; place = place }) d)
   made_fine c n place d h =
@@ -298,10 +295,7 @@ module _ (tried : Channel → ℕ → Bool) where
 
   unlinked_fine : (w : Way) (c : Channel) (n : ℕ) (p : Point) (now : ℕ) (d : Desk) → is_fine w ≡ true → (tried c n ≡ true → ⊥) → Held d.slots → Fine (unlinked w c n p now d)
   unlinked_fine way.Fine c n p now d fine gone h = (tt, on_lane On c (ended n) d.slots h (ended_keeps (tried c) (lane c d.slots) n gone (h c)))
-  unlinked_fine way.Over c n p now d fine gone h = absurd (cc)
-  unlinked_fine way.Absent c n p now d fine gone h = absurd (cc)
-  unlinked_fine way.NoMemory c n p now d fine gone h = absurd (cc)
-  unlinked_fine way.Broken c n p now d fine gone h = absurd (cc)
+  unlinked_fine row c n p now d fine gone h = absurd (cc)
 
   -- What is asked at each row
 

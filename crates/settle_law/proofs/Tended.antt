@@ -148,27 +148,14 @@ module _ (p : LocalPlace) (ready next : Ready) (asked : ChildData) (pid : ℕ) w
 
   work_feeds : (row : Row) → local_due_from row p ≡ needs.Start asked → let q = served row (came.Started pid) p in Feeds (local_due_from (row_now q.work next) q)
   work_feeds at.Start e = (p.work.message, ap (λ (k : ℕ). needs.Give (port.Program k) p.work.message) (ap slot_of (same_start (local_program p) e)))
-  work_feeds at.Greet e = absurd (cc)
-  work_feeds at.Idle e = absurd (cc)
-  work_feeds at.TakeInput e = absurd (cc)
-  work_feeds at.OpenMess e = absurd (cc)
-  work_feeds (at.ReadMess fd) e = absurd (cc)
-  work_feeds (at.CloseMess fd whole) e = absurd (cc)
-  work_feeds at.Feed e = absurd (cc)
-  work_feeds (at.TakeOutput slot) e = absurd (cc)
-  work_feeds (at.TakeStatus slot) e = absurd (cc)
-  work_feeds at.Report e = absurd (cc)
-  work_feeds (at.Ended code) e = absurd (cc)
+  work_feeds row e = absurd (cc)
 
   local_by : (r : LocalRow) → p.row ≡ r → local_due_at r ready p ≡ needs.Start asked → let q = local_act r ready (came.Started pid) p in Feeds (local_due q next)
   local_by local_at.Serves is due =
       let q : LocalPlace = served (row_now p.work ready) (came.Started pid) p in
       let w = work_feeds (row_now p.work ready) due in
       (w.0, ap (λ (r : LocalRow). local_due_at r next q) is ∙ w.1)
-  local_by local_at.OpenUsers is due = absurd (cc)
-  local_by (local_at.ReadUsers fd) is due = absurd (cc)
-  local_by (local_at.CloseUsers fd whole) is due = absurd (cc)
-  local_by local_at.OutOfMemory is due = absurd (cc)
+  local_by row is due = absurd (cc)
 
   local_feeds : local_due p ready ≡ needs.Start asked → let q = local_act p.row ready (came.Started pid) p in Feeds (local_due q next)
   local_feeds due = local_by p.row refl due

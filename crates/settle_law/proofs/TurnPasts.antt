@@ -20,23 +20,20 @@ use Rattle.scenario.specs.Deeds.{Deed, after, event_in, history_of}
 use Rattle.scenario.specs.Deeds.Deed.{Came}
 use Rattle.scenario.specs.Steps.{idles}
 use Rattle.scenario.specs.Turns.{is_search_call, is_search_deed}
-use Rattle.settle_law.specs.Ends.{IsIdleTurn, Searches, is_over, searches_by, searches_in}
+use Rattle.settle_law.specs.Ends.{BeginsIn, Searches, is_over, searches_by, searches_in}
 use Rattle.settle_law.specs.inside.Rests.{IsWholeTurn, SearchesOn, ends_turn}
 use Rattle.settle_law.specs.Suffices.{desk_of}
 use Rattle.settle_law.specs.Well.{GoesWell, goes_well}
+use Rattle.settle_law.proofs.SenderRests.{SendersTurn}
 use Rattle.settle_law.proofs.Alike.{AreAlike, alike_then, searches_alike}
 
 -- One search
 
 pub searcher : (p : Program) (past : List Own) (own : Own) → searches_in p past own ≡ true → (start : ℕ) × (p ≡ Sender start) × (is_search (row_now (desk_of past) own.read own.ready) ≡ true)
 searcher (Sender start) past own e = (start, refl, e)
-searcher (Injector args) past own e = absurd (cc)
-searcher (Cleaner since) past own e = absurd (cc)
-searcher (LocalSpawner since) past own e = absurd (cc)
-searcher (RemoteSpawner since) past own e = absurd (cc)
-searcher (Delivery since args) past own e = absurd (cc)
+searcher row past own e = absurd (cc)
 
-pub well_back : (d : Disk) (before : List Deed) (deed : Deed) → Searches d before deed → GoesWell d (history_of (deed ∷ before)) → GoesWell d (history_of before)
+pub well_back : (d : Disk) (before : List Deed) (deed : Deed) → Searches d (codes "sender") before deed → GoesWell d (history_of (deed ∷ before)) → GoesWell d (history_of before)
 well_back d before deed s well =
     let one = subst (λ (e : Deed). GoesWell d (history_of (e ∷ before))) s.is well in
     record {
@@ -44,7 +41,7 @@ well_back d before deed s well =
       well = (and_parts (goes_well (Act (codes "sender") s.own s.wrote)) (list_all goes_well (history_of before)) one.well).1;
     }
 
-is_search_then : (d : Disk) (before : List Deed) (deed : Deed) → Searches d before deed → is_search_deed deed ≡ true
+is_search_then : (d : Disk) (before : List Deed) (deed : Deed) → Searches d (codes "sender") before deed → is_search_deed deed ≡ true
 is_search_then d before deed s =
     ap is_search_deed s.is
     ∙ and_from (bytes_eq (codes "sender") (codes "sender")) (is_search_call s.own.due) ((bytes_eq-Decides (codes "sender") (codes "sender")).1 refl) s.search
@@ -53,7 +50,7 @@ is_search_then d before deed s =
 
 module _ (d : Disk) (base : List Deed) (x : Actor) (is : (after d base).actors (codes "sender") ≡ Some x) where
   abbrev pub Each : List Deed → Type 0
-  Each later = EachFollows (λ older deed. Searches d (older ++ base) deed) later
+  Each later = EachFollows (λ older deed. Searches d (codes "sender") (older ++ base) deed) later
 
   abbrev pub owns : (later : List Deed) → Each later → List Own
   owns [] all = []
@@ -100,7 +97,7 @@ module _ (d : Disk) (base : List Deed) (x : Actor) (is : (after d base).actors (
 
 -- The turn
 
-module _ (d : Disk) (later : List Deed) (first : Deed) (before : List Deed) (turn : IsIdleTurn d later first before) where
+module _ (d : Disk) (later : List Deed) (first : Deed) (before : List Deed) (turn : SendersTurn d later first before) where
   abbrev pub s : State
   s = after d before
 
@@ -109,7 +106,7 @@ module _ (d : Disk) (later : List Deed) (first : Deed) (before : List Deed) (tur
 
   -- the sender before it, after its first search, and after it
   abbrev pub x : Actor
-  x = turn.sender
+  x = turn.actor
 
   abbrev pub own : Own
   own = turn.searches.own
@@ -147,7 +144,7 @@ module _ (d : Disk) (later : List Deed) (first : Deed) (before : List Deed) (tur
 
   pub whole : IsWholeTurn x.past own more
   whole = record {
-    begins = turn.begins;
+    begins = subst (λ (p : Program). BeginsIn p x.past) sends.1 turn.begins;
     searches = sends.2;
     goes_on = subst (λ (m : ℕ). EachFollows (SearchesOn (own ∷ x.past) m) more) moment (searches_on d (first ∷ before) one is_one sends.0 sends.1 later turn.goes_on);
     ends = ends_by later turn.goes_on turn.ends;

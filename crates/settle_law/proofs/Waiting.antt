@@ -14,18 +14,8 @@ use Rattle.settle_law.specs.inside.Waiting.{SpawnersWait}
 
 -- what waits is at the row between two steps
 waits_idle : (row : Row) (asked : ChildData) (p : Place) → due_at asked row p ≡ needs.Wait → row ≡ at.Idle
-waits_idle at.Greet asked p e = absurd (cc)
 waits_idle at.Idle asked p e = refl
-waits_idle at.TakeInput asked p e = absurd (cc)
-waits_idle at.OpenMess asked p e = absurd (cc)
-waits_idle (at.ReadMess fd) asked p e = absurd (cc)
-waits_idle (at.CloseMess fd whole) asked p e = absurd (cc)
-waits_idle at.Start asked p e = absurd (cc)
-waits_idle at.Feed asked p e = absurd (cc)
-waits_idle (at.TakeOutput slot) asked p e = absurd (cc)
-waits_idle (at.TakeStatus slot) asked p e = absurd (cc)
-waits_idle at.Report asked p e = absurd (cc)
-waits_idle (at.Ended status) asked p e = absurd (cc)
+waits_idle row asked p e = absurd (cc)
 
 came_idle : (row : Row) (p : Place) (ready : Ready) → arrive row p ready ≡ at.Idle → row ≡ at.Idle
 came_idle at.Idle p ready e = refl

@@ -52,12 +52,12 @@ pub(crate) fn rests_suffice()
     ensures { RestsSuffice }
 {}
 
-/// `settle` prints why it stopped, or nothing; then its last round was idle and ended an idle turn of the sender.
+/// `settle` prints why it stopped, or nothing; then its last round was idle and ended an idle turn of each actor that searches.
 pub(crate) fn settle_stops()
     ensures { SettleStops }
 {}
 
-/// After an idle round of `settle` nobody but the sender has anything to do: each other living actor waits, and each remote program has its report.
+/// After an idle round of `settle` nobody has anything to do but who searches: each other living actor waits, and each remote program has its report.
 pub(crate) fn idle_rounds_rest()
     ensures { IdleRoundsRest }
 {}
@@ -97,7 +97,7 @@ pub(crate) fn todo_has_numbers()
     ensures { TodoHasNumbers }
 {}
 
-/// So a search that ended an idle turn of the sender was the whole turn.
+/// So a search that ended an idle turn was the whole turn.
 pub(crate) fn rests_begin()
     ensures { RestsBegin }
 {}
@@ -127,7 +127,7 @@ pub(crate) fn passes_go_on()
     ensures { PassesGoOn }
 {}
 
-/// If nobody but the sender has anything to do no program of a living spawner runs.
+/// If nobody has anything to do but who searches no program of a living spawner runs.
 pub(crate) fn others_run_none()
     ensures { OthersRunNone }
 {}
@@ -137,7 +137,7 @@ pub(crate) fn others_end()
     ensures { OthersEnd }
 {}
 
-/// At a rest nothing is in flight before the sender's first search.
+/// At a rest the sender has nothing in flight.
 pub(crate) fn rests_free()
     ensures { RestsFree }
 {}

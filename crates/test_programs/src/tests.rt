@@ -18,6 +18,7 @@ mod made_scripts;
 mod name_disk;
 mod netstring_heads;
 mod paces;
+mod packages;
 mod posts;
 mod queue_names;
 mod real_queue;

@@ -12,7 +12,7 @@ injection_of (Injector args) = Some args
 injection_of other = None
 
 -- How a program is started: an injector alone, or by the actor whose child it is; a lone program alone, with its whole input, and it gives
--- to nobody; a member with its generation; a delivery by the local spawner. No program is a lone one yet.
+-- to nobody; a member with its generation; a delivery by the local spawner. No program is lone yet; what holds one to this: mail_world `Lone`.
 pub data Class : Type 0 where
   Injecting : Class
   Lone : Class
@@ -38,7 +38,8 @@ abbrev pub IsNoMember : Class → Type 0
 IsNoMember (Seated member) = ⊥
 IsNoMember other = Unit {0}
 
--- the members of a generation, in their order: the one list of them, by which all others go
+-- the members of a generation, in their order; the names of actor_names are listed apart, and the law `members_are_listed` holds them
+-- against this
 abbrev pub generation : List Member
 generation = member.Sender ∷ member.Cleaner ∷ member.LocalSpawner ∷ member.RemoteSpawner ∷ []
 

@@ -60,13 +60,7 @@ same_name : (name : Owned) (n : ℕ) → path (name_of name) ≡ path (Of Bounce
 same_name name n e = by name (path_injective (name_of name) (Of Bounce n) e) where
   by : (name : Owned) → name_of name ≡ Of Bounce n → name ≡ owned.Bounce n
   by (owned.Bounce m) is = let same : m ≡ n = cc in ap owned.Bounce same
-  by (owned.Pid pid start seq) is = absurd (cc)
-  by (owned.Mess m) is = absurd (cc)
-  by (owned.Intd m) is = absurd (cc)
-  by (owned.Todo m) is = absurd (cc)
-  by (owned.Info m) is = absurd (cc)
-  by (owned.Local m) is = absurd (cc)
-  by (owned.Remote m) is = absurd (cc)
+  by row is = absurd (cc)
 
 other_letter : ◌≡◌ {A = ℕ} 99 98 → ⊥
 other_letter e = absurd (omega (arith, e))
@@ -84,17 +78,7 @@ step_is (step.Open name mode) bytes n e =
     let same : mode ≡ how.Read = cc in
     ap (λ (name : Owned). step.Open name mode) (same_name name n text) ∙ ap (step.Open (owned.Bounce n)) same
 step_is (step.OpenControl file) bytes n e = let text : control_text file ≡ path (Of Bounce n) = cc in absurd (no_control (file_name file) n text)
-step_is (step.Read fd place) bytes n e = absurd (cc)
-step_is (step.Mark fd place) bytes n e = absurd (cc)
-step_is (step.Close fd) bytes n e = absurd (cc)
-step_is (step.Unlink name) bytes n e = absurd (cc)
-step_is (step.Stat name) bytes n e = absurd (cc)
-step_is (step.Search dir) bytes n e = absurd (cc)
-step_is (step.Take port) bytes n e = absurd (cc)
-step_is (step.Give port) bytes n e = absurd (cc)
-step_is (step.Remove m) bytes n e = absurd (cc)
-step_is step.Wait bytes n e = absurd (cc)
-step_is (step.Ended status) bytes n e = absurd (cc)
+step_is row bytes n e = absurd (cc)
 
 -- At which row
 
@@ -106,16 +90,8 @@ reads_none (Shutting fd) first place n none e = absurd (cc)
 
 starts_none : (row : StartRow) (read n : ℕ) → IsOpening (start_step row read) n → ⊥
 starts_none (start.Control file reading) read n e = reads_none reading (step.OpenControl file) read n (λ f. absurd (cc)) e
-starts_none start.GreetLocal read n e = absurd (cc)
-starts_none (start.GreetRemote limit) read n e = absurd (cc)
-starts_none (start.Scan split) read n e = absurd (cc)
-starts_none (start.StatTodo split m) read n e = absurd (cc)
 starts_none (start.ReadInfo split m reading) read n e = reads_none reading (step.Open (owned.Info m) how.Read) read n (λ f. absurd (cc)) e
-starts_none (start.StatInfo split m) read n e = absurd (cc)
-starts_none (start.StatLocal split m birth) read n e = absurd (cc)
-starts_none (start.StatRemote split m birth local) read n e = absurd (cc)
-starts_none start.Over read n e = absurd (cc)
-starts_none (start.Ended status) read n e = absurd (cc)
+starts_none row read n e = absurd (cc)
 
 sweeps_none : (row : SweepRow) (n : ℕ) → IsOpening (sweep_step row) n → ⊥
 sweeps_none sweep.First n e = absurd (cc)
@@ -136,21 +112,8 @@ no_other : (part : Part) (m n : ℕ) → (part ≡ Bounce → ⊥) → path (Of 
 no_other part m n apart e = let w = path_injective (Of part m) (Of Bounce n) e in apart (cc)
 
 pass_none : (row : PassRow) (p : Pass) (n : ℕ) → pass_due row p ≡ opening n → ⊥
-pass_none (todo.Clear t) p n e = absurd (cc)
-pass_none todo.StatMess p n e = absurd (cc)
 pass_none todo.OpenTodo p n e = no_other Todo p.n n (λ f. absurd (cc)) (cc)
-pass_none (todo.ReadTodo fd) p n e = absurd (cc)
-pass_none (todo.CloseTodo fd) p n e = absurd (cc)
-pass_none (todo.Create t) p n e = absurd (cc)
-pass_none (todo.Append t fd done) p n e = absurd (cc)
-pass_none (todo.Sync t fd) p n e = absurd (cc)
-pass_none (todo.Close t fd) p n e = absurd (cc)
-pass_none (todo.Shut fd why) p n e = absurd (cc)
-pass_none todo.Give p n e = absurd (cc)
-pass_none todo.Answer p n e = absurd (cc)
-pass_none todo.Done p n e = absurd (cc)
-pass_none (todo.Left why) p n e = absurd (cc)
-pass_none todo.Lost p n e = absurd (cc)
+pass_none row p n e = absurd (cc)
 
 note_none : (row : NoteRow) (w : Writing) (n : ℕ) → note_due_at row w ≡ opening n → ⊥
 note_none written.Open w n e = absurd (cc)
@@ -167,19 +130,8 @@ note_none written.Failed w n e = absurd (cc)
 -- a return that is under way has opened it
 return_none : (controls : Controls) (q : Queue) (a : List ℕ) (row : ReturnRow) (r : Returning) (m n : ℕ) (sender : List ℕ) → ReturnHolds controls q a row r m sender → return_due_at row r ≡ opening n → ⊥
 return_none controls q a back.Open r m n sender h e = h
-return_none controls q a (back.ReadNotes fd) r m n sender h e = absurd (cc)
-return_none controls q a (back.CloseNotes fd) r m n sender h e = absurd (cc)
 return_none controls q a back.OpenMessage r m n sender h e = no_other Mess r.n n (λ f. absurd (cc)) (cc)
-return_none controls q a (back.ReadMessage fd) r m n sender h e = absurd (cc)
-return_none controls q a (back.CloseMessage fd) r m n sender h e = absurd (cc)
-return_none controls q a (back.Shut fd) r m n sender h e = absurd (cc)
-return_none controls q a back.Start r m n sender h e = absurd (cc)
-return_none controls q a (back.Give pid) r m n sender h e = absurd (cc)
-return_none controls q a (back.Await pid) r m n sender h e = absurd (cc)
-return_none controls q a back.Unlink r m n sender h e = absurd (cc)
-return_none controls q a back.Discard r m n sender h e = absurd (cc)
-return_none controls q a back.Over r m n sender h e = absurd (cc)
-return_none controls q a back.Failed r m n sender h e = absurd (cc)
+return_none controls q a row r m n sender h e = absurd (cc)
 
 -- What the sender knows there
 
@@ -204,28 +156,13 @@ module _ (now : ℕ) (q : Queue) (a : List ℕ) (d : Desk) (n : ℕ) where
       let is = step_is (step.Open (owned.Bounce m) how.Read) [] n e in
       let same : m ≡ n = cc in finish_gone m same h
   row_gone (at.Finish finish.Return m) h e = absurd (return_none d.book.controls q a d.bounce.row d.bounce m n _ h.rests.1.holds e)
-  row_gone (at.Finish finish.UnlinkInfo m) h e = absurd (cc)
-  row_gone (at.Finish finish.Give m) h e = absurd (cc)
-  row_gone (at.Finish finish.Take m) h e = absurd (cc)
-  row_gone (at.Finish finish.Later m) h e = absurd (cc)
-  row_gone (at.Finish finish.Over m) h e = absurd (cc)
-  row_gone (at.Finish finish.Lost m) h e = absurd (cc)
   row_gone (at.Start row) h e = absurd (starts_none row _ n (step_is (start_step row _) (start_words row d) n e))
-  row_gone (at.Turn p) h e = absurd (cc)
-  row_gone (at.TakeLink ch) h e = absurd (cc)
-  row_gone (at.Mark mark.Note m) h e = absurd (cc)
   row_gone (at.Mark mark.Noting m) h e = absurd (note_none d.note.row d.note n e)
-  row_gone (at.Mark mark.Open m) h e = absurd (cc)
-  row_gone (at.Mark (mark.Write fd) m) h e = absurd (cc)
-  row_gone (at.Mark (mark.Close fd written) m) h e = absurd (cc)
-  row_gone (at.UnlinkFile ch m point) h e = absurd (cc)
   row_gone (at.ReadFile ch m begun reading) h e =
       absurd (reads_none reading (step.Open (file_of ch m) how.Read) _ n (lane_none ch m n) (step_is (reading_step reading (step.Open (file_of ch m) how.Read) _) [] n e))
-  row_gone (at.Request ch) h e = absurd (cc)
-  row_gone (at.FindTodo search) h e = absurd (cc)
   row_gone at.InTodo h e = absurd (pass_none d.pass.row d.pass n e)
   row_gone (at.Sweep row) h e = absurd (sweeps_none row n (step_is (sweep_step row) _ n e))
-  row_gone (at.Ended status) h e = absurd (cc)
+  row_gone row h e = absurd (cc)
 
 pub channels_are_gone : (now : ℕ) (q : Queue) (a : List ℕ) (d : Desk) (n : ℕ) (row : Row) → StandsAt now q a row d → due_at row d ≡ opening n
     → (ch : Channel) → (about q n).parts (lane_part ch) ≡ None

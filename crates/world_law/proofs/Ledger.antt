@@ -38,7 +38,7 @@ use Rattle.queue_law.specs.Notes.{counted_as, is_spot, name_at, name_in, namer}
 use Rattle.queue_law.specs.Numbers.{Entry, Queue, look}
 use Rattle.queue_law.specs.Routes.{Recipient}
 use Rattle.queue_law.proofs.Looks.{found}
-use Rattle.queue_law.proofs.Notes.{fewer, spot_itself}
+use Rattle.queue_law.proofs.Notes.{fewer}
 use Rattle.send_core.specs.Booked.{booked_at, finished_at, if_done, if_ok, if_zero, marked_at, reported_when, routed_at}
 use Rattle.send_core.specs.declared.desk.Desk.{Desk}
 use Rattle.send_parts.specs.declared.row.Row.{Row}
@@ -68,7 +68,7 @@ use Rattle.world_law.specs.Lives.{IsLifeOf, SenderDid}
 use Rattle.world_law.specs.Routed.{namer_told, routes_told}
 use Rattle.world_law.specs.Reported.{WasTaken}
 use Rattle.mail_world.proofs.BounceReads.{all_read}
-use Rattle.queue_law.proofs.Accounted.{found_among}
+use Rattle.queue_law.proofs.Accounted.{among_found, found_among}
 use Rattle.send_runs.proofs.Entries.{each_among, marked_each, routed_each, when_each, zero_each}
 use Rattle.world_law.proofs.Histories.{always, returned_recipients_are_named, sender_fares}
 use Rattle.world_law.proofs.Lives.{legal_until, lines_were_entered}
@@ -257,17 +257,6 @@ counted_less i such more name k h most =
     let less = fewer i.ledger.routes (λ s address. such s && bytes_eq (name_at i.ledger s address) name) (λ s address. more s && bytes_eq (name_at i.ledger s address) name)
     (λ s address. and_less (such s) (more s) (bytes_eq (name_at i.ledger s address) name) (h s)) [] (recipients_of i.args) in
     omega (arith, less, most)
-
-among_found : (s : Spot) (xs : List Spot) → Among s xs → list_any (is_spot s) xs ≡ true
-among_found s [] h = absurd h
-among_found s (x ∷ xs) h = ⊎_elim
-    (λ (same : s ≡ x). ap (λ (b : Bool). b || list_any (is_spot s) xs) (ap (is_spot s) (sym same) ∙ spot_itself s))
-    (λ (rest : Among s xs). or_true (is_spot s x) (list_any (is_spot s) xs) (among_found s xs rest))
-    h
-  where
-    or_true : (b c : Bool) → c ≡ true → (b || c) ≡ true
-    or_true true c e = refl
-    or_true false c e = e
 
 and_not : (b c : Bool) → b ≡ true → c ≡ false → (b && not c) ≡ true
 and_not b c is free = ap (λ (z : Bool). z && not c) is ∙ ap not free

@@ -194,6 +194,7 @@ records_are_routed d before legal n todo ch file is =
       pre.taken.accepted,
       record {
         marked = marked.present;
+        may = pre.taken.spots.marked;
         routed = λ records read.
             records_are pre.taken.injection ch (s.disk.files file).bytes records pre.no_nul pre.taken.valid pre.taken.spots marked.present
             (they_are (s.disk.files file).bytes records read);

@@ -21,7 +21,8 @@ use Rattle.queue_law.specs.Accounts.{AreOfRecipients}
 use Rattle.queue_law.specs.Books.{Injection, lane_in}
 use Rattle.queue_law.specs.Injectors.{InTime}
 use Rattle.queue_law.specs.Numbers.Role.{AsOld}
-use Rattle.queue_law.specs.Marks.{IsMarked}
+use Rattle.queue_law.specs.Ledgers.{Named}
+use Rattle.queue_law.specs.Marks.{IsMarked, MayBeMarked}
 use Rattle.queue_law.specs.Routes.{lane_part}
 use Rattle.queue_paths.specs.Names.{path, split_text}
 use Rattle.queue_paths.specs.Names.Name.{Of}
@@ -78,10 +79,13 @@ HandsAlwaysStand = (d : Disk) (before : List Event) → Legal d before → (a : 
 
 -- Channel files
 
--- A channel file holds the text that preprocessing wrote for these recipients, except that `D` may stand at the place of one that was reported
--- delivered, or whose note is synced. If it is read as records, then each is that of a recipient, and each recipient of the channel has one.
+-- A channel file holds the text that preprocessing wrote for these recipients, except that `D` may stand at the place of one over which a sender
+-- wrote a mark: it was reported delivered, or its note is synced. If it is read as records, then each is that of a recipient, and each recipient of
+-- the channel has one.
 pub record HoldsItsRecords (i : Injection) (ch : Channel) (bytes : List ℕ) : Type 0 where
   pub marked : IsMarked (lane_in i ch) i.ledger ch bytes
+  -- whoever wrote a mark might: the recipient was reported delivered, or noted by the name that the same sender gives it
+  pub may : (it : Named) → Among it i.ledger.marked → MayBeMarked i.ledger it
   pub routed : (records : List Record) → records_of bytes ≡ Some records → AreOfRecipients i ch records
 
 -- After todo is gone so does each channel file, for the recipients of the accepted injection of its number that go to that channel, with their

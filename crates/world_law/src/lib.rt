@@ -12,8 +12,8 @@
 //!   accounted for by the ledgers (`Accounted` of queue_law). The laws: `inv_begins`, `histories_are_safe`.
 //! - What the promise says of recipients is told by what happened (`IsAccounted` in `specs/Ledger.antt`): by the
 //!   reports that senders took in the life of the message (`specs/Lives.antt`, `specs/Reported.antt`), by what its
-//!   bounce file held, and by the unlink of that. A ledger only tells whose controls route the message and name
-//!   its recipients; and each sender's are what it read of the control files (`Promise.controls`).
+//!   bounce file held, and by the unlink of that. It reads no ledger. Whose controls route the message and name its
+//!   recipients is told by what senders asked for (`specs/Routed.antt`). Each sender's are what it read by its past.
 //! - A ledger has a recipient as delivered, or as failed, exactly if a sender took a report that says so in the
 //!   life of the message. It had given a request for the recipient's record in a slot, and the next report of that
 //!   slot was final, and said `K`, or not. The laws: `delivered_were_taken`, `failed_were_taken` (by `WereTaken`),

@@ -38,18 +38,8 @@ use Rattle.program_law.proofs.Post.TakesUp.{TakenUp, taken_up}
 -- The row of a taking
 
 is_taking : (program : ChildData) (row : Row) (p : Place) → due_at program row p ≡ needs.Take port.Input → row ≡ at.TakeInput
-is_taking program at.Greet p e = absurd (cc)
-is_taking program at.Idle p e = absurd (cc)
 is_taking program at.TakeInput p e = refl
-is_taking program at.OpenMess p e = absurd (cc)
-is_taking program (at.ReadMess fd) p e = absurd (cc)
-is_taking program (at.CloseMess fd whole) p e = absurd (cc)
-is_taking program at.Start p e = absurd (cc)
-is_taking program at.Feed p e = absurd (cc)
-is_taking program (at.TakeOutput slot) p e = absurd (cc)
-is_taking program (at.TakeStatus slot) p e = absurd (cc)
-is_taking program at.Report p e = absurd (cc)
-is_taking program (at.Ended code) p e = absurd (cc)
+is_taking program row p e = absurd (cc)
 
 -- it comes from one at which requests are taken
 record Takes (row : Row) (p : Place) : Type 0 where
@@ -84,16 +74,7 @@ idle_takes p ready false is e = absurd (turning_no p ready.child e)
 comes_from : (row : Row) (p : Place) (ready : Ready) → arrive row p ready ≡ at.TakeInput → (row ≡ at.TakeInput → p.inbox.intake ≡ intake.Open) → Takes row p
 comes_from at.Idle p ready e h = idle_takes p ready (is_asked p ready) refl e
 comes_from at.TakeInput p ready e h = record { open_is = h refl; goes = refl }
-comes_from at.Greet p ready e h = absurd (cc)
-comes_from at.OpenMess p ready e h = absurd (cc)
-comes_from (at.ReadMess fd) p ready e h = absurd (cc)
-comes_from (at.CloseMess fd whole) p ready e h = absurd (cc)
-comes_from at.Start p ready e h = absurd (cc)
-comes_from at.Feed p ready e h = absurd (cc)
-comes_from (at.TakeOutput slot) p ready e h = absurd (cc)
-comes_from (at.TakeStatus slot) p ready e h = absurd (cc)
-comes_from at.Report p ready e h = absurd (cc)
-comes_from (at.Ended code) p ready e h = absurd (cc)
+comes_from row p ready e h = absurd (cc)
 
 -- What comes of it
 

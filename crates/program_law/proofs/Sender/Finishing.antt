@@ -301,50 +301,16 @@ module _ (now : ℕ) (q : Queue) (a : List ℕ) (child : Option Child) where
 given_there : (row : ReturnRow) (it : Returning) (port : Port) (bytes : List ℕ) → return_due_at row it ≡ needs.Give port bytes → IsBeforeStatus row
 given_there (back.Give pid) it port bytes due = tt
 given_there back.Start it port bytes due = tt
-given_there back.Open it port bytes due = absurd (cc)
-given_there (back.ReadNotes fd) it port bytes due = absurd (cc)
-given_there (back.CloseNotes fd) it port bytes due = absurd (cc)
-given_there back.OpenMessage it port bytes due = absurd (cc)
-given_there (back.ReadMessage fd) it port bytes due = absurd (cc)
-given_there (back.CloseMessage fd) it port bytes due = absurd (cc)
-given_there (back.Shut fd) it port bytes due = absurd (cc)
-given_there (back.Await pid) it port bytes due = absurd (cc)
-given_there back.Unlink it port bytes due = absurd (cc)
-given_there back.Discard it port bytes due = absurd (cc)
-given_there back.Over it port bytes due = absurd (cc)
-given_there back.Failed it port bytes due = absurd (cc)
+given_there row it port bytes due = absurd (cc)
 
 started_there : (row : ReturnRow) (it : Returning) (asked : ChildData) → return_due_at row it ≡ needs.Start asked → IsBeforeStatus row
 started_there back.Start it asked due = tt
 started_there (back.Give pid) it asked due = tt
-started_there back.Open it asked due = absurd (cc)
-started_there (back.ReadNotes fd) it asked due = absurd (cc)
-started_there (back.CloseNotes fd) it asked due = absurd (cc)
-started_there back.OpenMessage it asked due = absurd (cc)
-started_there (back.ReadMessage fd) it asked due = absurd (cc)
-started_there (back.CloseMessage fd) it asked due = absurd (cc)
-started_there (back.Shut fd) it asked due = absurd (cc)
-started_there (back.Await pid) it asked due = absurd (cc)
-started_there back.Unlink it asked due = absurd (cc)
-started_there back.Discard it asked due = absurd (cc)
-started_there back.Over it asked due = absurd (cc)
-started_there back.Failed it asked due = absurd (cc)
+started_there row it asked due = absurd (cc)
 
 taken_there : (row : ReturnRow) (it : Returning) (port : Port) → return_due_at row it ≡ needs.Take port → (pid : ℕ) × (row ≡ back.Await pid)
 taken_there (back.Await pid) it port due = (pid, refl)
-taken_there back.Start it port due = absurd (cc)
-taken_there (back.Give pid) it port due = absurd (cc)
-taken_there back.Open it port due = absurd (cc)
-taken_there (back.ReadNotes fd) it port due = absurd (cc)
-taken_there (back.CloseNotes fd) it port due = absurd (cc)
-taken_there back.OpenMessage it port due = absurd (cc)
-taken_there (back.ReadMessage fd) it port due = absurd (cc)
-taken_there (back.CloseMessage fd) it port due = absurd (cc)
-taken_there (back.Shut fd) it port due = absurd (cc)
-taken_there back.Unlink it port due = absurd (cc)
-taken_there back.Discard it port due = absurd (cc)
-taken_there back.Over it port due = absurd (cc)
-taken_there back.Failed it port due = absurd (cc)
+taken_there row it port due = absurd (cc)
 
 module _ (now : ℕ) (q : Queue) (a : List ℕ) where
   -- a step of a return that is no call, before its injector's status
@@ -360,24 +326,13 @@ module _ (now : ℕ) (q : Queue) (a : List ℕ) where
   pub finish_gives : (row : FinishRow) (n : ℕ) (d : Desk) (read : ℕ) (port : Port) (bytes : List ℕ) (came : GotData) → StandsAt now q a (at.Finish row n) d
       → due_at (at.Finish row n) d ≡ needs.Give port bytes → SenderStands now q a (act (at.Finish row n) read came d)
   finish_gives finish.Give n d read port bytes came h due = given_leads now q a n read (said came).way d (at_finish now q a finish.Give n d h)
-  finish_gives finish.OpenBounce n d read port bytes came h due = absurd (cc)
   finish_gives finish.Return n d read port bytes came h due = goes_on n d read came h (given_there d.bounce.row d.bounce port bytes due)
-  finish_gives finish.UnlinkInfo n d read port bytes came h due = absurd (cc)
-  finish_gives finish.Take n d read port bytes came h due = absurd (cc)
-  finish_gives finish.Later n d read port bytes came h due = absurd (cc)
-  finish_gives finish.Over n d read port bytes came h due = absurd (cc)
-  finish_gives finish.Lost n d read port bytes came h due = absurd (cc)
+  finish_gives row n d read port bytes came h due = absurd (cc)
 
   pub finish_starts : (row : FinishRow) (n : ℕ) (d : Desk) (read : ℕ) (asked : ChildData) (came : GotData) → StandsAt now q a (at.Finish row n) d
       → due_at (at.Finish row n) d ≡ needs.Start asked → SenderStands now q a (act (at.Finish row n) read came d)
   finish_starts finish.Return n d read asked came h due = goes_on n d read came h (started_there d.bounce.row d.bounce asked due)
-  finish_starts finish.Give n d read asked came h due = absurd (cc)
-  finish_starts finish.OpenBounce n d read asked came h due = absurd (cc)
-  finish_starts finish.UnlinkInfo n d read asked came h due = absurd (cc)
-  finish_starts finish.Take n d read asked came h due = absurd (cc)
-  finish_starts finish.Later n d read asked came h due = absurd (cc)
-  finish_starts finish.Over n d read asked came h due = absurd (cc)
-  finish_starts finish.Lost n d read asked came h due = absurd (cc)
+  finish_starts row n d read asked came h due = absurd (cc)
 
   -- what a taking leads to: of a return one step that enters the bounce, if its injector ended with 0
   pub record FinishTakes (child : Option Child) (row : FinishRow) (n : ℕ) (d : Desk) (read : ℕ) (came : GotData) : Type 0 where

@@ -238,11 +238,7 @@ held_call p (todo.Append t fd done) call e due = (tt, tt)
 held_call p (todo.Sync t fd) call e due = (tt, tt)
 held_call p (todo.Close t fd) call e due = (tt, tt)
 held_call p (todo.Shut fd why) call e due = (tt, tt)
-held_call p todo.Give call e due = absurd (cc)
-held_call p todo.Answer call e due = absurd (cc)
-held_call p todo.Done call e due = absurd (cc)
-held_call p (todo.Left why) call e due = absurd (cc)
-held_call p todo.Lost call e due = absurd (cc)
+held_call p row call e due = absurd (cc)
 
 -- A step of a pass
 
@@ -421,37 +417,11 @@ module _ (now : ℕ) (q : Queue) (a : List ℕ) (read : ℕ) where
 
 give_is : (row : PassRow) (p : Pass) (port : Port) (bytes : List ℕ) → due_of row p ≡ needs.Give port bytes → row ≡ todo.Give
 give_is todo.Give p port bytes due = refl
-give_is (todo.Clear t) p port bytes due = absurd (cc)
-give_is todo.StatMess p port bytes due = absurd (cc)
-give_is todo.OpenTodo p port bytes due = absurd (cc)
-give_is (todo.ReadTodo fd) p port bytes due = absurd (cc)
-give_is (todo.CloseTodo fd) p port bytes due = absurd (cc)
-give_is (todo.Create t) p port bytes due = absurd (cc)
-give_is (todo.Append t fd done) p port bytes due = absurd (cc)
-give_is (todo.Sync t fd) p port bytes due = absurd (cc)
-give_is (todo.Close t fd) p port bytes due = absurd (cc)
-give_is (todo.Shut fd why) p port bytes due = absurd (cc)
-give_is todo.Answer p port bytes due = absurd (cc)
-give_is todo.Done p port bytes due = absurd (cc)
-give_is (todo.Left why) p port bytes due = absurd (cc)
-give_is todo.Lost p port bytes due = absurd (cc)
+give_is row p port bytes due = absurd (cc)
 
 take_is : (row : PassRow) (p : Pass) (port : Port) → due_of row p ≡ needs.Take port → row ≡ todo.Answer
 take_is todo.Answer p port due = refl
-take_is (todo.Clear t) p port due = absurd (cc)
-take_is todo.StatMess p port due = absurd (cc)
-take_is todo.OpenTodo p port due = absurd (cc)
-take_is (todo.ReadTodo fd) p port due = absurd (cc)
-take_is (todo.CloseTodo fd) p port due = absurd (cc)
-take_is (todo.Create t) p port due = absurd (cc)
-take_is (todo.Append t fd done) p port due = absurd (cc)
-take_is (todo.Sync t fd) p port due = absurd (cc)
-take_is (todo.Close t fd) p port due = absurd (cc)
-take_is (todo.Shut fd why) p port due = absurd (cc)
-take_is todo.Give p port due = absurd (cc)
-take_is todo.Done p port due = absurd (cc)
-take_is (todo.Left why) p port due = absurd (cc)
-take_is todo.Lost p port due = absurd (cc)
+take_is row p port due = absurd (cc)
 
 nothing_ready : Ready
 nothing_ready = record { links = []; child = None }

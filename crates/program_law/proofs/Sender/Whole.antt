@@ -96,10 +96,7 @@ module _ (now : ℕ) (q : Queue) (a : List ℕ) (child : Option Child) where
     start_calls (start.StatInfo split n) d h due = (q.role, scans now q a G d read wrote (start.StatInfo split n) call told tt h due fits by)
     start_calls (start.StatLocal split n birth) d h due = (q.role, scans now q a G d read wrote (start.StatLocal split n birth) call told tt h due fits by)
     start_calls (start.StatRemote split n birth local) d h due = (q.role, scans now q a G d read wrote (start.StatRemote split n birth local) call told tt h due fits by)
-    start_calls start.GreetLocal d h due = absurd (cc)
-    start_calls (start.GreetRemote limit) d h due = absurd (cc)
-    start_calls start.Over d h due = absurd (cc)
-    start_calls (start.Ended status) d h due = absurd (cc)
+    start_calls row d h due = absurd (cc)
 
     calls_at : (row : Row) (d : Desk) → StandsAt now q a row d → due_at row d ≡ needs.File call → Leads row d
     calls_at (at.Start row) d h due = start_calls row d h due
@@ -112,12 +109,9 @@ module _ (now : ℕ) (q : Queue) (a : List ℕ) (child : Option Child) where
         (sym (pass_quiet d.pass.row d.pass call due)) (todo_calls now q a G d read call told wrote h due fits by)
     calls_at (at.Finish row n) d h due = (q.role, finishes now q a child G row n d read call told wrote h due fits by)
     calls_at (at.Sweep row) d h due = (q.role, sweeps now q a G row d read call told wrote soon h due fits)
-    calls_at (at.Turn p) d h due = absurd (cc)
     calls_at (at.TakeLink Local) d h due = absurd (cc)
-    calls_at (at.TakeLink Remote) d h due = absurd (cc)
     calls_at (at.Request Local) d h due = absurd (cc)
-    calls_at (at.Request Remote) d h due = absurd (cc)
-    calls_at (at.Ended status) d h due = absurd (cc)
+    calls_at row d h due = absurd (cc)
 
   abbrev Takes : Row → ℕ → GotData → Desk → Type 0
   Takes row read came d = SenderTakes now a q (booked_queue child d.book.controls (booked_at row came d) q) (act row read came d)

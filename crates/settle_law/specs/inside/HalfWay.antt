@@ -1,5 +1,5 @@
 -- Numbers whose message file is there, but neither their todo file nor their info file (INTERNALS, "Queue structure").
-use Rattle.std.specs.Prelude.{◌≡◌, ◌≢◌, ◌<◌, ◌≤◌, ◌^◌, ℕ, Bool, true, false, List, [], ◌∷◌, ◌++◌, Some, None, codes}
+use Rattle.std.specs.Prelude.{◌≡◌, ◌≢◌, ◌<◌, ◌≤◌, ◌^◌, ℕ, Bool, true, false, List, [], ◌++◌, Some, None, codes}
 use Rattle.call_fs.specs.Disk.{Disk}
 use Rattle.call_fs.specs.declared.program.Port.TheVariants as port
 use Rattle.queue_clean.specs.declared.row.Row.{Row as CleanRow}
@@ -20,6 +20,7 @@ use Rattle.mail_world.specs.History.Life.{Alive}
 use Rattle.scenario.specs.Deeds.{Deed, after}
 use Rattle.world_law.specs.Crew.{place_in}
 use Rattle.world_law.specs.Standing.{number_at}
+use Rattle.settle_law.specs.Ends.{Turn, deeds_of}
 use Rattle.settle_law.specs.Promised.{IsRest}
 use Rattle.settle_law.specs.Suffices.{desk_of}
 use Rattle.settle_law.specs.Well.{GoesWell}
@@ -53,5 +54,5 @@ HalfWaysAreMinded = (d : Disk) (h : List Event) → GoesWell d h → (n : ℕ) �
 
 -- So none is left at a rest.
 abbrev pub NoneIsHalfWay : Type 0
-NoneIsHalfWay = (d : Disk) (later : List Deed) (first : Deed) (before : List Deed) → IsRest d later first before
-    → (n : ℕ) → (state_of (after d (later ++ first ∷ before)).disk n ≢ S2) × (state_of (after d (later ++ first ∷ before)).disk n ≢ S3)
+NoneIsHalfWay = (d : Disk) (turns : List Turn) (before : List Deed) → IsRest d turns before
+    → (n : ℕ) → (state_of (after d (deeds_of turns ++ before)).disk n ≢ S2) × (state_of (after d (deeds_of turns ++ before)).disk n ≢ S3)

@@ -102,10 +102,10 @@ StaysMet = (event : Own) (past : List Own) → IsRunBy (Next None) (event ∷ pa
 abbrev pub IsFiled : Disk → ℕ → Type 0
 IsFiled d n = (in_todo (parts_of d.names n) ≡ None) × IsSome (d.names (path (Of Info n)))
 
--- Each such message is met, and one that the cleaner was told to remove has no info file.
+-- Each such message is met, and none is one that the cleaner was told to remove.
 pub record AreMet (d : Disk) (past : List Own) : Type 0 where
   pub met : (n : ℕ) → 1 ≤ n → n < 2 ^ 64 → IsFiled d n → IsMet past n
-  pub gone : (n : ℕ) → Removes (desk_of past).row n → d.names (path (Of Info n)) ≡ None
+  pub gone : (n : ℕ) → Removes (desk_of past).row n → IsFiled d n → ⊥
 
 -- So each preprocessed message is known where nothing fails, when a turn begins, if no todo pass was left.
 abbrev pub PreprocessedAreKnown : Type 0

@@ -1,5 +1,5 @@
 -- A search of `todo` from the start that gives no name: no message waits to be preprocessed.
-use Rattle.std.specs.Prelude.{◌≢◌, ◌<◌, ◌^◌, ℕ, List, [], ◌∷◌, ◌++◌, codes}
+use Rattle.std.specs.Prelude.{◌≢◌, ◌<◌, ◌^◌, ℕ, List, [], ◌++◌, codes}
 use Rattle.call_fs.specs.Apply.{Fits}
 use Rattle.call_fs.specs.Disk.{Disk}
 use Rattle.call_fs.specs.declared.calls.Answer.TheVariants.{NoName}
@@ -7,6 +7,7 @@ use Rattle.call_fs.specs.declared.calls.CallData.TheVariants.{NextName}
 use Rattle.queue_states.specs.declared.state.State.TheVariants.{S4}
 use Rattle.queue_states.specs.States.{state_of}
 use Rattle.scenario.specs.Deeds.{Deed, after}
+use Rattle.settle_law.specs.Ends.{Turn, deeds_of}
 use Rattle.settle_law.specs.Promised.{IsRest}
 
 -- a program can name numbers up to the last of a u64
@@ -15,5 +16,4 @@ NoneIsQueued = (d : Disk) (wrote : ℕ) → Fits d (NextName (codes "todo") []) 
 
 -- So at a rest no message waits to be preprocessed.
 abbrev pub RestsUnqueued : Type 0
-RestsUnqueued = (d : Disk) (later : List Deed) (first : Deed) (before : List Deed) → IsRest d later first before
-    → (n : ℕ) → state_of (after d (later ++ first ∷ before)).disk n ≢ S4
+RestsUnqueued = (d : Disk) (turns : List Turn) (before : List Deed) → IsRest d turns before → (n : ℕ) → state_of (after d (deeds_of turns ++ before)).disk n ≢ S4

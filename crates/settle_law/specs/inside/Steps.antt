@@ -8,7 +8,7 @@ use Rattle.script_words.specs.declared.letter.Letter.{Letter}
 use Rattle.scenario.specs.Deeds.{Deed, after, history_of}
 use Rattle.scenario.specs.Turns.{IsSettled, Round, events_in, is_idle}
 use Rattle.call_fs.specs.declared.program.Ready.{Ready}
-use Rattle.settle_law.specs.Ends.{StopsSo}
+use Rattle.settle_law.specs.Ends.{StopsSo, Turn, deeds_of}
 use Rattle.settle_law.specs.Promised.{IsRest, OthersWait}
 use Rattle.settle_law.specs.Settled.{AllGone, Settled, SettledBy}
 use Rattle.settle_law.specs.Suffices.{HasRest}
@@ -31,9 +31,9 @@ IdleRoundsRest = (d : Disk) (h : List Deed) (plan : Plan) (letter : Letter) (rou
 
 -- Such a rest is settled.
 abbrev pub RestsAreSettled : Type 0
-RestsAreSettled = (d : Disk) (later : List Deed) (first : Deed) (before : List Deed) → IsRest d later first before → Settled (after d (later ++ first ∷ before))
+RestsAreSettled = (d : Disk) (turns : List Turn) (before : List Deed) → IsRest d turns before → Settled (after d (deeds_of turns ++ before))
 
 -- And if each report was of a success no message is left.
 abbrev pub RestsAreEmpty : Type 0
-RestsAreEmpty = (d : Disk) (later : List Deed) (first : Deed) (before : List Deed) → IsRest d later first before
-    → AllSucceed (history_of (later ++ first ∷ before)) → AllGone (after d (later ++ first ∷ before))
+RestsAreEmpty = (d : Disk) (turns : List Turn) (before : List Deed) → IsRest d turns before
+    → AllSucceed (history_of (deeds_of turns ++ before)) → AllGone (after d (deeds_of turns ++ before))

@@ -2,7 +2,7 @@
 
 use super::orders::are_kept;
 use super::scripted::{Closed, Script, Scripted, ScriptedOutput, Turns, unordered};
-use super::yard::{Came, Yard, gather};
+use super::yard::{NOTHING, Yard, gather};
 use outside::{Gate, Gave, Post, Posts, Spawner, Started, Status};
 use proc_runner::{ChildPosts, MOST_PRINTED, Opener, OwnReading, read_own_input, share};
 use resting_gates::{RestingGate, drain_limit, idle_limit};
@@ -29,7 +29,7 @@ pub enum Deed<'a> {
     /// One is cut, and one isn't.
     Cut(&'a Closed),
     /// Three are read in each of these orders.
-    Orders(&'a Turns, &'a [u8]),
+    Orders(&'a Turns),
 }
 
 /// Whether that goes as it is to go, in a yard.
@@ -37,7 +37,7 @@ fn goes<R: Wait + Drop>(yard: &mut Yard<R, Scripted>, alloc: Global, deed: Deed<
     match deed {
         Deed::Channels(row) => starts(yard, alloc) && brings(yard, row),
         Deed::Cut(closed) => ends_what_is_cut(yard, alloc, closed),
-        Deed::Orders(turns, all) => are_kept(yard, alloc, turns, all),
+        Deed::Orders(turns) => are_kept(yard, alloc, turns),
     }
 }
 
@@ -76,7 +76,7 @@ fn starts<R: Wait + Drop>(yard: &mut Yard<R, Scripted>, alloc: Global) -> bool {
 
 /// Whether four children bring what they are to bring, and have their statuses.
 fn brings<R: Wait + Drop>(yard: &mut Yard<R, Scripted>, row: &Row) -> bool {
-    let mut came = [Came::nothing(0); 4];
+    let mut came = [NOTHING; 4];
     for at in 0..4 {
         came[at].letter = row.scripts[at].letter;
     }
@@ -102,10 +102,10 @@ fn holds<R: Threads + Wait + Copy + Send + Sync + Drop + 'static>(
     room: usize,
     row: &Row,
 ) -> bool {
-    let Ok(system) = unordered(alloc, row.scripts) else {
-        return false;
-    };
-    is_done(rt, alloc, room, system, Deed::Channels(row))
+    match unordered(alloc, row.scripts) {
+        Ok(system) => is_done(rt, alloc, room, system, Deed::Channels(row)),
+        Err(_) => false,
+    }
 }
 
 const QUIET: Script = Script {
@@ -272,18 +272,28 @@ fn a_cut_input_ends_its_child(rt: HostRuntime) {
     }
 }
 
-/// What comes of the program's own input, where the script is that of the first output: how many bytes, and whether it ended.
+/// What comes of the program's own input: how many bytes, and whether it ended.
+type Own = (usize, bool);
+
+/// What comes of an input that can't be read.
+const UNREAD: Own = (usize::MAX, false);
+
+/// What comes of the program's own input, where the script is that of the first output.
 fn own_input<R: Threads + Wait + Copy + Send + Sync + Drop + 'static>(
     rt: R,
     alloc: Global,
     script: Script,
-) -> Result<(usize, bool), AllocError> {
-    let (mut opener, taker) = share(alloc, 2)?;
-    let mut posts = ChildPosts::new(rt, taker);
-    let told = own_input_by(rt, alloc, script, &mut opener, &mut posts);
-    drop(posts);
-    drop(opener);
-    told
+) -> Own {
+    match share(alloc, 2) {
+        Ok((mut opener, taker)) => {
+            let mut posts = ChildPosts::new(rt, taker);
+            let told = own_input_by(rt, alloc, script, &mut opener, &mut posts);
+            drop(posts);
+            drop(opener);
+            told
+        }
+        Err(_) => UNREAD,
+    }
 }
 
 /// The same, where this opens channels whose pieces these posts take.
@@ -293,11 +303,16 @@ fn own_input_by<R: Threads + Wait + Copy + Send + Sync + Drop + 'static>(
     script: Script,
     opener: &mut Opener,
     posts: &mut ChildPosts<R>,
-) -> Result<(usize, bool), AllocError> {
-    let gate = RestingGate::new(rt, opener.queue()?);
-    let told = own_input_at(rt, alloc, script, opener, posts, &gate);
-    drop(gate);
-    told
+) -> Own {
+    match opener.queue() {
+        Ok(queue) => {
+            let gate = RestingGate::new(rt, queue);
+            let told = own_input_at(rt, alloc, script, opener, posts, &gate);
+            drop(gate);
+            told
+        }
+        Err(_) => UNREAD,
+    }
 }
 
 /// The same, with this gate.
@@ -308,18 +323,18 @@ fn own_input_at<R: Threads + Wait + Copy + Send + Sync + Drop + 'static>(
     opener: &mut Opener,
     posts: &mut ChildPosts<R>,
     gate: &RestingGate<R>,
-) -> Result<(usize, bool), AllocError> {
-    let reading = reading_of(rt, alloc, script, opener)?;
-    let told = take_own(posts, gate);
-    match reading {
-        OwnReading::Begun(thread) => {
+) -> Own {
+    match reading_of(rt, alloc, script, opener) {
+        Ok(OwnReading::Begun(thread)) => {
+            let told = take_own(posts, gate);
             let _ = thread.join(&rt);
-            Ok(told)
+            told
         }
-        OwnReading::Failed(through) => {
+        Ok(OwnReading::Failed(through)) => {
             drop(through);
-            Err(AllocError)
+            UNREAD
         }
+        Err(_) => UNREAD,
     }
 }
 
@@ -330,28 +345,32 @@ fn reading_of<R: Threads + Wait + Copy + Send + Sync + Drop + 'static>(
     script: Script,
     opener: &mut Opener,
 ) -> Result<OwnReading, AllocError> {
-    match opener.open()? {
-        Some(reader) => match output_of(alloc, script) {
+    match opener.open() {
+        Ok(Some(reader)) => match output_of(alloc, script) {
             Ok(output) => read_own_input(rt, alloc, reader, output),
             Err(why) => {
                 drop(reader);
                 Err(why)
             }
         },
-        None => Err(AllocError),
+        _ => Err(AllocError),
     }
 }
 
 /// What a script prints.
 fn output_of(alloc: Global, script: Script) -> Result<ScriptedOutput, AllocError> {
-    let system = unordered(alloc, [script; 4])?;
-    let output = system.output(0);
-    drop(system);
-    output
+    match unordered(alloc, [script; 4]) {
+        Ok(system) => {
+            let output = system.output(0);
+            drop(system);
+            output
+        }
+        Err(why) => Err(why),
+    }
 }
 
 /// Takes the posts of channel 0: how many bytes came, and whether it ended.
-fn take_own<R: Wait + Drop>(posts: &mut ChildPosts<R>, gate: &RestingGate<R>) -> (usize, bool) {
+fn take_own<R: Wait + Drop>(posts: &mut ChildPosts<R>, gate: &RestingGate<R>) -> Own {
     let mut bytes: usize = 0;
     let mut looks = 0;
     let mut buffer = [0; 100];
@@ -384,29 +403,51 @@ fn own_input_is_channel_0(rt: HostRuntime) {
         ..long
     };
     assert!(rt;
-        own_input(rt, rt.alloc(), QUIET) == Ok((0, true))
-            && own_input(rt, rt.alloc(), long) == Ok((100_000, true))
-            && own_input(rt, rt.alloc(), broken) == Ok((100_000, false))
+        own_input(rt, rt.alloc(), QUIET) == (0, true)
+            && own_input(rt, rt.alloc(), long) == (100_000, true)
+            && own_input(rt, rt.alloc(), broken) == (100_000, false)
     );
 }
 
 /// Whether a channel whose reader isn't started has one post, its failure, which is counted.
-fn fails_at_once<R: Wait + Copy + Drop>(rt: R, alloc: Global) -> Result<bool, AllocError> {
-    let (mut opener, taker) = share(alloc, 1)?;
-    let mut posts = ChildPosts::new(rt, taker);
-    let Some(reader) = opener.open()? else {
-        return Ok(false);
-    };
-    let is_told = reader.fail(&rt).is_ok();
+fn fails_at_once<R: Wait + Copy + Drop>(rt: R, alloc: Global) -> bool {
+    match share(alloc, 1) {
+        Ok((mut opener, taker)) => {
+            let mut posts = ChildPosts::new(rt, taker);
+            let is_told = fails_reader(&rt, &mut opener);
+            let is_so = is_told & has_failed(&mut posts);
+            drop(posts);
+            drop(opener);
+            is_so
+        }
+        Err(_) => false,
+    }
+}
+
+/// Opens the next channel, and fails its reader. Answers whether that is told.
+fn fails_reader<R: Wait>(rt: &R, opener: &mut Opener) -> bool {
+    match opener.open() {
+        Ok(Some(reader)) => {
+            let left = reader.fail(rt);
+            let is_told = left.is_ok();
+            drop(left);
+            is_told
+        }
+        _ => false,
+    }
+}
+
+/// Whether the failure of channel 0 is the one post, and counted.
+fn has_failed<R: Wait + Drop>(posts: &mut ChildPosts<R>) -> bool {
     let mut buffer = [0; 10];
     let is_first = posts.next(&mut buffer) == Post::Failed { chan: 0 };
     let is_last = posts.next(&mut buffer) == Post::Turn;
-    Ok(is_told && is_first && is_last && posts.faults() == 1)
+    is_first & is_last & (posts.faults() == 1)
 }
 
 #[test]
 fn a_reader_that_is_not_started(rt: HostRuntime) {
-    assert!(rt; fails_at_once(rt, rt.alloc()) == Ok(true));
+    assert!(rt; fails_at_once(rt, rt.alloc()));
 }
 
 #[test]

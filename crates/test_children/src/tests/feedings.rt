@@ -1,7 +1,7 @@
 // What a child is fed, and what its writer writes of it.
 
-use child_input::{Feeder, feed_ends};
-use std::alloc::{AllocError, Global};
+use child_input::{Feeder, Writer, feed_ends};
+use std::alloc::Global;
 use std::io::{self, ErrorKind, Write};
 use std::sync::Wait;
 use std::test::*;
@@ -30,7 +30,7 @@ impl Write for Narrow {
 }
 
 /// What ends a feeding.
-#[derive(Clone, Copy, PartialEq, Eq)]
+#[derive(Clone, Copy)]
 enum Last {
     /// The input is ended.
     End,
@@ -62,6 +62,26 @@ fn feed_all<R: Wait>(
     }
 }
 
+/// Whether an input with this room gets this text of what was fed, and whether that is all as this writer tells it.
+fn writes<R: Wait>(
+    rt: &R,
+    alloc: Global,
+    writer: Writer,
+    room: usize,
+    text: &[u8],
+    is_whole: bool,
+) -> bool {
+    let mut input = Narrow {
+        bytes: Vec::new(alloc),
+        left: room,
+    };
+    let written = writer.write(rt, &mut input);
+    let is_so = (written.is_whole() == is_whole) & (input.bytes.as_slice() == text);
+    drop(written);
+    drop(input);
+    is_so
+}
+
 /// Whether an input with this room gets this text of what is fed, where all of it is to be written or not; and whether nothing more
 /// is taken after that.
 fn gets<R: Wait>(
@@ -72,18 +92,18 @@ fn gets<R: Wait>(
     room: usize,
     text: &[u8],
     is_whole: bool,
-) -> Result<bool, AllocError> {
-    let (mut feeder, writer) = feed_ends(alloc)?;
-    let is_fed = feed_all(rt, alloc, &mut feeder, texts, last);
-    let mut input = Narrow {
-        bytes: Vec::new(alloc),
-        left: room,
-    };
-    let written = writer.write(rt, &mut input);
-    let is_late = feeder.feed_copy(rt, alloc, b"late");
-    let is_ended = feeder.end(rt);
-    let is_so = written.is_whole() == is_whole && input.bytes.as_slice() == text;
-    Ok(is_fed && is_so && !is_late && is_ended)
+) -> bool {
+    match feed_ends(alloc) {
+        Ok((mut feeder, writer)) => {
+            let is_fed = feed_all(rt, alloc, &mut feeder, texts, last);
+            let is_so = writes(rt, alloc, writer, room, text, is_whole);
+            let is_late = feeder.feed_copy(rt, alloc, b"late");
+            let is_ended = feeder.end(rt);
+            drop(feeder);
+            is_fed & is_so & !is_late & is_ended
+        }
+        Err(_) => false,
+    }
 }
 
 const THREE: [&[u8]; 3] = [b"one, ", b"", b"and another"];
@@ -103,10 +123,9 @@ fn texts_are_written_in_order(rt: HostRuntime) {
             100,
             b"one, and another",
             true
-        ) == Ok(true)
-            && gets(&rt, alloc, &THREE, Last::End, 7, b"one, an", false) == Ok(true)
-            && gets(&rt, alloc, &[&LONG], Last::End, 1000, &LONG, true) == Ok(true)
-            && gets(&rt, alloc, &[b"first"], Last::Nothing, 0, b"", false) == Ok(true)
-            && gets(&rt, alloc, &[b"first"], Last::GiveUp, 100, b"first", false) == Ok(true)
+        ) && gets(&rt, alloc, &THREE, Last::End, 7, b"one, an", false)
+            && gets(&rt, alloc, &[&LONG], Last::End, 1000, &LONG, true)
+            && gets(&rt, alloc, &[b"first"], Last::Nothing, 0, b"", false)
+            && gets(&rt, alloc, &[b"first"], Last::GiveUp, 100, b"first", false)
     );
 }

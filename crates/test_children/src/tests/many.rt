@@ -1,6 +1,6 @@
 // Many real processes at once.
 
-use super::yard::{Came, Yard, gather};
+use super::yard::{NOTHING, Yard, gather};
 use outside::{Posts, Spawner, Status};
 use proc_runner::System;
 use std::alloc::Global;
@@ -20,7 +20,7 @@ pub fn all_print<R: Wait + Drop, S: System>(yard: &mut Yard<R, S>, alloc: Global
         yard.children.finish(chan);
         right = right && chan > 0;
     }
-    let mut came = [Came::nothing(0); MANY];
+    let mut came = [NOTHING; MANY];
     gather(yard, &mut came);
     for at in 0..MANY {
         right = yard.children.status(at as u32 + 1) == Status::Ended(0) && right;

@@ -2,18 +2,17 @@
 
 use super::scripted::{Script, unordered};
 use proc_runner::{Look, PatientSystem, Start, System};
-use std::alloc::{AllocError, Global};
+use std::alloc::Global;
 use std::cell::Cell;
-use std::rc::Rc;
 use std::test::*;
 
 /// A member that is at work once it was looked at so often.
 #[derive(Drop)]
-struct Late {
-    looks: Rc<Cell<u64>>,
+struct Late<'a> {
+    looks: &'a Cell<u64>,
 }
 
-impl Look for Late {
+impl Look for Late<'_> {
     fn is_at_work(&self, _alloc: Global, _words: &[&[u8]]) -> bool {
         let left = self.looks.get();
         self.looks.set(left.saturating_sub(1));
@@ -77,27 +76,40 @@ const QUIET: Script = Script {
     takes: 0,
 };
 
+/// Whether a start by this system is as its row says, where so many looks are left.
+fn starts<S: System>(alloc: Global, system: &S, looks: &Cell<u64>, row: &Row) -> bool {
+    match Start::of(&row.words) {
+        Some(start) => {
+            let born = system.spawn(alloc, &start);
+            let is_so = born.is_ok() == row.starts;
+            drop(born);
+            is_so & (looks.get() == row.left)
+        }
+        None => false,
+    }
+}
+
 /// Whether a start is as its row says.
-fn holds(alloc: Global, row: &Row) -> Result<bool, AllocError> {
+fn holds(alloc: Global, row: &Row) -> bool {
+    let looks = Cell::new(row.looks);
     let script = Script {
         asks: row.asks,
         ..QUIET
     };
-    let looks = Rc::new(alloc, Cell::new(row.looks))?;
-    let look = Late {
-        looks: Rc::clone(&looks)?,
-    };
-    let system = PatientSystem::new(unordered(alloc, [script; 4])?, look);
-    let Some(start) = Start::of(&row.words) else {
-        return Ok(false);
-    };
-    let starts = system.spawn(alloc, &start).is_ok();
-    Ok(starts == row.starts && looks.get() == row.left)
+    match unordered(alloc, [script; 4]) {
+        Ok(system) => {
+            let system = PatientSystem::new(system, Late { looks: &looks });
+            let is_so = starts(alloc, &system, &looks, row);
+            drop(system);
+            is_so
+        }
+        Err(_) => false,
+    }
 }
 
 #[test]
 fn a_member_is_waited_for(rt: HostRuntime) {
     for row in &ROWS {
-        assert!(rt; holds(rt.alloc(), row) == Ok(true));
+        assert!(rt; holds(rt.alloc(), row));
     }
 }

@@ -133,18 +133,16 @@ fn keeps<R: Wait + Drop>(
 
 /// A system of the scripts, which are read in all orders, one after the other.
 fn ordered(alloc: Global) -> Result<Scripted, AllocError> {
-    with_turns(alloc, SCRIPTS, all_orders(alloc)?)
+    match all_orders(alloc) {
+        Ok(all) => with_turns(alloc, SCRIPTS, all),
+        Err(why) => Err(why),
+    }
 }
 
 /// How many orders are kept.
-fn all_kept<R: Wait + Drop>(
-    yard: &mut Yard<R, Scripted>,
-    alloc: Global,
-    turns: &Turns,
-    all: &[u8],
-) -> u64 {
+fn all_kept<R: Wait + Drop>(yard: &mut Yard<R, Scripted>, alloc: Global, turns: &Turns) -> u64 {
     let mut kept: u64 = 0;
-    for order in all.chunks(STEPS) {
+    for order in turns.order.as_slice().chunks(STEPS) {
         if !keeps(yard, alloc, turns, order) {
             return kept;
         }
@@ -153,14 +151,13 @@ fn all_kept<R: Wait + Drop>(
     kept
 }
 
-/// Whether each of these orders is kept, and a failure counted in each.
+/// Whether each order is kept, and a failure counted in each.
 pub fn are_kept<R: Wait + Drop>(
     yard: &mut Yard<R, Scripted>,
     alloc: Global,
     turns: &Turns,
-    all: &[u8],
 ) -> bool {
-    all_kept(yard, alloc, turns, all) == ORDERS && yard.posts.faults() == ORDERS
+    all_kept(yard, alloc, turns) == ORDERS && yard.posts.faults() == ORDERS
 }
 
 /// Whether all orders are, of children of this system.
@@ -168,11 +165,10 @@ fn tried<R: Threads + Wait + Copy + Send + Sync + Drop + 'static>(
     rt: R,
     alloc: Global,
     system: Scripted,
-    all: &[u8],
 ) -> bool {
     match Arc::try_clone(&system.turns) {
         Ok(turns) => {
-            let is_so = is_done(rt, alloc, 4, system, Deed::Orders(turns.as_ref(), all));
+            let is_so = is_done(rt, alloc, 4, system, Deed::Orders(turns.as_ref()));
             drop(turns);
             is_so
         }
@@ -185,10 +181,8 @@ fn tried<R: Threads + Wait + Copy + Send + Sync + Drop + 'static>(
 
 #[test]
 fn each_order_of_three_channels(rt: HostRuntime) {
-    let alloc = rt.alloc();
-    let right = match (all_orders(alloc), ordered(alloc)) {
-        (Ok(all), Ok(system)) => tried(rt, alloc, system, all.as_slice()),
-        _ => false,
-    };
-    assert!(rt; right);
+    match ordered(rt.alloc()) {
+        Ok(system) => assert!(rt; tried(rt, rt.alloc(), system)),
+        Err(_) => assert!(rt; false),
+    }
 }

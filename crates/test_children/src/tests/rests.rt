@@ -2,7 +2,7 @@
 
 use outside::Gate;
 use resting_gates::{Restful, SendingGate};
-use std::alloc::{AllocError, Global};
+use std::alloc::Global;
 use std::cell::Cell;
 use std::sync::{Arc, Wait};
 use std::test::*;
@@ -10,11 +10,11 @@ use std::time::Duration;
 
 /// A queue that doesn't rest, and keeps how long it was last asked to, in milliseconds.
 #[derive(Drop)]
-struct Counting {
-    asked: Cell<u64>,
+struct Counting<'a> {
+    asked: &'a Cell<u64>,
 }
 
-impl Restful for Counting {
+impl Restful for Counting<'_> {
     fn rest<R: Wait>(&self, _rt: &R, most: Duration) {
         self.asked
             .set(u64::try_from(most.as_millis()).unwrap_or(u64::MAX));
@@ -44,30 +44,40 @@ const PAUSES: [Pause; 13] = [
 /// Those of one that is told no rest.
 const WITHOUT: [Pause; 2] = [(1, 1, 0), (0, 1, 10)];
 
+/// Whether a gate, whose queue keeps there how long it is asked to rest, rests so at these pauses.
+fn pauses<G: Gate>(gate: &G, asked: &Cell<u64>, pauses: &[Pause]) -> bool {
+    let mut right = true;
+    for (mail, step, millis) in pauses {
+        asked.set(0);
+        gate.pause(*mail, *step);
+        right = asked.get() == *millis && right;
+    }
+    right
+}
+
 /// Whether a gate with these two times rests so at these pauses, one after the other.
 fn rests<R: Wait + Copy + Drop>(
     rt: R,
     alloc: Global,
     idle: u64,
     drain: u64,
-    pauses: &[Pause],
-) -> Result<bool, AllocError> {
+    rows: &[Pause],
+) -> bool {
     let asked = Cell::new(0);
-    let queue = Arc::new(alloc, Counting { asked })?;
-    let gate = SendingGate::new(rt, Arc::try_clone(&queue)?, idle, drain);
-    let mut right = true;
-    for (mail, step, millis) in pauses {
-        queue.asked.set(0);
-        gate.pause(*mail, *step);
-        right = queue.asked.get() == *millis && right;
+    match Arc::new(alloc, Counting { asked: &asked }) {
+        Ok(queue) => {
+            let gate = SendingGate::new(rt, queue, idle, drain);
+            let is_so = pauses(&gate, &asked, rows);
+            drop(gate);
+            is_so
+        }
+        Err(_) => false,
     }
-    Ok(right)
 }
 
 #[test]
 fn rests_of_a_sender(rt: HostRuntime) {
     assert!(rt;
-        rests(rt, rt.alloc(), 250, 1000, &PAUSES) == Ok(true)
-            && rests(rt, rt.alloc(), 0, 1000, &WITHOUT) == Ok(true)
+        rests(rt, rt.alloc(), 250, 1000, &PAUSES) && rests(rt, rt.alloc(), 0, 1000, &WITHOUT)
     );
 }

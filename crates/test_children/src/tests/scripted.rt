@@ -28,19 +28,11 @@ pub struct Script {
 /// Whose turn it is to be read: the scripts, one after the other, and at which of them it stands.
 #[derive(Drop)]
 pub struct Turns {
-    order: Vec<u8>,
+    pub order: Vec<u8>,
     at: AtomicU64,
 }
 
 impl Turns {
-    /// It stands at the first of these.
-    pub fn new(order: Vec<u8>) -> Self {
-        Turns {
-            order,
-            at: AtomicU64::new(0),
-        }
-    }
-
     /// The next one's turn.
     pub fn go_on(&self) {
         self.at.fetch_add(1, Ordering::SeqCst);
@@ -77,8 +69,16 @@ pub fn with_turns(
     scripts: [Script; 4],
     order: Vec<u8>,
 ) -> Result<Scripted, AllocError> {
-    let turns = Arc::new(alloc, Turns::new(order))?;
-    match Arc::new(alloc, Closed::new()) {
+    let turns = Turns {
+        order,
+        at: AtomicU64::new(0),
+    };
+    let turns = Arc::new(alloc, turns)?;
+    let closed = Closed {
+        whole: AtomicU64::new(0),
+        cut: AtomicU64::new(0),
+    };
+    match Arc::new(alloc, closed) {
         Ok(closed) => Ok(Scripted {
             scripts,
             turns,
@@ -131,14 +131,6 @@ pub struct Closed {
 }
 
 impl Closed {
-    /// None so far.
-    pub fn new() -> Self {
-        Closed {
-            whole: AtomicU64::new(0),
-            cut: AtomicU64::new(0),
-        }
-    }
-
     /// How many were closed as whole ones, and as others.
     pub fn counts(&self) -> (u64, u64) {
         (
@@ -296,6 +288,7 @@ impl Closing for ScriptedInput {
         } else {
             closed.cut.fetch_add(1, Ordering::SeqCst);
         }
+        drop(closed);
     }
 }
 

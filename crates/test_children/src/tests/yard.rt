@@ -130,18 +130,16 @@ pub struct Came {
     pub failures: u64,
 }
 
-impl Came {
-    /// Nothing so far.
-    pub fn nothing(letter: u8) -> Came {
-        Came {
-            letter,
-            bytes: 0,
-            is_right: true,
-            ends: 0,
-            failures: 0,
-        }
-    }
+/// Nothing so far.
+pub const NOTHING: Came = Came {
+    letter: 0,
+    bytes: 0,
+    is_right: true,
+    ends: 0,
+    failures: 0,
+};
 
+impl Came {
     fn add(&mut self, bytes: &[u8]) {
         let letter = self.letter;
         let is_right = bytes.iter().all(|byte| *byte == letter);

@@ -15,21 +15,13 @@ const FILES: [(&[u8], &[Row]); 2] = [
     (b"", &[]),
 ];
 
-/// Why bytes are no records, and at which place.
-#[derive(Clone, Copy, PartialEq, Eq)]
-enum Why {
-    Letter(u64),
-    Unended(u64),
-    Other,
-}
-
-/// Files with a fault, and the first one.
-const FAULTS: [(&[u8], Why); 5] = [
-    (b"X", Why::Letter(0)),
-    (b"Ta\0\0", Why::Letter(3)),
-    (b"D\0t\0X", Why::Letter(2)),
-    (b"D", Why::Unended(0)),
-    (b"Ta\0D\0Tb", Why::Unended(5)),
+/// Files with a fault, the place of the first one, and whether that is a letter; else it is an end that is missing.
+const FAULTS: [(&[u8], u64, bool); 5] = [
+    (b"X", 0, true),
+    (b"Ta\0\0", 3, true),
+    (b"D\0t\0X", 2, true),
+    (b"D", 0, false),
+    (b"Ta\0D\0Tb", 5, false),
 ];
 
 /// Whether the record is this one.
@@ -63,12 +55,12 @@ fn a_file_of_records_is_read(rt: HostRuntime) {
 
 #[test]
 fn the_first_fault_is_told(rt: HostRuntime) {
-    for (bytes, why) in &FAULTS {
+    for (bytes, place, is_letter) in &FAULTS {
         let found = match records(rt.alloc(), bytes) {
-            Err(RecordError::Letter { at }) => Why::Letter(at),
-            Err(RecordError::Unended { at }) => Why::Unended(at),
-            _ => Why::Other,
+            Err(RecordError::Letter { at }) => *is_letter && at == *place,
+            Err(RecordError::Unended { at }) => !*is_letter && at == *place,
+            _ => false,
         };
-        assert!(rt; found == *why, "{bytes:?}");
+        assert!(rt; found, "{bytes:?}");
     }
 }

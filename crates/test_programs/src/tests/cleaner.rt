@@ -1,6 +1,6 @@
 // The cleaner over a disk in memory whose machine can be stopped.
 
-use super::fields::{field, is_well_formed, number, numbers, repeated};
+use super::fields::{field, is_well_formed, none_is_wrong, number, numbers, repeated};
 use call_fs::{
     Answer, Call, CrashFs, FsError, Got, Machine, Need, PIECE, Port, Ready, Survival, perform,
 };
@@ -194,12 +194,6 @@ fn are_there(disk: &CrashDisk, names: &str, is_there: bool) -> bool {
     are_so
 }
 
-/// A disk that fails at these calls, counted from 1.
-fn disk_of(alloc: Global, faults: &str) -> Result<CrashDisk, Memory> {
-    let faults = numbers(alloc, faults);
-    Ok(CrashDisk::new(MemFs::new(alloc, Vec::new(alloc), faults)?))
-}
-
 /// What a row may say: files that are in the queue, whether it has no directories, calls that fail, and the moment; the
 /// input, the answers to it, `*` for any, and how often both come; how the input ends, and for how many answers there is
 /// room; the status, and how often `pid` is searched; which of the files are there once the run has ended and the machine
@@ -217,11 +211,6 @@ fn are_given(row: &str, text: &[u8], output: &Output<'_>) -> bool {
     output.is_right & (output.given == output.wanted.len())
 }
 
-/// Whether `pid` was searched as often as the row says, if it does.
-fn is_searched(row: &str, searches: usize) -> bool {
-    number(row, "searches", searches as u64) == searches as u64
-}
-
 /// Whether it ended with the status of the row.
 fn has_ended(row: &str, status: Option<u8>) -> bool {
     match status {
@@ -236,20 +225,23 @@ fn goes(alloc: Global, row: &str, disk: &mut CrashDisk, mut outside: Outside<'_>
     let is_filled = is_filled(alloc, disk, row);
     let status = run(alloc, disk, &mut outside);
     let is_stopped = disk.halt(alloc, Survival::Lose).is_ok();
+    let searches = outside.searches as u64;
     is_filled
         & is_stopped
         & has_ended(row, status)
         & are_given(row, text, &outside.output)
-        & is_searched(row, outside.searches)
+        & (number(row, "searches", searches) == searches)
         & are_there(disk, field(row, "left"), true)
         & are_there(disk, field(row, "gone"), false)
         & (field(row, "answers") != "*" || are_as_named(disk, text))
 }
 
-/// Whether a run over a new disk does.
+/// Whether a run over a new disk does, which fails at the calls that the row says, counted from 1.
 fn goes_anew(alloc: Global, row: &str, outside: Outside<'_>) -> bool {
-    match disk_of(alloc, field(row, "fails")) {
-        Ok(mut disk) => {
+    let fails = numbers(alloc, field(row, "fails"));
+    match MemFs::new(alloc, Vec::new(alloc), fails) {
+        Ok(disk) => {
+            let mut disk = CrashDisk::new(disk);
             let is_so = goes(alloc, row, &mut disk, outside);
             drop(disk);
             is_so
@@ -308,7 +300,7 @@ input foop/111111111111111111111111111111111111111111111111111111111111111111111
 
 #[test]
 fn each_text_has_its_answers(rt: HostRuntime) {
-    assert_eq!(rt; first_wrong(rt.alloc(), ANSWERS), None);
+    none_is_wrong(&rt, first_wrong(rt.alloc(), ANSWERS));
 }
 
 /// Call 1 is the search of `pid`, which has no name.
@@ -329,7 +321,7 @@ files intd/1 mess/1/1 todo/1; input foop/01%00todo/1%20%00mess/1/1%00intd/1%00fo
 
 #[test]
 fn each_command_removes_its_names(rt: HostRuntime) {
-    assert_eq!(rt; first_wrong(rt.alloc(), UNLINKS), None);
+    none_is_wrong(&rt, first_wrong(rt.alloc(), UNLINKS));
 }
 
 /// Files in `pid` have moment 0.
@@ -358,8 +350,8 @@ input %00; times 62; answers x; searches 3";
 
 #[test]
 fn each_scan_removes_the_old_names(rt: HostRuntime) {
-    assert_eq!(rt; first_wrong(rt.alloc(), SCANS), None);
-    assert_eq!(rt; first_wrong(rt.alloc(), SEARCHES), None);
+    none_is_wrong(&rt, first_wrong(rt.alloc(), SCANS));
+    none_is_wrong(&rt, first_wrong(rt.alloc(), SEARCHES));
 }
 
 /// The output is full, or the input fails after its last byte.
@@ -373,7 +365,7 @@ dirs none; input foop/1; end failed; room 0; status 54";
 
 #[test]
 fn what_fails_outside_ends_it(rt: HostRuntime) {
-    assert_eq!(rt; first_wrong(rt.alloc(), FAILURES), None);
+    none_is_wrong(&rt, first_wrong(rt.alloc(), FAILURES));
 }
 
 /// Three commands, the second one of which is no command.

@@ -1,6 +1,7 @@
 // Envelopes, byte by byte.
 
 use super::byte_texts::same;
+use super::fields::none_is_wrong;
 use envelope_records::{EnvFault, EnvStep, EnvelopeReader};
 
 /// Bytes; what each of them does; the address that the last one ended; how many bytes are missing then at least; and
@@ -60,15 +61,15 @@ fn first_wrong(rows: &[Row]) -> Option<usize> {
 
 #[test]
 fn an_envelope_is_read(rt: HostRuntime) {
-    assert_eq!(rt; first_wrong(&ENVELOPE), None);
+    none_is_wrong(&rt, first_wrong(&ENVELOPE));
 }
 
 #[test]
 fn an_address_has_at_most_1002_bytes(rt: HostRuntime) {
-    assert_eq!(rt; first_wrong(&LONG_ADDRESS), None);
+    none_is_wrong(&rt, first_wrong(&LONG_ADDRESS));
 }
 
 #[test]
 fn other_bytes_are_no_envelope(rt: HostRuntime) {
-    assert_eq!(rt; first_wrong(&OTHER_BYTES), None);
+    none_is_wrong(&rt, first_wrong(&OTHER_BYTES));
 }

@@ -1,5 +1,6 @@
 // What is wrong with escapes, records and scripts, in words.
 
+use super::fields::none_is_wrong;
 use envelope_records::RecordError;
 use mail_bytes::EscapeError;
 use script_lines::ScriptError;
@@ -65,12 +66,12 @@ const SCRIPTS: [(ScriptError, &str); 3] = [
 
 #[test]
 fn errors_of_bytes_are_told_in_words(rt: HostRuntime) {
-    assert_eq!(rt; first_wrong(rt.alloc(), &ESCAPES), None);
-    assert_eq!(rt; first_wrong(rt.alloc(), &RECORDS), None);
+    none_is_wrong(&rt, first_wrong(rt.alloc(), &ESCAPES));
+    none_is_wrong(&rt, first_wrong(rt.alloc(), &RECORDS));
 }
 
 #[test]
 fn errors_of_scripts_are_told_in_words(rt: HostRuntime) {
-    assert_eq!(rt; first_wrong(rt.alloc(), &WORDS), None);
-    assert_eq!(rt; first_wrong(rt.alloc(), &SCRIPTS), None);
+    none_is_wrong(&rt, first_wrong(rt.alloc(), &WORDS));
+    none_is_wrong(&rt, first_wrong(rt.alloc(), &SCRIPTS));
 }

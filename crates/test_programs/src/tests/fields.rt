@@ -2,6 +2,15 @@
 
 use mail_bytes::unescape;
 use std::alloc::Global;
+use std::fmt::Display;
+use std::process::Abort;
+
+/// Ends a test with what is wrong, if anything is.
+pub fn none_is_wrong<W: Display + Drop>(rt: &impl Abort, wrong: Option<W>) {
+    if let Some(wrong) = wrong {
+        rt.panic(wrong);
+    }
+}
 
 /// The name of a part, and what stands after it.
 pub fn named(part: &str) -> (&str, &str) {
@@ -22,6 +31,11 @@ pub fn field<'a>(row: &'a str, name: &str) -> &'a str {
 /// The number after this name; if there is none, the second number.
 pub fn number(row: &str, name: &str, other: u64) -> u64 {
     field(row, name).parse::<u64>().unwrap_or(other)
+}
+
+/// A number as decimal text; 0 for any other text.
+pub fn number_of(text: &str) -> u64 {
+    text.parse::<u64>().unwrap_or(0)
 }
 
 /// The bytes of a text in which `%` and two hexadecimal digits are one byte.

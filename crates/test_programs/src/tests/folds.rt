@@ -19,6 +19,6 @@ const ROWS: [(&[u8], &[u8], bool); 9] = [
 #[test]
 fn case_is_ignored(rt: HostRuntime) {
     for (one, other, are_same) in &ROWS {
-        assert_eq!(rt; same_fold(one, other), *are_same, "{one:?} {other:?}");
+        assert!(rt; same_fold(one, other) == *are_same, "{one:?} {other:?}");
     }
 }

@@ -1,6 +1,8 @@
 // Injections over a disk in memory that keeps its calls, from sources that give a byte at a time or all at once.
 
-use super::fields::{bytes, field, is_well_formed, named, number, numbers, repeated};
+use super::fields::{
+    bytes, field, is_well_formed, named, none_is_wrong, number, number_of, numbers, repeated,
+};
 use super::sources::put;
 use call_fs::{CallData, Fd, Recorded, Recorder};
 use mem_fs::MemFs;
@@ -86,14 +88,11 @@ fn lines_of(told: &str) -> &'static str {
     }
 }
 
-/// A number as decimal text; 0 for any other text.
-fn number_of(text: &str) -> u64 {
-    text.parse::<u64>().unwrap_or(0)
-}
-
 /// How many bytes a row says of the file of this descriptor.
 fn count_of(told: &str, fd: u64) -> u64 {
-    number_of(told.split(' ').nth(fd as usize).unwrap_or(""))
+    let (_, counts) = named(told);
+    let (first, second) = named(counts);
+    number_of(if fd == 1 { first } else { second })
 }
 
 /// Whether this call is that of a line; of an append the row says the count of bytes.
@@ -333,7 +332,7 @@ form netstrings; message 18446744073709551615:abc; status 54; calls refused";
 #[test]
 fn injections_go_as_the_rows_say(rt: HostRuntime) {
     for rows in [WHOLE, INPUTS, NETSTRINGS] {
-        assert_eq!(rt; first_wrong(rt.alloc(), rows), None);
+        none_is_wrong(&rt, first_wrong(rt.alloc(), rows));
     }
 }
 
@@ -344,5 +343,5 @@ form beside; envelope Fa@x%00Tb@y%00%00; enough 11";
 
 #[test]
 fn an_input_that_is_cut_is_unread(rt: HostRuntime) {
-    assert_eq!(rt; first_wrong(rt.alloc(), CUTS), None);
+    none_is_wrong(&rt, first_wrong(rt.alloc(), CUTS));
 }

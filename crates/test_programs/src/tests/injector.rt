@@ -1,17 +1,12 @@
 // The injector, call by call.
 ghost use Rattle.call_fs.specs.Columns.{IsMomentIn};
 
-use super::fields::{bytes, named};
+use super::fields::{bytes, named, none_is_wrong, number_of};
 use call_fs::{Answer, Call, Fd, FsError, Got, Need, Ready};
 use mail_bytes::{LAST_MOMENT, Memory};
 use queue_inject::{Injector, Part};
 use received_line::Invoked;
 use std::alloc::Global;
-
-/// A number as decimal text; 0 for any other text.
-fn number(text: &str) -> u64 {
-    text.parse::<u64>().unwrap_or(0)
-}
 
 /// Whether this is what it needs: a call with its arguments, of an append the count of bytes; `end` with a status; or `wait`.
 fn is_due(need: Need<'_>, due: &str) -> bool {
@@ -24,10 +19,10 @@ fn is_due(need: Need<'_>, due: &str) -> bool {
         }
         (Need::File(Call::Unlink(name)), "unlink") => name == first.as_bytes(),
         (Need::File(Call::Append(fd, bytes)), "append") => {
-            fd.0 == number(first) && bytes.len() as u64 == number(second)
+            fd.0 == number_of(first) && bytes.len() as u64 == number_of(second)
         }
-        (Need::File(Call::Sync(fd)), "sync") => fd.0 == number(first),
-        (Need::Ended(status), "end") => u64::from(status) == number(first),
+        (Need::File(Call::Sync(fd)), "sync") => fd.0 == number_of(first),
+        (Need::Ended(status), "end") => u64::from(status) == number_of(first),
         (Need::Wait, "wait") => true,
         _ => false,
     }
@@ -91,7 +86,7 @@ fn bytes_of(alloc: Global, text: &str) -> Vec<u8> {
         return bytes(alloc, text);
     };
     let mut all = Vec::new(alloc);
-    for _ in 0..number(count) {
+    for _ in 0..number_of(count) {
         let _ = all.push(b'x');
     }
     all
@@ -125,7 +120,7 @@ fn makes(alloc: Global, injector: &mut Injector, step: &str) -> bool {
             injector.fail_input(kind == "malformed");
             true
         }
-        "look" => look(injector, number(rest)),
+        "look" => look(injector, number_of(rest)),
         "needs" => is_due(injector.need(), rest),
         "makes" => makes_call(injector, first, second),
         "answers" => answer_all(injector, rest.as_bytes()),
@@ -185,7 +180,14 @@ fn does(alloc: Global, injector: &mut Injector, row: &str) -> bool {
     let (moment, due) = rest.split_once(" | ").unwrap_or((rest, "nothing"));
     let message = bytes_of(alloc, message);
     let envelope = bytes_of(alloc, envelope);
-    let is_so = comes_to(injector, &message, &envelope, letters, number(moment), due);
+    let is_so = comes_to(
+        injector,
+        &message,
+        &envelope,
+        letters,
+        number_of(moment),
+        due,
+    );
     drop(message);
     drop(envelope);
     is_so
@@ -231,7 +233,7 @@ hi | Fa@x%00Tb@y%00%00 | cddddCddd | 86400 | end 0";
 
 #[test]
 fn each_call_is_its_row(rt: HostRuntime) {
-    assert_eq!(rt; first_wrong(rt.alloc(), CALLS), None);
+    none_is_wrong(&rt, first_wrong(rt.alloc(), CALLS));
 }
 
 /// Which call is due after failures of calls; after a whole envelope nothing counts.
@@ -253,7 +255,7 @@ hi | Fa@x%00Tb@y%00%00X | cddddcddd | 0 | end 0";
 
 #[test]
 fn each_failure_has_its_status(rt: HostRuntime) {
-    assert_eq!(rt; first_wrong(rt.alloc(), FAILURES), None);
+    none_is_wrong(&rt, first_wrong(rt.alloc(), FAILURES));
 }
 
 /// Which write is due of a message in pieces; its first line has 68 bytes.
@@ -268,7 +270,7 @@ x*8125 | Fa@x%00Tb@y%00%00 | cddd | 0 | append 1 1
 
 #[test]
 fn a_text_is_written_in_pieces(rt: HostRuntime) {
-    assert_eq!(rt; first_wrong(rt.alloc(), PIECES), None);
+    none_is_wrong(&rt, first_wrong(rt.alloc(), PIECES));
 }
 
 /// The input of a bounce fails within the message, or is malformed there.

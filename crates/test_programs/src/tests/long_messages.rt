@@ -56,6 +56,6 @@ fn outcome(alloc: Global, form: Form, head: &'static [u8]) -> (u8, bool, usize) 
 fn a_message_of_over_a_gibibyte_is_refused(rt: HostRuntime) {
     for (form, head, status) in &ROWS {
         let came = outcome(rt.alloc(), *form, head);
-        assert_eq!(rt; came, (*status, true, MOST_TAKEN), "{:?}", *head);
+        assert!(rt; came == (*status, true, MOST_TAKEN), "{:?}", *head);
     }
 }

@@ -1,7 +1,7 @@
 // Posts in memory.
 
 use super::byte_texts::same;
-use super::fields::bytes;
+use super::fields::{bytes, none_is_wrong};
 use mail_bytes::ByteText;
 use outside::{MemPosts, Post, Posts, Waiting};
 use std::alloc::Global;
@@ -49,5 +49,5 @@ fn first_wrong(posts: &mut MemPosts, rows: &[Row]) -> Option<usize> {
 #[test]
 fn posts_come_in_order(rt: HostRuntime) {
     let mut posts = MemPosts::new(waiting(rt.alloc()));
-    assert_eq!(rt; first_wrong(&mut posts, &ROWS), None);
+    none_is_wrong(&rt, first_wrong(&mut posts, &ROWS));
 }

@@ -85,6 +85,6 @@ fn texts_of_no_name(rt: HostRuntime) {
 #[test]
 fn files_lie_in_23_directories(rt: HostRuntime) {
     for (number, directory) in [(1, 1), (22, 22), (23, 0), (457, 20)] {
-        assert_eq!(rt; split(number), directory, "{number}");
+        assert!(rt; split(number) == directory, "{number}");
     }
 }

@@ -8,6 +8,7 @@ use host_streams::{HostClock, LateFile, ReaderSource};
 use mail_bytes::{ByteText, LAST_MOMENT, NameBuf, undec};
 use queue_command::{Form, inject};
 use received_line::{Invoked, received};
+use std::fmt::Display;
 use std::os::unix::fs::MetadataExt;
 use std::{fs, process};
 
@@ -17,8 +18,8 @@ const MESSAGE: &str = "hi\n";
 /// The envelope.
 const ENVELOPE: &str = "Fa@x\0Tb@y\0\0";
 
-/// The path of this name below that one; empty without memory for it.
-fn below(rt: &HostRuntime, root: &str, name: &str) -> String {
+/// The path of this name or number below that one; empty without memory for it.
+fn below<N: Display + Copy>(rt: &HostRuntime, root: &str, name: N) -> String {
     match format!(in rt.alloc(); "{root}/{name}") {
         Ok(path) => path,
         Err(_) => String::new(rt.alloc()),
@@ -140,21 +141,13 @@ fn is_numbered(rt: &HostRuntime, path: &str, number: u64) -> bool {
     }
 }
 
-/// The path of the file of this number in this directory.
-fn path_of(rt: &HostRuntime, dir: &str, number: u64) -> String {
-    match format!(in rt.alloc(); "{dir}/{number}") {
-        Ok(path) => path,
-        Err(_) => String::new(rt.alloc()),
-    }
-}
-
 /// Of the message of this number: whether its file has that number, whether it holds the message, and the envelope.
 fn are_whole(rt: &HostRuntime, root: &str, number: u64, span: (u64, u64)) -> [bool; 3] {
-    let mess = path_of(rt, "mess", number % 23);
+    let mess = below(rt, "mess", number % 23);
     let mess_dir = below(rt, root, mess.as_str());
     let todo_dir = below(rt, root, "todo");
-    let message = path_of(rt, mess_dir.as_str(), number);
-    let todo = path_of(rt, todo_dir.as_str(), number);
+    let message = below(rt, mess_dir.as_str(), number);
+    let todo = below(rt, todo_dir.as_str(), number);
     let are_whole = [
         is_numbered(rt, message.as_str(), number),
         is_dated(rt, message.as_str(), span),
@@ -183,6 +176,6 @@ fn a_message_is_queued_in_a_real_directory(rt: HostRuntime) {
     let root = scratch(&rt, "queue");
     let seen = seen(&rt, root.as_str());
     let is_gone = fs::remove_dir_all(&rt, root.as_str()).is_ok();
-    assert_eq!(rt; seen, Some((true, [true; 3])));
+    assert!(rt; seen == Some((true, [true; 3])), "{seen:?}");
     assert!(rt; is_gone);
 }

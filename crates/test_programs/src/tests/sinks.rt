@@ -16,7 +16,7 @@ h | failed | abdef | 3
  | done | abdef | 3";
 
 /// What comes of a giving, as a text; None for any other text.
-fn gave_of(text: &str) -> Option<Gave> {
+pub fn gave_of(text: &str) -> Option<Gave> {
     match text {
         "done" => Some(Gave::Done),
         "failed" => Some(Gave::Failed),

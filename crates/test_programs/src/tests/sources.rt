@@ -1,7 +1,7 @@
 // The source in memory.
 
 use super::byte_texts::same;
-use super::fields::numbers;
+use super::fields::{none_is_wrong, numbers};
 use mail_bytes::ByteText;
 use outside::{MemSource, Source, Took};
 use std::alloc::Global;
@@ -54,5 +54,5 @@ fn first_wrong(source: &mut MemSource, rows: &[Row]) -> Option<usize> {
 fn a_taking_gives_bytes_of_one_piece(rt: HostRuntime) {
     let pieces = pieces(rt.alloc(), &[b"abc", b"", b"d"]);
     let mut source = MemSource::new(pieces, numbers(rt.alloc(), "2"));
-    assert_eq!(rt; first_wrong(&mut source, &ROWS), None);
+    none_is_wrong(&rt, first_wrong(&mut source, &ROWS));
 }

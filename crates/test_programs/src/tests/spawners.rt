@@ -1,7 +1,8 @@
 // The spawner in memory.
 
-use super::fields::{bytes, named, numbers};
-use outside::{Gave, MemChild, MemSpawner, Spawner, Started, Status};
+use super::fields::{bytes, named, none_is_wrong, numbers};
+use super::sinks::gave_of;
+use outside::{MemChild, MemSpawner, Spawner, Started, Status};
 use std::alloc::Global;
 
 /// The words of a child.
@@ -57,15 +58,6 @@ fn started_of(text: &str) -> Started {
             chan: number(chan),
             pid: number(pid),
         },
-    }
-}
-
-/// What came of a feeding, as a text; None for any other text.
-fn gave_of(text: &str) -> Option<Gave> {
-    match text {
-        "done" => Some(Gave::Done),
-        "failed" => Some(Gave::Failed),
-        _ => None,
     }
 }
 
@@ -208,10 +200,12 @@ fn seen(
 
 #[test]
 fn a_child_and_failures(rt: HostRuntime) {
-    assert_eq!(rt; seen(rt.alloc(), &[EXITS], "1 3 6", ROWS).0, None);
+    none_is_wrong(&rt, seen(rt.alloc(), &[EXITS], "1 3 6", ROWS).0);
 }
 
 #[test]
 fn two_children_fed_in_turn(rt: HostRuntime) {
-    assert_eq!(rt; seen(rt.alloc(), &[EXITS, CRASHES], "", TWO), (None, true));
+    let (wrong, are_kept) = seen(rt.alloc(), &[EXITS, CRASHES], "", TWO);
+    none_is_wrong(&rt, wrong);
+    assert!(rt; are_kept);
 }

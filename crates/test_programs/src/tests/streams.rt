@@ -40,7 +40,7 @@ fn first_taking(interruptions: u32) -> (Took, u64) {
 #[test]
 fn an_interrupted_read_is_tried_again(rt: HostRuntime) {
     for (interruptions, expected) in [(1000, (Took::Got(1), 0)), (1001, (Took::Failed, 1))] {
-        assert_eq!(rt; first_taking(interruptions), expected, "{interruptions}");
+        assert!(rt; first_taking(interruptions) == expected, "{interruptions}");
     }
 }
 
@@ -180,5 +180,5 @@ fn the_clock_tells_the_seconds_of_the_system(rt: HostRuntime) {
     let told = [clock.now(), clock.now()];
     let after = seconds(&rt);
     assert!(rt; are_in_order(before, told, after));
-    assert_eq!(rt; clock.pid(), process::id(rt.process()));
+    assert!(rt; clock.pid() == process::id(rt.process()));
 }

@@ -1,6 +1,6 @@
 // Taking more from a source than one call gives.
 
-use super::fields::numbers;
+use super::fields::{none_is_wrong, numbers};
 use super::sources::pieces;
 use outside::{MemSource, Stopped, take_up_to};
 use std::alloc::Global;
@@ -37,5 +37,5 @@ fn first_wrong(alloc: Global, source: &mut MemSource, rows: &[Row]) -> Option<us
 fn bytes_are_taken_across_pieces(rt: HostRuntime) {
     let pieces = pieces(rt.alloc(), &[b"ab", b"cde", b"f"]);
     let mut source = MemSource::new(pieces, numbers(rt.alloc(), "4"));
-    assert_eq!(rt; first_wrong(rt.alloc(), &mut source, &ROWS), None);
+    none_is_wrong(&rt, first_wrong(rt.alloc(), &mut source, &ROWS));
 }

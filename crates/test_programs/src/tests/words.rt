@@ -28,6 +28,9 @@ clean DIR -> clean DIR; - DIR; Nothing
 clean -- -DIR -> clean -DIR; - -DIR; Nothing
 lspawn DIR -> lspawn DIR; - DIR; InputAndChildren
 lspawn -- -DIR -> lspawn -DIR; - -DIR; InputAndChildren
+qmqpd DIR -> qmqpd DIR 0; - DIR; Nothing
+qmqpd --uid=4294967295 -- -DIR -> qmqpd -DIR 4294967295; - -DIR; Nothing
+qmqpd DIR --uid 7 -> qmqpd DIR 7; - DIR; Nothing
 rspawn DIR p -> rspawn DIR p; - DIR; InputAndChildren
 rspawn -- -DIR -p -> rspawn -DIR -p; - -DIR; InputAndChildren
 rspawn DIR /usr/bin/deliver -> rspawn DIR /usr/bin/deliver; - DIR; InputAndChildren
@@ -95,6 +98,11 @@ clean DIR more
 lspawn
 lspawn DIR more
 lspawn DIR --help
+qmqpd
+qmqpd DIR more
+qmqpd DIR --uid 07
+qmqpd DIR --uid 4294967296
+qmqpd DIR --bounce
 rspawn DIR
 rspawn DIR ""
 rspawn DIR p more
@@ -198,6 +206,10 @@ fn text_of(alloc: Global, found: &Result<Command, WordsError>) -> Result<String,
         Ok(Command::Play) => String::from_str(alloc, "play"),
         Ok(Command::Make(told)) => make_text(alloc, *told),
         Ok(Command::Queue(queue)) => queue_text(alloc, queue),
+        Ok(Command::Qmqpd(told)) => {
+            let (dir, uid) = (told.dir.as_slice().escape_ascii(), told.uid);
+            format!(in alloc; "qmqpd {dir} {uid}")
+        }
         Ok(Command::Audit(dir)) => named(alloc, "audit", dir, b""),
         Ok(Command::Clean(dir)) => named(alloc, "clean", dir, b""),
         Ok(Command::Lspawn(dir)) => named(alloc, "lspawn", dir, b""),

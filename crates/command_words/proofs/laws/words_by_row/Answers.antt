@@ -5,10 +5,10 @@ use Rattle.mail_bytes.proofs.Digits.{number_of_text}
 use Rattle.call_fs.specs.declared.past.DeliveryWordsData.{DeliveryWordsData}
 use Rattle.clap.proofs.OnLiterals.{clap_on_literals}
 use Rattle.command_words.specs.declared.command.Command.{Command}
-use Rattle.command_words.specs.declared.command.Command.TheVariants.{Make, Queue, Send, Local, Work}
+use Rattle.command_words.specs.declared.command.Command.TheVariants.{Make, Queue, Qmqpd, Send, Local, Work}
 use Rattle.command_words.specs.Delivery.{local_told, local_words}
 use Rattle.command_words.specs.Numbers.{as_below, as_turns, as_u32, as_threads}
-use Rattle.command_words.specs.Reads.{dir_words, command_of, make_words, maker_told, play_words, queue_words, rspawn_words, send_words, sender_told, told, work_words}
+use Rattle.command_words.specs.Reads.{dir_words, command_of, make_words, maker_told, play_words, qmqpd_words, queue_words, receiver_told, rspawn_words, send_words, sender_told, told, work_words}
 use Rattle.command_words.proofs.laws.words_by_row.Goals as goal
 
 -- Numbers that are written out. The digits of a large one aren't computed.
@@ -82,12 +82,13 @@ past_counts_is = number_of_text (codes "100001") (record {
 })
 
 pub returns : goal.returns
-unfolding command_of play_words queue_words dir_words rspawn_words send_words make_words local_words work_words clap_on_literals
+unfolding command_of play_words qmqpd_words queue_words dir_words rspawn_words send_words make_words local_words work_words clap_on_literals
 returns c =
     let maker : Option ℕ → Option ℕ → Option Command = λ seed count. option_map Make (maker_told (option_and_then (as_below 65537) seed) (option_and_then (as_below 100001) count)) in
     let sender : List ℕ → Option ℕ → Option Command = λ program number. option_map Send (sender_told (Some (record { dir = codes "DIR"; program = program })) (option_and_then as_turns number)) in
     let queue : Option ℕ → Option Command = λ number. option_map Queue (told (Some (codes "-")) (Some (codes "DIR")) (option_and_then as_u32 number) false) in
     let bounce : Option ℕ → Option Command = λ number. option_map Queue (told (Some (codes "-")) (Some (codes "DIR")) (option_and_then as_u32 number) true) in
+    let receiver : Option ℕ → Option Command = λ number. option_map Qmqpd (receiver_told (Some (codes "DIR")) (option_and_then as_u32 number)) in
     let work : Option ℕ → Option Command = λ number. option_map Work (option_and_then as_threads number) in
     let delivery : DeliveryWordsData = record {
       user = codes "j";
@@ -105,6 +106,10 @@ returns c =
       queue = refl;
       file = refl;
       options = ap bounce seven_is;
+      qmqpd = refl;
+      qmqpd_user = ap receiver thousand_is;
+      qmqpd_no_directory = refl;
+      qmqpd_zero = ap receiver none_is;
       send = ap (sender (codes "PROGRAM")) five_is;
       turns_first = ap (sender (codes "-p")) most_is;
       no_turns = refl;

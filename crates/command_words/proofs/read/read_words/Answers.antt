@@ -3,7 +3,7 @@ use Rattle.std.specs.String.{string_bytes}
 use Rattle.std.specs.Option.{option_copied}
 use Rattle.std.proofs.lemmas.Result.{IfOk-weaker}
 use Rattle.std.specs.Option.{option_map}
-use Rattle.command_words.specs.declared.command.Command.TheVariants.{Make, Send, Audit, Clean, Lspawn, Rspawn, Local, Work}
+use Rattle.command_words.specs.declared.command.Command.TheVariants.{Make, Qmqpd, Send, Audit, Clean, Lspawn, Rspawn, Local, Work}
 use Rattle.command_words.specs.Reads.{dir_words}
 use Rattle.command_words.proofs.Commands.{named, named_word, names_none}
 use Rattle.command_words.proofs.read.read_words.Goals as goal
@@ -43,7 +43,7 @@ returns-in-Err-clause-usage c =
 
 pub returns-in_default-as_str-clause-usage : goal.returns-in_default-as_str-clause-usage
 returns-in_default-as_str-clause-usage c =
-    λ usage. names_none _ c.in-Some.name.now _ (sym c.first.ensures.value ∙ ap option_copied c.in-Some.is) c.as_str.ensures.value c.in_default-as_str.not-play c.in_default-as_str.not-queue c.in_default-as_str.not-send c.in_default-as_str.not-audit c.in_default-as_str.not-clean c.in_default-as_str.not-lspawn c.in_default-as_str.not-rspawn c.in_default-as_str.not-local c.in_default-as_str.not-make c.in_default-as_str.not-work
+    λ usage. names_none _ c.in-Some.name.now _ (sym c.first.ensures.value ∙ ap option_copied c.in-Some.is) c.as_str.ensures.value c.in_default-as_str.not-play c.in_default-as_str.not-queue c.in_default-as_str.not-send c.in_default-as_str.not-audit c.in_default-as_str.not-clean c.in_default-as_str.not-lspawn c.in_default-as_str.not-rspawn c.in_default-as_str.not-local c.in_default-as_str.not-make c.in_default-as_str.not-work c.in_default-as_str.not-qmqpd
 
 pub returns-in-Ok-read_dir-clause-ok : goal.returns-in-Ok-read_dir-clause-ok
 returns-in-Ok-read_dir-clause-ok c =
@@ -114,3 +114,13 @@ pub returns-in-Err-read_work-clause-usage : goal.returns-in-Err-read_work-clause
 returns-in-Err-read_work-clause-usage c =
     let work = named_word _ c.in-Some.name.now _ (codes "work") (sym c.first.ensures.value ∙ ap option_copied c.in-Some.is) c.as_str.ensures.value c.in-work.is in
     λ is. work ∙ ap (option_map Work) (c.in-Err-read_work.ensures.usage (cc))
+
+pub returns-in-Ok-read_qmqpd-clause-ok : goal.returns-in-Ok-read_qmqpd-clause-ok
+returns-in-Ok-read_qmqpd-clause-ok c =
+    let qmqpd = named_word _ c.in-Some.name.now _ (codes "qmqpd") (sym c.first.ensures.value ∙ ap option_copied c.in-Some.is) c.as_str.ensures.value c.in-qmqpd.is in
+    qmqpd ∙ ap (option_map Qmqpd) c.in-Ok-read_qmqpd.ensures.ok
+
+pub returns-in-Err-read_qmqpd-clause-usage : goal.returns-in-Err-read_qmqpd-clause-usage
+returns-in-Err-read_qmqpd-clause-usage c =
+    let qmqpd = named_word _ c.in-Some.name.now _ (codes "qmqpd") (sym c.first.ensures.value ∙ ap option_copied c.in-Some.is) c.as_str.ensures.value c.in-qmqpd.is in
+    λ is. qmqpd ∙ ap (option_map Qmqpd) (c.in-Err-read_qmqpd.ensures.usage (cc))

@@ -6,6 +6,7 @@ use Rattle.qmail_top.specs.Command.{usage_line}
 use Rattle.qmail_top.proofs.Families.{delivery_from, lspawned_from, one_local, one_lspawn, one_rspawn, one_send, rspawned_from, sent_from}
 use Rattle.qmail_top.proofs.Injections.{ends_otherwise}
 use Rattle.qmail_top.proofs.Made.{made_from, made_otherwise, nothing_made, one_make}
+use Rattle.qmail_top.proofs.Packages.{one_qmqpd, received_from, received_nothing, received_otherwise}
 use Rattle.qmail_top.proofs.Senders.{sent_otherwise}
 use Rattle.qmail_top.proofs.Spawners.{ended_otherwise, locally_otherwise, spawned_otherwise}
 use Rattle.qmail_top.proofs.alone.qmail_alone.Goals as goal
@@ -89,6 +90,19 @@ returns-in-Ok-Make-clause-usage g c = λ is. absurd (made_otherwise _ _ _ c.make
 pub returns-in-Ok-Make-clause-make : goal.returns-in-Ok-Make-clause-make
 returns-in-Ok-Make-clause-make g c = λ told is.
     made_from told c.in-Ok-Make.told _ _ (one_make _ _ _ (rw c.in-Ok-Make.field-0-is at c.in-Ok-Make.ensures.ok) is) c.make_script.ensures
+
+pub returns-clause-qmqpd : goal.returns-clause-qmqpd
+returns-clause-qmqpd g c = λ told is. received_nothing _ _ _ _ _ _
+
+pub returns-in-Ok-Qmqpd-clause-usage : goal.returns-in-Ok-Qmqpd-clause-usage
+returns-in-Ok-Qmqpd-clause-usage g c = λ is. absurd (received_otherwise _ _ _ _ _ _ c.receive_package.ensures is)
+
+pub returns-in-Ok-Qmqpd-clause-usage_line : goal.returns-in-Ok-Qmqpd-clause-usage_line
+returns-in-Ok-Qmqpd-clause-usage_line g c = λ none is. absurd (received_otherwise _ _ _ _ _ _ c.receive_package.ensures is)
+
+pub returns-in-Ok-Qmqpd-clause-qmqpd : goal.returns-in-Ok-Qmqpd-clause-qmqpd
+returns-in-Ok-Qmqpd-clause-qmqpd g c = λ told is.
+    received_from told c.in-Ok-Qmqpd.told _ _ _ _ _ _ (one_qmqpd _ _ _ (rw c.in-Ok-Qmqpd.field-0-is at c.in-Ok-Qmqpd.ensures.ok) is) c.receive_package.ensures
 
 pub returns-in-Ok-Work-clause-unworked : goal.returns-in-Ok-Work-clause-unworked
 returns-in-Ok-Work-clause-unworked g c = λ is. (inl refl, (refl, refl), (refl, refl, refl))

@@ -2,6 +2,7 @@ use Rattle.std.proofs.Common.{Err, ap, inl, inr, refl}
 use Rattle.audit_command.proofs.Audits.{nothing_done}
 use Rattle.command_words.proofs.Ranges.{work_range}
 use Rattle.qmail_top.proofs.Made.{nothing_made}
+use Rattle.qmail_top.proofs.Packages.{received_nothing}
 use Rattle.qmail_top.proofs.Works.{no_usage, worked_nothing}
 use Rattle.qmail_top.proofs.top.qmail.Goals as goal
 
@@ -36,6 +37,9 @@ returns-in-Err-Memory-clause-queue g c = λ q is. inr (record {
   calls = refl;
   faults = refl;
 })
+
+pub returns-in-Err-Memory-clause-qmqpd : goal.returns-in-Err-Memory-clause-qmqpd
+returns-in-Err-Memory-clause-qmqpd g c = λ told is. received_nothing _ _ _ _ _ _
 
 pub returns-in-Err-Memory-clause-make : goal.returns-in-Err-Memory-clause-make
 returns-in-Err-Memory-clause-make g c = λ told is. nothing_made told _ _

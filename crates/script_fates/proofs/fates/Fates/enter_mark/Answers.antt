@@ -18,10 +18,10 @@ returns-in_ok-push c = λ books h.
     let old : Fates = c.args.self.now in
     let was : Tenure = c.in-Some.tenure.now in
     let now : Tenure = record { number = was.number; mail = was.mail; delivered = c.push.new.self; routes = was.routes } in
-    let new : Fates = record { living = c.get_mut.follows.lender now; over = old.over } in
+    let new : Fates = record { living = c.get_mut.follows.lender now; over = old.over; routers = old.routers } in
     let there : get nat_cmp old.living n ≡ Some was = search rules in
     delivery_enters old new books c.args.channel c.args.mark.now (search rules)
-    (changes_at (AddsSpot s) old new n was now there ((c.get_mut.follows.holds now).3 (search rules)) (refl, refl, c.in_ok-push.ensures.items, refl) refl)
+    (changes_at (AddsSpot s) old new n was now there ((c.get_mut.follows.holds now).3 (search rules)) (refl, refl, c.in_ok-push.ensures.items, refl) refl refl)
     h
 
 pub returns-in_default : goal.returns-in_default
@@ -29,7 +29,7 @@ returns-in_default c = λ books h.
     let n = c.args.mark.now.attempt.n in
     let s : KeptSpot = record { channel = c.args.channel; place = c.args.mark.now.attempt.place } in
     let old : Fates = c.args.self.now in
-    let new : Fates = record { living = c.get_mut.follows.lender-at-none; over = old.over } in
+    let new : Fates = record { living = c.get_mut.follows.lender-at-none; over = old.over; routers = old.routers } in
     let stays = c.get_mut.follows.holds-at-none in
     let there : get nat_cmp old.living n ≡ None = search rules in
-    delivery_enters old new books c.args.channel c.args.mark.now (search rules) (changes_nowhere (AddsSpot s) old new n there (λ k. ap (λ m. get nat_cmp m k) stays) refl) h
+    delivery_enters old new books c.args.channel c.args.mark.now (search rules) (changes_nowhere (AddsSpot s) old new n there (λ k. ap (λ m. get nat_cmp m k) stays) refl refl) h

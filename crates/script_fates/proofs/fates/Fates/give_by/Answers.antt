@@ -8,8 +8,8 @@ use Rattle.script_fates.specs.Fates.{AreFates}
 use Rattle.script_fates.proofs.Quiet.{given_enters, looked_controls, looked_routing, routed_enters}
 use Rattle.script_fates.proofs.fates.Fates.give_by.Goals as goal
 
-pub returns-in_ok-copied-in-Some-clause-books : goal.returns-in_ok-copied-in-Some-clause-books
-returns-in_ok-copied-in-Some-clause-books c =
+pub returns-in_ok-route-in-Some-clause-books : goal.returns-in_ok-route-in-Some-clause-books
+returns-in_ok-route-in-Some-clause-books c =
     let old = c.args.sender.now in
     let looked = c.look.new.self in
     let own = c.args.own.now in
@@ -18,9 +18,9 @@ returns-in_ok-copied-in-Some-clause-books c =
     (λ went child past books to bytes gives has stands h.
     let same : c.min.result ≡ own.read = c.min.ensures ∙ min-eq_left has.moment in
     let some = looked_routing old looked past c.min.result own.read own.ready (Some n) stands c.look.ensures.rest same (sym c.in-Some.is ∙ c.routing.ensures) in
-    let by = looked_controls old looked past c.min.result own.ready c.in_ok-copied-in-Some.field-0 stands c.look.ensures.rest (c.in_ok-copied-in-Some.ensures ∙ c.controls.ensures) in
+    let by = looked_controls old looked past c.min.result own.ready c.controls.result.now stands c.look.ensures.rest c.controls.ensures in
     subst (AreFates c.route.new.self) (routed_enters child past own books to bytes n gives some)
-    (subst (λ (by : Controls). AreFates c.route.new.self (entered_in books n (Routes by))) by (c.route.ensures books h)))
+    (subst (λ (by : Controls). AreFates c.route.new.self (entered_in books n (Routes by))) by (c.in_ok-route-in-Some.ensures books h)))
     c.go_on.ensures
 
 pub returns-in-None-clause-books : goal.returns-in-None-clause-books

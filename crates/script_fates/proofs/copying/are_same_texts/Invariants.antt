@@ -1,0 +1,6 @@
+use Rattle.std.proofs.Common.{◌≡◌, take}
+use Rattle.script_fates.proofs.copying.are_same_texts.Given as goal
+
+-- the texts so far are the same
+abbrev pub invariant-loop-at : goal.invariant-loop-at
+invariant-loop-at l = take l.at l.texts ≡ take l.at l.others
