@@ -34,7 +34,7 @@ streams: build
 # what tells by its exit status alone whether all is well, the short ones first
 host-checks:
 	@bad=; out=$$(mktemp); \
-	for check in streams.sh "queue.sh 20" refused.sh crowd.sh kill.sh clean.sh audit.sh "large.sh 64" msmtp.sh mailfront.sh \
+	for check in streams.sh "queue.sh 20" refused.sh crowd.sh kill.sh clean.sh audit.sh "large.sh 64" msmtp.sh mailfront.sh qmqp.sh \
 		deliver.sh send.sh attack.sh host.sh powercut.sh storm.sh; do \
 		if QMAIL=$(abspath $(QMAIL)) bench/$$check > $$out 2>&1; then echo "well: $$check"; \
 		else bad=1; tail -n 20 $$out; echo "not well: $$check"; fi; \

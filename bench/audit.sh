@@ -1,7 +1,7 @@
 #!/usr/bin/env bash
 # bench/audit.sh [N]: fills a fresh queue by N injections (100 without it), of which every second one is killed (kill -9)
 # at a random moment, unless it is done by then. Then, in a second queue, puts by hand a number for each combination of a
-# number's seven files, and names that the queue doesn't write. Checks that `qmail audit` prints of each what ls and awk
+# number's files in the flat layout, in the split one and in both, and names that the queue doesn't write. Checks that `qmail audit` prints of each what ls and awk
 # see, that all files are as before, that no file is opened and no directory made (with strace(1)), what it says of a directory that
 # is missing, mistyped or no queue, and the exit status of an output that can't be written. Prints how long the audits took. Exit
 # status 1 if something differs. In Debian: the package strace.
@@ -17,12 +17,12 @@ seen() { # DIR: what an audit is to print, by ls and awk alone
   (
     cd "$1"
     ls -1A pid | wc -l | awk '{ print "pid " $1 }'
-    for dir in intd todo bounce mess/* info/* local/* remote/*; do
+    for dir in intd todo bounce mess/* info/* local/* remote/* intdx/* todox/*; do
       ls -1Ap "$dir" | sed "s#^#$dir/#"
     done | awk -F/ '
       $NF !~ /^[1-9][0-9]*$/ { next }
       NF == 3 && $NF % 23 != $2 { next }
-      { there[$NF, $1] = 1; numbers[$NF] = 1 }
+      { file = $1; sub(/x$/, "", file); there[$NF, file] = 1; numbers[$NF] = 1 }
       END {
         parts = split("mess intd todo info local remote bounce", part, " ")
         for (n in numbers) {
@@ -103,15 +103,26 @@ compare "a queue of injections" "$queue"
 # each combination of files, and names that the queue doesn't write
 other=$work/other
 "$program" clean "$other" < /dev/null > "$work/told" # makes the directories
-for ((n = 1001; n < 1128; n++)); do
-  s=$((n % 23))
-  place=1
-  for path in mess/$s/$n intd/$n todo/$n info/$s/$n local/$s/$n remote/$s/$n bounce/$n; do
-    if (((n - 1000) & place)); then : > "$other/$path"; fi
-    place=$((place * 2))
+for ((first = 1000; first <= 3000; first += 1000)); do # flat, split, both
+  for ((n = first + 1; n < first + 128; n++)); do
+    s=$((n % 23))
+    place=1
+    for file in mess/$s/ intd todo info/$s/ local/$s/ remote/$s/ bounce/; do
+      case $file-$first in
+      [it]*[do]-1000) paths=$file/$n ;;
+      [it]*[do]-2000) paths=${file}x/$s/$n ;;
+      [it]*[do]-3000) paths="$file/$n ${file}x/$s/$n" ;;
+      *) paths=$file$n ;;
+      esac
+      for path in $paths; do
+        if (((n - first) & place)); then : > "$other/$path"; fi
+      done
+      place=$((place * 2))
+    done
   done
 done
-for path in pid/77.0.1 pid/stray todo/x todo/01 todo/0 mess/0/1 mess/3/03 info/1/y bounce/1.2 intd/-1 control/me; do
+for path in pid/77.0.1 pid/stray todo/x todo/01 todo/0 mess/0/1 mess/3/03 info/1/y bounce/1.2 intd/-1 control/me \
+  todox/1/x todox/2/1 intdx/3/03; do
   : > "$other/$path"
 done
 mkdir "$other/todo/2000"

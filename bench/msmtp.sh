@@ -101,8 +101,16 @@ serve "5 127.0.0.1" "10 127.0.0.8"
 check "a refusal for good ends it" "$(deliver w a@x b@w | cut -c 1)" D
 serve "5 a..b" "10 127.0.0.8" "20 b..c"
 check "servers of which one may come back" "$(deliver w a@x b@w | cut -c 1)" Z
-serve "0 "
-check "a domain that takes no mail" "$(deliver w a@x b@w)" "DSorry, w takes no mail. (#5.1.10)/|"
+for exchange in "0 " "10 "; do
+  serve "$exchange"
+  check "a domain that takes no mail, by $exchange." "$(deliver w a@x b@w)" "DSorry, w takes no mail. (#5.1.10)/|"
+done
+serve "10 a b"
+check "servers without names of hosts" "$(deliver w a@x b@w | sed 's/:.*(/: (/')" \
+  "ZThe servers of w have no names of hosts: (#4.4.4)/|"
+outside
+serve "0 " "20 127.0.0.1"
+check "a server beside one that is none" "$(deliver w a@x b@w)" "$taken"
 echo 'echo ";; no servers could be reached"; exit 1' > answer
 check "a name server that doesn't answer" "$(deliver w a@x b@w | cut -c 1)" Z
 echo 'echo "0 has no MX record"' > answer
@@ -131,12 +139,12 @@ for recipient in '' '$(touch x)@y' "$(printf 'b\nRSET@y')" 'a b@y' '"a b"@y' 'b,
   check "the recipient $(printf %s "$recipient" | tr '\n\r' '//') is refused" "$(deliver y a@x "$recipient" | cut -c 1)" D
 done
 check "and the host outside wasn't told" "$(got Rcpt)" ""
-for sender in -oX --help@x ../.. '*' '$(touch x)' '#@[]' '"a b"@x' 'a:b@x' '-f'; do
+for sender in -oX --help@x ../.. '*' '$(touch x)' '#@[]' '"a b"@x' 'a:b@x' '-f' 'a%b@x' '%u%h%%@x'; do
   rm -f got/*
   check "the sender $sender" "$(deliver y "$sender" b@y)$(got Mail)" "$taken<$sender> "
 done
 rm -f got/*
-for sender in "$(printf 'a\nRSET')" 'a> SIZE=1' '<a@x>' "$(printf 'a\r@x')"; do
+for sender in "$(printf 'a\nRSET')" 'a> SIZE=1' '<a@x>' "$(printf 'a\r@x')" %U@x a@%H '%C' 'a%%Mb@x'; do
   check "the sender $(printf %s "$sender" | tr '\n\r' '//') is refused" "$(deliver y "$sender" b@y | cut -c 1)" D
 done
 check "and the host outside wasn't told" "$(got Mail)" ""

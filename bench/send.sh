@@ -49,6 +49,7 @@ unremoved() {
     END { for (n in left) if (left[n] == 0) print n " S2" }' "$1"
 }
 
+# --foreground: in a process group of its own a cleaner that is stopped gets SIGHUP once that group is orphaned (setpgid(2)), and ends
 begin() { # DIR PROGRAM LOG: a sender in the background, whose process number is $sender
   QMAIL_IDLE_MS=100 timeout --foreground -s KILL 120 "$program" send "$1" "$2" --turns 1000000 2> "$3" &
   timer=$!

@@ -4,7 +4,7 @@ use call_fs::Fd;
 
 /// Where the return of a message stands: at the step that is named. `fd` is an open file, `pid` the process number of the
 /// bounce's injector.
-#[derive(Clone, Copy, PartialEq, Eq)]
+#[derive(Clone, Copy)]
 pub enum ReturnRow {
     /// Opens the bounce file.
     Open,

@@ -7,7 +7,8 @@ ghost use Rattle.call_fs.specs.Calls.{created, opened, counted, done, stated, ne
 ghost use Rattle.call_fs.specs.Apply.{Apply};
 ghost use Rattle.call_fs.specs.Told.{HasCause};
 ghost use Rattle.call_fs.specs.Free.{IsFree};
-ghost use Rattle.mem_fs.specs.MemDisk.{disk_of, fresh, with_dir, with_held, empty_plan, Counts, IsNextNumber, MemWent};
+ghost use Rattle.call_fs.specs.Placing.{with_dir};
+ghost use Rattle.mem_fs.specs.MemDisk.{disk_of, fresh, with_held, empty_plan, Counts, IsNextNumber, MemWent};
 ghost use Rattle.call_runs.specs.Lists.{held_of};
 
 use crate::plain_lists::PlainLists;

@@ -9,7 +9,8 @@ ghost use Rattle.call_fs.specs.Apply.{effect, IsStat, IsNextName, IsLastName};
 ghost use Rattle.call_fs.specs.Columns.{IsRead};
 ghost use Rattle.call_fs.specs.Free.{IsFree, IsLeastFree, IsNextDescriptor};
 ghost use Rattle.mem_files.specs.MemFiles.{file_at};
-ghost use Rattle.mem_fs.specs.MemDisk.{disk_of, held_nothing, with_dir};
+ghost use Rattle.call_fs.specs.Placing.{with_dir};
+ghost use Rattle.mem_fs.specs.MemDisk.{disk_of, held_nothing};
 ghost use Rattle.call_runs.specs.Lists.{held_of};
 
 use crate::pairs::{self, PlainOpen};

@@ -31,42 +31,15 @@ pub fn read_words(alloc: Global, words: &[String]) -> Result<Command, WordsError
     match name.as_str() {
         "play" => read_play(alloc, words),
         "queue" => read_queue(alloc, words),
-        "send" => match read_send(alloc, words) {
-            Ok(sender) => Ok(Command::Send(sender)),
-            Err(why) => Err(why),
-        },
-        "audit" => match read_dir(alloc, audit_line(alloc)?, words) {
-            Ok(dir) => Ok(Command::Audit(dir)),
-            Err(why) => Err(why),
-        },
-        "clean" => match read_dir(alloc, clean_line(alloc)?, words) {
-            Ok(dir) => Ok(Command::Clean(dir)),
-            Err(why) => Err(why),
-        },
-        "lspawn" => match read_dir(alloc, lspawn_line(alloc)?, words) {
-            Ok(dir) => Ok(Command::Lspawn(dir)),
-            Err(why) => Err(why),
-        },
-        "rspawn" => match read_rspawn(alloc, words) {
-            Ok(spawner) => Ok(Command::Rspawn(spawner)),
-            Err(why) => Err(why),
-        },
-        "local" => match read_local(alloc, words) {
-            Ok(delivery) => Ok(Command::Local(delivery)),
-            Err(why) => Err(why),
-        },
-        "make" => match read_make(alloc, words) {
-            Ok(maker) => Ok(Command::Make(maker)),
-            Err(why) => Err(why),
-        },
-        "work" => match read_work(alloc, words) {
-            Ok(threads) => Ok(Command::Work(threads)),
-            Err(why) => Err(why),
-        },
-        "qmqpd" => match read_qmqpd(alloc, words) {
-            Ok(receiver) => Ok(Command::Qmqpd(receiver)),
-            Err(why) => Err(why),
-        },
+        "send" => Ok(Command::Send(read_send(alloc, words)?)),
+        "audit" => Ok(Command::Audit(read_dir(alloc, audit_line(alloc)?, words)?)),
+        "clean" => Ok(Command::Clean(read_dir(alloc, clean_line(alloc)?, words)?)),
+        "lspawn" => Ok(Command::Lspawn(read_dir(alloc, lspawn_line(alloc)?, words)?)),
+        "rspawn" => Ok(Command::Rspawn(read_rspawn(alloc, words)?)),
+        "local" => Ok(Command::Local(read_local(alloc, words)?)),
+        "make" => Ok(Command::Make(read_make(alloc, words)?)),
+        "work" => Ok(Command::Work(read_work(alloc, words)?)),
+        "qmqpd" => Ok(Command::Qmqpd(read_qmqpd(alloc, words)?)),
         _ => Err(WordsError::Usage),
     }
 }

@@ -8,7 +8,8 @@ ghost use Rattle.call_fs.specs.Calls.{created, opened, counted, done, stated, ne
 ghost use Rattle.call_fs.specs.Apply.{IsNextName, IsLastName};
 ghost use Rattle.call_fs.specs.Plan.{with_fault, with_pick};
 ghost use Rattle.call_fs.specs.Choices.{Halts};
-ghost use Rattle.mem_fs.specs.MemDisk.{with_dir, bytes_at, Places};
+ghost use Rattle.call_fs.specs.Placing.{with_dir, Replaces};
+ghost use Rattle.mem_fs.specs.MemDisk.{bytes_at, Places};
 ghost use Rattle.crash_fs.specs.Crash.{crash_disk, crash_faults, crash_plan, crash_over, with_below, with_plan, Passes, CrashWent};
 
 use crate::chosen_fault::ChosenFault;
@@ -237,6 +238,15 @@ impl CrashFs for CrashDisk {
         ensures err { OnErr result (self.new ≡ self.old) }
     {
         self.below.halt(alloc, how)
+    }
+
+    fn replace(&mut self, alloc: Global, now: u64, name: &[u8], bytes: &[u8]) -> Result<(), Memory>
+        requires { IsMoment now }
+        ensures ok { OnOk result (Replaces now name.now bytes.now (crash_disk self.old) (crash_disk self.new)) }
+        ensures rest { self.new ≡ with_below self.old self.new.below.held }
+        ensures err { OnErr result (self.new ≡ self.old) }
+    {
+        self.below.replace(alloc, now, name, bytes)
     }
 
     fn fault_in(&mut self, k: u64)

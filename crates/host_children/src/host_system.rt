@@ -3,11 +3,12 @@ ghost use Rattle.std.specs.Prelude.{◌≡◌};
 
 use crate::environment::pass_on;
 use crate::host_process::{Form, HostInput, HostOutput, HostProcess, add};
+use crate::missing::{Missing, is_executable};
 use proc_runner::{Born, Kind, Process, Start, System};
 use std::alloc::{AllocError, Global};
 use std::fs::{self, File, OpenOptions};
 use std::io::{self, ErrorKind, PipeWriter};
-use std::os::unix::fs::{MetadataExt, OpenOptionsExt};
+use std::os::unix::fs::OpenOptionsExt;
 use std::os::unix::process::CommandExt;
 use std::process::{Command, Processes, Stdio};
 use std::str;
@@ -35,9 +36,6 @@ pub const PARENT: &str = "QMAIL_PARENT";
 /// The mode of a file that nobody else reads.
 const OWN_FILE: u32 = 0o600;
 
-/// The bits of a file's mode of which one says that somebody may execute it.
-const EXECUTABLE: u32 = 0o111;
-
 /// The real system, by the handles of this program; `number` is the number of this process, and the inputs that are files are made in
 /// the directory `dir`, and lose their names at once.
 #[derive(Drop)]
@@ -47,6 +45,7 @@ pub struct HostSystem<R: Copy + Drop> {
     number: u32,
     dir: String,
     made: AtomicU64,
+    missing: Missing,
 }
 
 impl<R: Processes + Wait + Clock + Copy + Drop> HostSystem<R> {
@@ -60,28 +59,20 @@ impl<R: Processes + Wait + Clock + Copy + Drop> HostSystem<R> {
             number,
             dir,
             made: AtomicU64::new(0),
+            missing: Missing::new(),
         }
     }
 
     /// Gives a command what stands before the words of a start.
     fn lead(&self, alloc: Global, kind: Kind, command: &mut Command) -> io::Result<()> {
         match kind {
-            Kind::Member => {
+            Kind::Member | Kind::Delivery => {
                 command.arg0(NAME)?;
                 Ok(())
             }
-            Kind::Delivery => self.lead_own(alloc, command),
             Kind::Command => add(command, &["--", SHELL]),
             Kind::Remote => add(command, &["--"]),
         }
-    }
-
-    /// The same, of a delivery, which is this same program.
-    fn lead_own(&self, alloc: Global, command: &mut Command) -> io::Result<()> {
-        let own = format!(in alloc; "/proc/{}/exe", self.number)?;
-        let led = add(command, &["--", own.as_str()]);
-        drop(own);
-        led
     }
 
     /// The command of a start. Its output goes there.
@@ -132,8 +123,7 @@ impl<R: Processes + Wait + Clock + Copy + Drop> HostSystem<R> {
 
     /// Fails if there is no such program that can be executed.
     fn needs(&self, program: &str) -> io::Result<()> {
-        let facts = fs::metadata(&self.files, program)?;
-        if facts.is_file() && facts.mode() & EXECUTABLE != 0 {
+        if is_executable(&self.files, program) {
             return Ok(());
         }
         Err(io::Error::from(ErrorKind::PermissionDenied))
@@ -195,11 +185,11 @@ impl<R: Processes + Wait + Clock + Copy + Drop> HostSystem<R> {
     fn spawn_later(
         &self,
         alloc: Global,
-        kind: Kind,
+        start: &Start<'_>,
         command: Command,
         process: Arc<HostProcess<R>, Global>,
     ) -> io::Result<HostInput<R>> {
-        match self.file_for(alloc, kind) {
+        match self.file_for(alloc, start) {
             Ok(file) => Ok(HostInput::File {
                 file,
                 command,
@@ -217,12 +207,12 @@ impl<R: Processes + Wait + Clock + Copy + Drop> HostSystem<R> {
     fn input(
         &self,
         alloc: Global,
-        kind: Kind,
+        start: &Start<'_>,
         command: Command,
         process: Arc<HostProcess<R>, Global>,
     ) -> io::Result<(u32, HostInput<R>)> {
-        if is_of_others(kind) {
-            let input = self.spawn_later(alloc, kind, command, process)?;
+        if is_of_others(start.kind) {
+            let input = self.spawn_later(alloc, start, command, process)?;
             return Ok((0, input));
         }
         let started = self.spawn_own(command, process.as_ref());
@@ -240,7 +230,7 @@ impl<R: Processes + Wait + Clock + Copy + Drop> HostSystem<R> {
     ) -> io::Result<(u32, HostInput<R>, HostOutput<R>)> {
         let command = self.command(alloc, start, theirs)?;
         match twice(process) {
-            Ok((process, also)) => match self.input(alloc, start.kind, command, also) {
+            Ok((process, also)) => match self.input(alloc, start, command, also) {
                 Ok((number, input)) => Ok((number, input, HostOutput { process })),
                 Err(why) => {
                     drop(process);
@@ -254,11 +244,17 @@ impl<R: Processes + Wait + Clock + Copy + Drop> HostSystem<R> {
         }
     }
 
-    /// The file that such a program gets, if there is what starts it.
-    fn file_for(&self, alloc: Global, kind: Kind) -> io::Result<File> {
+    /// The file that such a program gets, if there is what starts it. Standard error is told if a remote program isn't there.
+    fn file_for(&self, alloc: Global, start: &Start<'_>) -> io::Result<File> {
         self.needs(NEW_GROUP)?;
-        if let Kind::Command = kind {
-            self.needs(SHELL)?;
+        match (start.kind, start.words.first()) {
+            (Kind::Command, _) => self.needs(SHELL)?,
+            (Kind::Remote, Some(word)) => {
+                if let Ok(program) = str::from_utf8(word) {
+                    self.missing.tell(&self.files, alloc, program)?;
+                }
+            }
+            _ => {}
         }
         self.unnamed(alloc)
     }
@@ -276,8 +272,8 @@ fn twice<P: Drop>(
 /// The program that is started for a child of this kind.
 fn program_of(kind: Kind) -> &'static str {
     match kind {
-        Kind::Member => SELF,
-        Kind::Delivery | Kind::Remote | Kind::Command => NEW_GROUP,
+        Kind::Member | Kind::Delivery => SELF,
+        Kind::Remote | Kind::Command => NEW_GROUP,
     }
 }
 
@@ -289,8 +285,8 @@ fn is_of_others(kind: Kind) -> bool {
 /// How a child is started.
 fn form_of(kind: Kind) -> Form {
     Form {
-        leads: !matches!(kind, Kind::Member),
-        may_miss: matches!(kind, Kind::Delivery | Kind::Remote),
+        leads: is_of_others(kind),
+        may_miss: !matches!(kind, Kind::Member | Kind::Command),
     }
 }
 

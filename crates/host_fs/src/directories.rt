@@ -1,15 +1,27 @@
 // The directories of a queue.
+ghost use Rattle.std.specs.Prelude.{◌≤◌, ◌<◌, IfSome};
+
 use crate::entries::LISTING_PIECE;
 use crate::paths::root_text;
 use crate::system::System;
-use mail_bytes::{ByteText, Memory};
-use queue_paths::{SPLIT_DIRS, queue_dirs};
+use mail_bytes::Memory;
+use queue_paths::{SPLIT_DIRS, SPLITS};
 use std::alloc::Global;
 use std::io::Read;
 use std::str;
 
-/// The directories below a queue's root that hold none of the queue's files.
-const OTHER_DIRS: [&[u8]; 3] = [b"control", b"home", b"users"];
+/// The directories right below a queue's root.
+const ROOT_DIRS: [&[u8]; 13] = [
+    b"control", b"home", b"users", b"mess", b"info", b"local", b"remote", b"intdx", b"todox",
+    b"pid", b"intd", b"todo", b"bounce",
+];
+
+/// How many directories lie right below another at most: the splits.
+const PLACES: usize = SPLITS as usize;
+
+/// Which of the directories right below another one were found, each by its place: those below the root as in `ROOT_DIRS`, a split
+/// by its number.
+type Found = [bool; PLACES];
 
 /// Makes the missing ones of a queue's directories under this root, and the root itself. One that can't be made stays
 /// missing.
@@ -20,97 +32,128 @@ pub fn make_directories<S: System>(system: &S, alloc: Global, root: &[u8]) -> Re
     let Some(root) = root_text(root) else {
         return Ok(());
     };
-    let mut missing = all_directories(alloc)?;
-    strike(system, alloc, root, "", &mut missing)?;
-    for dir in SPLIT_DIRS {
-        if let Ok(dir) = str::from_utf8(dir) {
-            let below = format!(in alloc; "{dir}/")?;
-            strike(system, alloc, root, below.as_str(), &mut missing)?;
-        }
+    let top = found_below(system, alloc, root, b"")?;
+    let mut splits = [[false; PLACES]; SPLIT_DIRS.len()];
+    for at in 0..SPLIT_DIRS.len() {
+        splits[at] = found_below(system, alloc, root, SPLIT_DIRS[at])?;
     }
-    make_all(system, alloc, root, missing.as_slice())
-}
-
-/// All directories below a queue's root, those above the splits before these.
-fn all_directories(alloc: Global) -> Result<Vec<ByteText>, Memory> {
-    let mut dirs = Vec::new(alloc);
-    for dir in OTHER_DIRS {
-        dirs.push(ByteText::from_slice(alloc, dir)?)?;
+    let is_whole = !lacks(&top[..ROOT_DIRS.len()]) && !splits.iter().any(|found| lacks(found));
+    if is_whole {
+        return Ok(());
     }
-    for dir in SPLIT_DIRS {
-        dirs.push(ByteText::from_slice(alloc, dir)?)?;
-    }
-    dirs.append(&mut queue_dirs(alloc)?)?;
-    Ok(dirs)
-}
-
-/// Strikes those directories out that a listing has. What is listed is empty, for the root, or a path below that with a
-/// `/` at its end.
-fn strike<S: System>(
-    system: &S,
-    alloc: Global,
-    root: &str,
-    below: &str,
-    missing: &mut Vec<ByteText>,
-) -> Result<(), Memory> {
-    let path = format!(in alloc; "{root}/{below}")?;
-    if let Ok(mut listing) = system.list(path.as_str()) {
-        strike_listed(&mut listing, below.as_bytes(), missing);
+    let _ = system.make_dir(root);
+    make_top(system, alloc, root, &top)?;
+    for at in 0..SPLIT_DIRS.len() {
+        make_splits(system, alloc, root, SPLIT_DIRS[at], &splits[at])?;
     }
     Ok(())
 }
 
-/// Strikes out what stands in a listing, until it ends, or can't be read, or nothing of it is missing.
-fn strike_listed<D: Read>(listing: &mut D, below: &[u8], missing: &mut Vec<ByteText>) {
+/// Whether one of these wasn't found.
+fn lacks(found: &[bool]) -> bool {
+    found.contains(&false)
+}
+
+/// The directories that the listing of this one has; the root's name is empty.
+fn found_below<S: System>(
+    system: &S,
+    alloc: Global,
+    root: &str,
+    dir: &[u8],
+) -> Result<Found, Memory> {
+    let mut found = [false; PLACES];
+    let Ok(name) = str::from_utf8(dir) else {
+        return Ok(found);
+    };
+    let end = if name.is_empty() { "" } else { "/" };
+    let path = format!(in alloc; "{root}/{name}{end}")?;
+    if let Ok(mut listing) = system.list(path.as_str()) {
+        find_listed(&mut listing, dir.is_empty(), &mut found);
+    }
+    Ok(found)
+}
+
+/// Finds what stands in a listing, until it ends, or can't be read, or nothing is missing. The flag says whether it is the root's.
+fn find_listed<D: Read>(listing: &mut D, is_root: bool, found: &mut Found) {
     let mut piece = [0; LISTING_PIECE];
     for _ in 0..u64::MAX {
         match listing.read(&mut piece) {
-            Ok(count) if count > 0 => strike_piece(&piece[..count], below, missing),
+            Ok(count) if count > 0 => find_in_piece(&piece[..count], is_root, found),
             _ => return,
         }
-        if !missing.iter().any(|dir| is_in(dir.as_slice(), below)) {
+        let count = if is_root { ROOT_DIRS.len() } else { PLACES };
+        if !lacks(&found[..count]) {
             return;
         }
     }
 }
 
-/// Strikes out what stands in a piece of a listing. Each entry ends in a NUL.
-fn strike_piece(piece: &[u8], below: &[u8], missing: &mut Vec<ByteText>) {
+/// Finds what stands in a piece of a listing. Each entry ends in a NUL.
+fn find_in_piece(piece: &[u8], is_root: bool, found: &mut Found) {
     for name in piece.split(|byte| *byte == 0) {
-        missing.retain(|dir| name_in(dir.as_slice(), below) != Some(name));
+        let place = if is_root {
+            ROOT_DIRS.iter().position(|dir| *dir == name)
+        } else {
+            split_of(name)
+        };
+        if let Some(place) = place
+            && let Some(is_there) = found.get_mut(place)
+        {
+            *is_there = true;
+        }
     }
 }
 
-/// Whether a directory lies right there.
-fn is_in(dir: &[u8], below: &[u8]) -> bool {
-    match name_in(dir, below) {
-        Some(name) => !name.contains(&b'/'),
-        None => false,
+/// The split whose directory has this name: its number in decimal, without a zero before it.
+fn split_of(name: &[u8]) -> Option<usize> {
+    let (first, others) = name.split_first()?;
+    let high = digit(*first)?;
+    let Some((second, none)) = others.split_first() else {
+        return Some(high);
+    };
+    if high == 0 || !none.is_empty() {
+        return None;
+    }
+    Some(high * 10 + digit(*second)?)
+}
+
+/// What a decimal digit counts.
+fn digit(byte: u8) -> Option<usize>
+    ensures { IfSome result (λ digit. digit ≤ 9) }
+{
+    match byte {
+        b'0'..=b'9' => Some(usize::from(byte - b'0')),
+        _ => None,
     }
 }
 
-/// A directory's name, of one part or more, there; None if it lies elsewhere.
-fn name_in<'a>(dir: &'a [u8], below: &[u8]) -> Option<&'a [u8]> {
-    if dir.starts_with(below) {
-        Some(&dir[below.len()..])
-    } else {
-        None
+/// Makes those directories below the root that weren't found.
+fn make_top<S: System>(system: &S, alloc: Global, root: &str, found: &Found) -> Result<(), Memory> {
+    for at in 0..ROOT_DIRS.len() {
+        if !found[at]
+            && let Ok(dir) = str::from_utf8(ROOT_DIRS[at])
+        {
+            let path = format!(in alloc; "{root}/{dir}")?;
+            let _ = system.make_dir(path.as_str());
+        }
     }
+    Ok(())
 }
 
-/// Makes the root and these directories below it, if there are any.
-fn make_all<S: System>(
+/// Makes those splits of this directory that weren't found, from the last to the first.
+fn make_splits<S: System>(
     system: &S,
     alloc: Global,
     root: &str,
-    dirs: &[ByteText],
+    dir: &[u8],
+    found: &Found,
 ) -> Result<(), Memory> {
-    if !dirs.is_empty() {
-        let _ = system.make_dir(root);
-    }
-    for dir in dirs {
-        if let Ok(dir) = str::from_utf8(dir.as_slice()) {
-            let path = format!(in alloc; "{root}/{dir}")?;
+    let Ok(dir) = str::from_utf8(dir) else {
+        return Ok(());
+    };
+    for split in (0..PLACES).rev() {
+        if !found[split] {
+            let path = format!(in alloc; "{root}/{dir}/{split}")?;
             let _ = system.make_dir(path.as_str());
         }
     }

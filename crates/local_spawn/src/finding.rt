@@ -8,7 +8,7 @@ use crate::kinds::Kind;
 use mail_bytes::same_fold;
 
 /// The line that a local part belongs to.
-#[derive(Clone, Copy, PartialEq, Eq)]
+#[derive(Clone, Copy)]
 pub struct Found {
     /// Its place among the lines, from 0.
     pub line: u64,

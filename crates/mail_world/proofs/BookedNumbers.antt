@@ -26,7 +26,7 @@ use Rattle.queue_inject.specs.declared.row.Row.TheVariants as at
 use Rattle.queue_inject.specs.Table.{Work, work_of, due_by as inject_due, in_time, moved, place_after as inject_after, goes_to, past_bytes, past_piece}
 use Rattle.queue_paths.specs.Names.{Name, path, parse, is_number, used}
 use Rattle.queue_paths.specs.Names.Name.{Pid, Of}
-use Rattle.queue_paths.specs.Names.Part.{Mess, Intd, Todo, Info, Local, Remote, Bounce}
+use Rattle.queue_paths.specs.Names.Part.{Mess, Intd, Todo, SplitIntd, SplitTodo}
 use Rattle.queue_paths.proofs.Paths.{exact}
 use Rattle.queue_law.proofs.Looks.{mapped_some}
 use Rattle.world_events.specs.declared.event.Event.{Event as Kept}
@@ -95,16 +95,12 @@ if_holds false b c P h g = h
 
 name_holds : (b : Books) (a : List ℕ) (args : Arguments) (old : List ℕ) (name : Option Name) (P : List ℕ → Arguments → ℕ → Type 0) → EachIn b P
     → ((n : ℕ) → mess_number name ≡ Some n → P a args n) → EachIn (linked b a args old name) P
-name_holds b a args old None P h mine = h
-name_holds b a args old (Some (Pid pid start seq)) P h mine = h
 name_holds b a args old (Some (Of Mess n)) P h mine = mess_holds b a args old n P h (mine n refl)
-name_holds b a args old (Some (Of Intd n)) P h mine = h
 name_holds b a args old (Some (Of Todo n)) P h mine =
     if_holds (bytes_eq old (path (Of Intd n))) b (record { living = put b.living n (accept a (b.living n)); over = b.over }) P h (todo_holds b a n P h)
-name_holds b a args old (Some (Of Info n)) P h mine = h
-name_holds b a args old (Some (Of Local n)) P h mine = h
-name_holds b a args old (Some (Of Remote n)) P h mine = h
-name_holds b a args old (Some (Of Bounce n)) P h mine = h
+name_holds b a args old (Some (Of SplitTodo n)) P h mine =
+    if_holds (bytes_eq old (path (Of SplitIntd n))) b (record { living = put b.living n (accept a (b.living n)); over = b.over }) P h (todo_holds b a n P h)
+name_holds b a args old name P h mine = h
 
 -- the number of an injection that a call began
 abbrev begun_by : CallData → Answer → Option ℕ
@@ -140,17 +136,10 @@ call_holds b a args (call.NextName dir name) answer P h mine = h
 -- The number that the books of the world tell is that of the injection that a call began.
 
 used_number : (name : Option Name) (n : ℕ) → mess_number name ≡ Some n → is_number n ≡ true → mess_number (used name) ≡ Some n
-used_number None n e t = absurd cc
-used_number (Some (Pid pid start seq)) n e t = absurd cc
 used_number (Some (Of Mess m)) n e t =
     let same : m ≡ n = cc in
     ap (λ c. mess_number (if c then Some (Of Mess m) else None)) (ap is_number same ∙ t) ∙ e
-used_number (Some (Of Intd m)) n e t = absurd cc
-used_number (Some (Of Todo m)) n e t = absurd cc
-used_number (Some (Of Info m)) n e t = absurd cc
-used_number (Some (Of Local m)) n e t = absurd cc
-used_number (Some (Of Remote m)) n e t = absurd cc
-used_number (Some (Of Bounce m)) n e t = absurd cc
+used_number name n e t = absurd cc
 
 if_none : (t : Bool) (name : Name) → mess_number (Some name) ≡ None → mess_number (if t then Some name else None) ≡ None
 if_none true name e = e

@@ -25,7 +25,7 @@ use Rattle.queue_inject.specs.Table.{due_by as inject_due, in_time, has_input, i
 use Rattle.queue_limits.specs.declared.statuses.TheConstants.{DONE}
 use Rattle.queue_paths.specs.Names.{Name, path, parse}
 use Rattle.queue_paths.specs.Names.Name.{Pid, Of}
-use Rattle.queue_paths.specs.Names.Part.{Mess, Intd, Todo, Info, Local, Remote, Bounce}
+use Rattle.queue_paths.specs.Names.Part.{Mess, Intd, Todo, SplitIntd, SplitTodo}
 use Rattle.queue_paths.proofs.Paths.{exact}
 use Rattle.world_events.specs.declared.event.Event.{Event as Kept}
 use Rattle.world_events.specs.declared.event.Program.{Program}
@@ -89,17 +89,14 @@ if_linked false b c said h g = h
 
 name_linked : (b : Books) (a : List ℕ) (args : Arguments) (old : List ℕ) (name : Option Name) (said : List ℕ → Bool) → AreLinked b said → (is_to_todo old name ≡ true → said a ≡ true)
     → AreLinked (linked b a args old name) said
-name_linked b a args old None said h mine = h
-name_linked b a args old (Some (Pid pid start seq)) said h mine = h
 name_linked b a args old (Some (Of Mess n)) said h mine = mess_linked b a args old n said h
-name_linked b a args old (Some (Of Intd n)) said h mine = h
 name_linked b a args old (Some (Of Todo n)) said h mine =
     if_linked (bytes_eq old (path (Of Intd n))) b (record { living = put b.living n (accept a (b.living n)); over = b.over }) said h
     (λ t. todo_linked b a n said h (mine t))
-name_linked b a args old (Some (Of Info n)) said h mine = h
-name_linked b a args old (Some (Of Local n)) said h mine = h
-name_linked b a args old (Some (Of Remote n)) said h mine = h
-name_linked b a args old (Some (Of Bounce n)) said h mine = h
+name_linked b a args old (Some (Of SplitTodo n)) said h mine =
+    if_linked (bytes_eq old (path (Of SplitIntd n))) b (record { living = put b.living n (accept a (b.living n)); over = b.over }) said h
+    (λ t. todo_linked b a n said h (mine t))
+name_linked b a args old name said h mine = h
 
 link_linked : (b : Books) (a : List ℕ) (args : Arguments) (old new : List ℕ) (answer : Answer) (said : List ℕ → Bool) → AreLinked b said → (is_accepting (call.Link old new) answer ≡ true → said a ≡ true)
     → AreLinked (booked b a args (call.Link old new) answer) said

@@ -13,7 +13,7 @@ use Rattle.call_fs.specs.declared.past.GotData.TheVariants.{Answered}
 use Rattle.call_fs.specs.Disk.{Disk, Among}
 use Rattle.queue_paths.specs.Names.{Name, path, parse, is_number}
 use Rattle.queue_paths.specs.Names.Name.{Of}
-use Rattle.queue_paths.specs.Names.Part.{Intd, Todo}
+use Rattle.queue_paths.specs.Names.Part.{Intd, Todo, SplitIntd, SplitTodo}
 use Rattle.queue_inject.specs.declared.injection.Arguments.{Arguments}
 use Rattle.queue_inject.specs.Texts.{recipients_of}
 use Rattle.world_events.specs.declared.event.Event.{Event as Kept}
@@ -40,9 +40,10 @@ pub record AreBooked (crew : ℕ) (entries : List Entry) (actors : List Held) (e
 
 -- By a history
 
--- a link of intd to todo, answered Ok, accepts a mail
+-- a link of intd to todo, of either layout, answered Ok, accepts a mail
 abbrev pub is_to_todo : List ℕ → Option Name → Bool
 is_to_todo old (Some (Of Todo n)) = bytes_eq old (path (Of Intd n))
+is_to_todo old (Some (Of SplitTodo n)) = bytes_eq old (path (Of SplitIntd n))
 is_to_todo old name = false
 
 abbrev pub is_accepting : CallData → Answer → Bool

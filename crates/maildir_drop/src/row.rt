@@ -6,7 +6,7 @@ use call_fs::Fd;
 pub const DEFER: u8 = 111;
 
 /// Which of its three names a drop tries.
-#[derive(Clone, Copy, PartialEq, Eq)]
+#[derive(Clone, Copy)]
 pub enum Attempt {
     /// `TIME.PID.HOST`.
     First,
@@ -17,7 +17,7 @@ pub enum Attempt {
 }
 
 /// Why nothing was dropped.
-#[derive(Clone, Copy, PartialEq, Eq)]
+#[derive(Clone, Copy)]
 pub enum Why {
     /// A call failed, a directory is missing, or a name was taken: another try may go well.
     Defer,
@@ -26,7 +26,7 @@ pub enum Why {
 }
 
 /// What a drop came to.
-#[derive(Clone, Copy, PartialEq, Eq)]
+#[derive(Clone, Copy)]
 pub enum Outcome {
     /// The message stands in `new`.
     Dropped,
@@ -35,7 +35,7 @@ pub enum Outcome {
 }
 
 /// How a drop ended.
-#[derive(Clone, Copy, PartialEq, Eq)]
+#[derive(Clone, Copy)]
 pub enum End<'a> {
     /// The message stands in `new`.
     Dropped {
@@ -49,7 +49,7 @@ pub enum End<'a> {
 }
 
 /// Where a drop stands: at the step that is named. `fd` is its open file.
-#[derive(Clone, Copy, PartialEq, Eq)]
+#[derive(Clone, Copy)]
 pub enum Row {
     /// Creates the file in `tmp`.
     Create { attempt: Attempt },

@@ -4,7 +4,8 @@ ghost use Rattle.std.specs.List.{enumerate_from};
 ghost use Rattle.mail_bytes.specs.Moments.{IsMoment};
 ghost use Rattle.call_fs.specs.Apply.{empty_file, lying, put_over, grown, overwritten, cut, synced};
 ghost use Rattle.call_fs.specs.Survival.{settled};
-ghost use Rattle.mem_files.specs.MemFile.{settled_file, IsSurvivor};
+ghost use Rattle.call_fs.specs.Placing.{replaced};
+ghost use Rattle.mem_files.specs.MemFile.{IsSurvivor};
 
 use mail_bytes::Memory;
 use std::alloc::{AllocError, Global};
@@ -52,11 +53,12 @@ impl FileData {
         }
     }
 
-    /// A file of the opening contents. The error: out of memory.
-    pub fn settled(alloc: Global, bytes: &[u8]) -> Result<Self, Memory>
-        ensures { IfOk result (λ file. file ≡ settled_file bytes.now) }
+    /// A file with these bytes, all of them on the disk, and this moment. The error: out of memory.
+    pub fn settled(alloc: Global, now: u64, bytes: &[u8]) -> Result<Self, Memory>
+        requires { IsMoment now }
+        ensures { IfOk result (λ file. file ≡ replaced now bytes.now) }
     {
-        FileData::new(alloc, 0).settled_as(alloc, Vec::from_slice(alloc, bytes)?)
+        FileData::new(alloc, now).settled_as(alloc, Vec::from_slice(alloc, bytes)?)
     }
 
     /// Its bytes.

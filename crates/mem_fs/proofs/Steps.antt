@@ -1,9 +1,10 @@
 -- Each change of a disk in memory, by the lists that it leaves.
-use Rattle.std.proofs.Common.{◌≡◌, ℕ, ◌≤◌, List, Option, Some, None, IsSome, is_some, false, Result, Ok, Err, OnOk, OnErr, Bor, refl, sym, ap, ◌∙◌, subst, arith}
+use Rattle.std.proofs.Common.{◌≡◌, ℕ, ◌≤◌, List, [], ◌∷◌, ◌++◌, inr, Option, Some, None, IsSome, is_some, false, Result, Ok, Err, OnOk, OnErr, Bor, refl, sym, ap, ◌∙◌, subst, arith}
+use Rattle.std.specs.Prelude.{Contains}
 use Rattle.std.specs.Option.{option_map, option_copied, IfSome, IfNone}
 use Rattle.mem_files.specs.declared.file.Inode.{Inode}
 use Rattle.call_fs.specs.Maps.{put, put_at}
-use Rattle.call_fs.specs.Disk.{File, Open as OpenFile, Disk}
+use Rattle.call_fs.specs.Disk.{File, Open as OpenFile, Disk, dir_of}
 use Rattle.call_fs.specs.declared.modes.Mode.{Mode}
 use Rattle.call_fs.specs.declared.calls.Fd.{Fd}
 use Rattle.call_fs.specs.declared.calls.How.{How}
@@ -13,7 +14,9 @@ use Rattle.call_fs.specs.Apply.{changed, effect, empty_file}
 use Rattle.mem_files.specs.Tables.{at_number, AreNumbersInOrder}
 use Rattle.mem_fs.specs.Tables.{at_name, AreNamesInOrder}
 use Rattle.mem_files.specs.MemFiles.{file_at, holds_of, IsIdle, Changes, on_file, linked_inode, unlinked_inode, opened_inode, closed_inode}
-use Rattle.mem_fs.specs.MemDisk.{Held, disk_of, IsOpenOn, IsSound, IsGreatestFree, PlacesNew, Places}
+use Rattle.call_fs.specs.Free.{IsGreatestFree}
+use Rattle.call_fs.specs.Placing.{HasMade, with_dir, with_file, PlacesNew, replaced, Replaces}
+use Rattle.mem_fs.specs.MemDisk.{Held, disk_of, IsOpenOn, IsSound, Places}
 use Rattle.mem_files.specs.MemFile.{settled_file}
 use Rattle.call_fs.proofs.Maps.{put-there}
 use Rattle.mem_files.proofs.FileTable.{links-there, holds-there}
@@ -203,14 +206,39 @@ disk-placed h names files name n file named made greatest = record {
   is = disk_is h.dirs named (file_at-put h.files files n (record { links = 1; opens = 0; file = file }) made) refl;
 }
 
-pub disk-replaced : (h : Held) (files : List (ℕ × Inode)) (name bytes : List ℕ) (n : ℕ) → at_name h.names name ≡ Some n → IsSome (at_number h.files n)
-    → Changes h.files files n (on_file (λ _. settled_file bytes)) → Places (disk_of h) name bytes (disk_of (with_files h files))
-disk-replaced h files name bytes n named there changes = record {
-  there = λ m found.
-      let same : n ≡ m = cc in
-      disk_is h.dirs refl (file-changed h files n (λ _. settled_file bytes) there changes ∙ ap (λ k. put (file_at h.files) k (settled_file bytes)) same) refl;
+pub disk-replaced : (h : Held) (files : List (ℕ × Inode)) (n : ℕ) (file : File) → IsSome (at_number h.files n) → Changes h.files files n (on_file (λ _. file))
+    → disk_of (with_files h files) ≡ with_file (disk_of h) n file
+disk-replaced h files n file there changes = disk_is h.dirs refl (file-changed h files n (λ _. file) there changes) refl
+
+pub replaced-place : (d : Disk) (name bytes : List ℕ) (n : ℕ) (new : Disk) → d.names name ≡ Some n → new ≡ with_file d n (settled_file bytes) → Places d name bytes new
+replaced-place d name bytes n new named is = record {
+  there = λ m found. let same : n ≡ m = cc in is ∙ ap (λ k. with_file d k (settled_file bytes)) same;
   missing = λ none. absurd cc;
 }
+
+pub replaced-there : (now : ℕ) (d : Disk) (name bytes : List ℕ) (n : ℕ) (new : Disk) → d.names name ≡ Some n → new ≡ with_file d n (replaced now bytes)
+    → Replaces now name bytes d new
+replaced-there now d name bytes n new named is = record {
+  there = λ m found. let same : n ≡ m = cc in is ∙ ap (λ k. with_file d k (replaced now bytes)) same;
+  missing = λ none. absurd cc;
+}
+
+pub replaced-below : (now : ℕ) (d : Disk) (name bytes : List ℕ) (file : File) (new : Disk) → d.names name ≡ None → file ≡ replaced now bytes
+    → (mid : Disk) × HasMade d (dir_of name) mid × PlacesNew mid name file new → Replaces now name bytes d new
+replaced-below now d name bytes file new none is below = record {
+  there = λ m found. absurd cc;
+  missing = λ _. (below.0, below.1, subst (λ (f : File). PlacesNew below.0 name f new) is below.2);
+}
+
+-- a file under a new name, in a directory that was made for it
+pub made-below : {h k : Held} → h ≡ k → (dir name : List ℕ) (dirs : List (List ℕ)) (file : File) (new : Disk) → dir ≡ dir_of name → ¬ (Contains k.dirs (dir_of name)) → dirs ≡ h.dirs ++ dir ∷ []
+    → PlacesNew (disk_of (record { dirs = dirs; names = h.names; files = h.files; opens = h.opens })) name file new
+    → (mid : Disk) × HasMade (disk_of k) (dir_of name) mid × PlacesNew mid name file new
+made-below {h} {k} same dir name dirs file new is none grown places =
+    let with : List (List ℕ) → Disk = λ ds. disk_of (record { dirs = ds; names = h.names; files = h.files; opens = h.opens }) in
+    let made : with dirs ≡ with_dir (disk_of k) (dir_of name) =
+    ap with (grown ∙ ap (λ (t : List ℕ). h.dirs ++ t ∷ []) is) ∙ ap (λ (x : Held). with_dir (disk_of x) (dir_of name)) same in
+    (with_dir (disk_of k) (dir_of name), inr (none, refl), subst (λ (d : Disk). PlacesNew d name file new) made places)
 
 -- a call that wrote nothing changed nothing
 pub changed-nothing : (d : Disk) (o : Option OpenFile) → changed d o (λ f. f) ≡ d

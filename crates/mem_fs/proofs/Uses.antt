@@ -10,9 +10,9 @@ use Rattle.call_fs.specs.Disk.{Open, IsUnused}
 use Rattle.call_fs.specs.declared.modes.Mode.{Mode}
 use Rattle.mem_files.specs.Tables.{at_number}
 use Rattle.mem_fs.specs.Tables.{at_name}
-use Rattle.call_fs.specs.Free.{IsFree, IsLeastFree}
+use Rattle.call_fs.specs.Free.{IsFree, IsLeastFree, IsGreatestFree}
 use Rattle.mem_files.specs.MemFiles.{links_of, holds_of, IsIdle}
-use Rattle.mem_fs.specs.MemDisk.{Held, disk_of, count_of, names_of, opens_counted, IsSound, IsGreatestFree, NoneFree}
+use Rattle.mem_fs.specs.MemDisk.{Held, disk_of, count_of, names_of, opens_counted, IsSound, NoneFree}
 use Rattle.call_fs.proofs.Maps.{bytes_eq-decides}
 use Rattle.mem_files.proofs.Tables.{place_of_found}
 use Rattle.mem_fs.proofs.NameTable.{name-at}

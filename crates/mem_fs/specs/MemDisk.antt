@@ -10,11 +10,11 @@ use Rattle.call_fs.specs.declared.calls.Answer.TheVariants.{Created, Opened, Ref
 use Rattle.call_fs.specs.declared.calls.FsError.TheVariants.{NotThere, Exists, Fault, Memory}
 use Rattle.mem_files.specs.declared.file.Inode.{Inode}
 use Rattle.mail_bytes.specs.Told.{raised}
-use Rattle.call_fs.specs.Disk.{File, Open, Disk}
+use Rattle.call_fs.specs.Disk.{Open, Disk}
 use Rattle.call_fs.specs.Free.{IsFree, IsLeastFree, IsNextDescriptor}
 use Rattle.call_fs.specs.Plan.{Plan, no_plan}
 use Rattle.call_fs.specs.Went.{Went}
-use Rattle.call_fs.specs.Maps.{put, put_at}
+use Rattle.call_fs.specs.Placing.{PlacesNew, with_file}
 use Rattle.mem_files.specs.MemFile.{settled_file}
 use Rattle.mem_files.specs.MemFiles.{file_at, links_of, holds_of, IsIdle}
 use Rattle.mem_files.specs.Tables.{at_number, AreNumbersInOrder}
@@ -53,12 +53,6 @@ pub record IsSound (h : Held) : Type 0 where
   pub opens : AreNumbersInOrder h.opens
   pub links : (n : ℕ) → links_of h.files n ≡ names_of h.names n
   pub holds : (n : ℕ) → holds_of h.files n ≡ opens_counted h.opens n
-
--- no higher number may be taken, below the end of the numbers
-pub record IsGreatestFree (d : Disk) (n : ℕ) : Type 0 where
-  pub free : IsFree d n
-  pub in_range : n < 2 ^ 64
-  pub greatest : (m : ℕ) → n < m → m < 2 ^ 64 → ¬ (IsFree d m)
 
 -- no u64 may be taken
 abbrev pub NoneFree : Disk → Type 0
@@ -111,20 +105,6 @@ held_nothing = record { dirs = []; names = []; files = []; opens = [] }
 -- the bytes of the file of a name
 abbrev pub bytes_at : Disk → List ℕ → Option (List ℕ)
 bytes_at d name = option_map (λ n. (d.files n).bytes) (d.names name)
-
--- one directory more
-abbrev pub with_dir : Disk → List ℕ → Disk
-with_dir d dir = record { dirs = d.dirs ++ dir ∷ []; names = d.names; files = d.files; opens = d.opens }
-
--- a number's file is this one
-abbrev pub with_file : Disk → ℕ → File → Disk
-with_file d n file = record { dirs = d.dirs; names = d.names; files = put d.files n file; opens = d.opens }
-
--- a new name has the greatest free number, with this file
-pub record PlacesNew (old : Disk) (name : List ℕ) (file : File) (new : Disk) : Type 0 where
-  pub number : ℕ
-  pub greatest : IsGreatestFree old number
-  pub is : new ≡ record { dirs = old.dirs; names = put_at old.names name (Some number); files = put old.files number file; opens = old.opens }
 
 -- a name has these bytes, all of them on the disk: the file that it had before, or else a new one
 pub record Places (old : Disk) (name bytes : List ℕ) (new : Disk) : Type 0 where

@@ -9,7 +9,8 @@ ghost use Rattle.call_fs.specs.Apply.{Apply, IsNextName, IsLastName};
 ghost use Rattle.call_fs.specs.Choices.{Halts};
 ghost use Rattle.call_fs.specs.Told.{HasCause};
 ghost use Rattle.call_fs.specs.Free.{IsFree};
-ghost use Rattle.mem_fs.specs.MemDisk.{disk_of, fresh, with_dir, with_held, bytes_at, Places, NoneFree, IsNextNumber, IsPickedNumber, empty_plan, Counts, MemWent};
+ghost use Rattle.call_fs.specs.Placing.{with_dir, Replaces};
+ghost use Rattle.mem_fs.specs.MemDisk.{disk_of, fresh, with_held, bytes_at, Places, NoneFree, IsNextNumber, IsPickedNumber, empty_plan, Counts, MemWent};
 
 use crate::picks::Picks;
 use crate::plan::Plan;
@@ -72,6 +73,24 @@ impl MemFs {
         ensures err { OnErr result (self.new ≡ self.old) }
     {
         self.store.place(alloc, name, bytes)
+    }
+
+    /// The file of a name has these bytes from now on, all of them on the disk, with this moment; it keeps its number. A
+    /// missing one takes the greatest free number, and its directory is made if it is missing. It isn't counted as a call.
+    /// After `Memory` it is as before.
+    pub fn replace(
+        &mut self,
+        alloc: Global,
+        now: u64,
+        name: &[u8],
+        bytes: &[u8],
+    ) -> Result<(), Memory>
+        requires { IsMoment now }
+        ensures ok { OnOk result (Replaces now name.now bytes.now (disk_of self.old.held) (disk_of self.new.held)) }
+        ensures rest { self.new ≡ with_held self.old self.new.held }
+        ensures err { OnErr result (self.new ≡ self.old) }
+    {
+        self.store.replace(alloc, now, name, bytes)
     }
 
     /// The least name in a directory after that one in byte order; None exactly if there is none.

@@ -6,8 +6,9 @@
 //!   number, and the least descriptor from 1. Exactly the planned calls fail: `impl CallFs for MemFs`: `went`, and
 //!   `counts` (the record `Counts`: what was planned, and by `takes` the number, the descriptor and the picks
 //!   left).
-//! - A disk with chosen contents, its names in order and their bytes; a machine stop by a choice, and a new file of
-//!   a chosen number: `MemFs::{new, dir, place, name_after, bytes_of, is_free, create_picked, halt}`.
+//! - A disk with chosen contents, its names in order and their bytes; a machine stop by a choice, a new file of
+//!   a chosen number, and a file that is replaced from outside: `MemFs::{new, dir, place, replace, name_after, bytes_of,
+//!   is_free, create_picked, halt}`.
 #![tactic(auto)]
 
 mod disk;

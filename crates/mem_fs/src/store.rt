@@ -4,13 +4,14 @@ ghost use Rattle.std.specs.Option.{option_copied, option_map};
 ghost use Rattle.call_fs.specs.declared.calls.CallData.TheVariants as call;
 ghost use Rattle.call_fs.specs.declared.calls.Answer.TheVariants as answer;
 ghost use Rattle.call_fs.specs.Maps.{put, put_at};
-ghost use Rattle.call_fs.specs.Disk.{Disk, HasDir, IsUnused};
+ghost use Rattle.call_fs.specs.Disk.{Disk, HasDir, IsUnused, dir_of};
 ghost use Rattle.mail_bytes.specs.Moments.{IsMoment};
 ghost use Rattle.call_fs.specs.Apply.{effect, IsStat, IsNextName, IsLastName};
 ghost use Rattle.call_fs.specs.Columns.{IsRead};
 ghost use Rattle.call_fs.specs.Choices.{Halts};
-ghost use Rattle.call_fs.specs.Free.{IsFree, IsLeastFree, IsNextDescriptor};
-ghost use Rattle.mem_fs.specs.MemDisk.{disk_of, held_nothing, IsOpenOn, bytes_at, IsGreatestFree, NoneFree, AllOpen, with_dir, Places, PlacesNew};
+ghost use Rattle.call_fs.specs.Free.{IsFree, IsLeastFree, IsNextDescriptor, IsGreatestFree};
+ghost use Rattle.call_fs.specs.Placing.{with_dir, with_file, HasMade, PlacesNew, Replaces};
+ghost use Rattle.mem_fs.specs.MemDisk.{disk_of, held_nothing, IsOpenOn, bytes_at, NoneFree, AllOpen, Places};
 
 use crate::free::Free;
 use crate::names::Names;
@@ -325,14 +326,64 @@ impl Store {
         ensures ok { OnOk result (Places (disk_of self.old) name.now bytes.now (disk_of self.new)) }
         ensures err { OnErr result (self.new ≡ self.old) }
     {
-        let file = FileData::settled(alloc, bytes)?;
-        match names::number_of(&self.names, name) {
+        let file = FileData::settled(alloc, 0, bytes)?;
+        match self.number_of(name) {
             Some(number) => {
-                files::replace(&mut self.files, number, file);
+                self.put_file(name, number, file);
                 Ok(())
             }
             None => self.place_new(alloc, name, file),
         }
+    }
+
+    /// The file of a name has these bytes, all of them on the disk, and this moment. A new one takes the greatest free
+    /// number, and its directory is made if it is missing. After an `Err` it is as before.
+    pub fn replace(
+        &mut self,
+        alloc: Global,
+        now: u64,
+        name: &[u8],
+        bytes: &[u8],
+    ) -> Result<(), Memory>
+        requires { IsMoment now }
+        ensures ok { OnOk result (Replaces now name.now bytes.now (disk_of self.old) (disk_of self.new)) }
+        ensures err { OnErr result (self.new ≡ self.old) }
+    {
+        let file = FileData::settled(alloc, now, bytes)?;
+        match self.number_of(name) {
+            Some(number) => {
+                self.put_file(name, number, file);
+                Ok(())
+            }
+            None => self.place_below(alloc, name, file),
+        }
+    }
+
+    /// Puts another file in the place of that of a name, which has this number.
+    fn put_file(&mut self, name: &[u8], number: u64, file: FileData)
+        requires { (disk_of self.old).names name.now ≡ Some number }
+        ensures { disk_of self.new ≡ with_file (disk_of self.old) number file }
+    {
+        files::replace(&mut self.files, number, file);
+    }
+
+    /// Puts a synced file under a new name, whose directory is made if it is missing. After an `Err` it is as before.
+    fn place_below(&mut self, alloc: Global, name: &[u8], file: FileData) -> Result<(), Memory>
+        requires { (disk_of self.old).names name.now ≡ None }
+        ensures ok { OnOk result ((mid : Disk) × HasMade (disk_of self.old) (dir_of name.now) mid
+            × PlacesNew mid name.now file (disk_of self.new)) }
+        ensures err { OnErr result (self.new ≡ self.old) }
+    {
+        if self.is_dir(part::dir_of(name)) {
+            return self.place_new(alloc, name, file);
+        }
+        self.dirs
+            .push(ByteText::from_slice(alloc, part::dir_of(name))?)?;
+        let placed = self.place_new(alloc, name, file);
+        if placed.is_err() {
+            self.dirs.pop();
+        }
+        placed
     }
 
     /// Puts a synced file under a new name. After an `Err` it is as before.

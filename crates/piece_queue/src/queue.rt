@@ -19,12 +19,14 @@ pub type QueuePass = Pass<Piece, Hand>;
 
 type Line = RuledArrayQueue<Piece, Hand, InOrder>;
 
-/// The queue of the pieces of all channels, and two counts on which those sleep who wait for it.
+/// The queue of the pieces of all channels, two counts on which those sleep who wait for it, and whether something else came that is
+/// to be looked at: 1 if so.
 #[derive(Drop)]
 pub struct PieceQueue {
     line: Line,
     pushed: AtomicU64,
     taken: AtomicU64,
+    nudged: AtomicU64,
 }
 
 impl PieceQueue {
@@ -42,6 +44,7 @@ impl PieceQueue {
             line,
             pushed: AtomicU64::new(0),
             taken: AtomicU64::new(0),
+            nudged: AtomicU64::new(0),
         };
         Ok((queue, opener, taker))
     }
@@ -151,6 +154,25 @@ impl PieceQueue {
         if seen <= self.taken.load(Ordering::SeqCst) {
             self.pushed.park_timeout(rt, low_half(seen), most);
         }
+    }
+
+    /// Sleeps until a piece is there, or somebody nudges, at most so long; not at all after a nudge for which nobody slept so since.
+    /// It may also return for no reason.
+    pub fn rest_for_news<R: Wait>(&self, rt: &R, most: Duration) {
+        let seen = self.pushed.load(Ordering::SeqCst);
+        let is_nudged = self.nudged.swap(0, Ordering::SeqCst) > 0;
+        if !is_nudged && seen <= self.taken.load(Ordering::SeqCst) {
+            self.pushed.park_timeout(rt, low_half(seen), most);
+            self.nudged.store(0, Ordering::SeqCst);
+        }
+    }
+
+    /// Wakes who sleeps here, as a piece does that is taken at once.
+    pub fn nudge(&self) {
+        self.nudged.store(1, Ordering::SeqCst);
+        self.taken.fetch_add(1, Ordering::SeqCst);
+        self.pushed.fetch_add(1, Ordering::SeqCst);
+        self.pushed.wake_all();
     }
 }
 

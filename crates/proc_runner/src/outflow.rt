@@ -10,10 +10,11 @@ use std::io::ErrorKind;
 use std::sync::Wait;
 use std::time::Duration;
 
-/// How long a reader sleeps before it asks again whether its process has ended: at first, and at most, in milliseconds.
-const FIRST_NAP: u64 = 1;
+/// How long a reader sleeps before it asks again whether its process has ended: at first, and at most, in microseconds. One that has
+/// closed its output by its end has ended a moment later.
+const FIRST_NAP: u64 = 50;
 
-const LONGEST_NAP: u64 = 1000;
+const LONGEST_NAP: u64 = 1_000_000;
 
 /// The output of a process. It ends when the process has closed it and has exited. If more is printed than the process may, it
 /// is cut off there, and the process counts as ended by a signal. It fails if it can't be read, and if the system doesn't tell how
@@ -49,7 +50,7 @@ fn await_exit<R: Wait, P: Process>(rt: &R, process: &P) -> bool
             Ok(None) => {}
             Err(_) => return false,
         }
-        process.nap(Duration::from_millis(nap));
+        process.nap(Duration::from_micros(nap));
         nap = nap.saturating_mul(2).min(LONGEST_NAP);
     }
     unreachable!()

@@ -9,11 +9,11 @@ use std::str;
 pub enum Kind {
     /// This same program, as a member of a generation or an injector. Descriptor 2 is that of its parent.
     Member,
-    /// This same program, as a local delivery: in a process group of its own. Descriptor 2 is that of its parent.
+    /// This same program, as a local delivery. Descriptor 2 is that of its parent.
     Delivery,
     /// The remote program: in a process group of its own, with descriptor 2 at /dev/null.
     Remote,
-    /// The command of a user, by /bin/sh, in the process group of its delivery, with descriptor 2 at /dev/null.
+    /// The command of a user, by /bin/sh, in a process group of its own, with descriptor 2 at /dev/null.
     Command,
 }
 

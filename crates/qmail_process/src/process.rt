@@ -10,9 +10,11 @@ use crate::looks::LockLooks;
 use crate::owner::refused;
 use crate::reading::{open_disk, tell_unlisted};
 use crate::told::Told;
+use crate::trigger::{hear_injectors, wake_sender};
 use crate::watching::WatchingGate;
 use call_fs::CallFs;
 use command_words::{Channels, Member};
+use fault_lines::{FaultLines, Noting, TellingFiles, TellingSpawner};
 use host_children::{HostSystem, PARENT};
 use host_fs::{Leaving, QueueFiles, start_helpers};
 use host_streams::{
@@ -277,6 +279,11 @@ fn run_alone<C: TopCall, R: Threads + Wait + Copy + Send + Drop + 'static>(
     drop(posts);
     let status = called?;
     tell_unlisted(rt, alloc, words, told.dir(), status);
+    if status == 0 {
+        if let Some(name) = words.first() {
+            wake_sender(rt, alloc, name.as_str(), told.dir());
+        }
+    }
     Ok(status)
 }
 
@@ -305,6 +312,9 @@ where
     let (mut opener, taker) = share(alloc, room_of(told.channels))?;
     match read_requests(rt, handle, alloc, told.channels, &mut opener) {
         Ok(queue) => {
+            if limits.idle > 0 {
+                hear_injectors(rt, handle, alloc, told.dir(), &queue);
+            }
             let mut posts = ChildPosts::new(handle, taker);
             let called = run_with_posts(
                 call, rt, handle, alloc, words, told, limits, lock, limit, opener, queue,
@@ -387,7 +397,9 @@ where
     ensures { IfOk result (λ status. IsStatusOf (C.does call.now) words.now status) }
 {
     match Children::new(handle, alloc, system, opener, limit) {
-        Ok(mut children) => {
+        Ok(children) => {
+            let lines = FaultLines::new(rt, alloc);
+            let mut children = TellingSpawner::new(children, &lines);
             let called = run_resting(
                 call,
                 rt,
@@ -402,6 +414,7 @@ where
                 &mut children,
             );
             drop(children);
+            drop(lines);
             called
         }
         Err(why) => {
@@ -584,8 +597,11 @@ fn run_in<
 {
     let leaving = leaving(handle, alloc, member)?;
     let files = QueueFiles::new(rt, handle, leaving);
-    let called = match open_disk(&&files, alloc, words, dir) {
-        Ok(mut disk) => {
+    let lines = FaultLines::new(rt, alloc);
+    let system = Noting::new(&files, &lines);
+    let called = match open_disk(&system, alloc, words, dir) {
+        Ok(disk) => {
+            let mut disk = TellingFiles::new(disk, alloc, &lines);
             let status = run_on(
                 call, rt, alloc, words, &mut disk, message, envelope, posts, spawn, gate,
             );
@@ -594,6 +610,7 @@ fn run_in<
         }
         Err(why) => Err(why),
     };
+    drop(lines);
     drop(files);
     called
 }

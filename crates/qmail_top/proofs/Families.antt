@@ -1,5 +1,5 @@
 -- A command that has children, by what it was told.
-use Rattle.std.proofs.Common.{◌≡◌, ◌∙◌, ℕ, List, [], ap, subst, inl, inr}
+use Rattle.std.proofs.Common.{◌≡◌, ◌∙◌, ℕ, List, [], ap, subst, inl}
 use Rattle.command_words.specs.declared.command.Command.TheVariants.{Lspawn, Rspawn, Local, Send}
 use Rattle.command_words.specs.declared.command.LocalWords.{LocalWords}
 use Rattle.command_words.specs.declared.command.RspawnWords.{RspawnWords}

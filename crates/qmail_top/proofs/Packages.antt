@@ -1,6 +1,5 @@
 -- What `qmqpd` comes to.
 use Rattle.std.proofs.Common.{◌≡◌, ◌≢◌, ℕ, List, [], Option, inl, inr, refl, subst, arith}
-use Rattle.received_line.specs.declared.line.Invoked.TheVariants.{Uid}
 use Rattle.command_words.specs.declared.command.Command.TheVariants.{Qmqpd}
 use Rattle.command_words.specs.declared.command.QmqpdWords.{QmqpdWords}
 use Rattle.command_words.specs.Reads.{Reads}

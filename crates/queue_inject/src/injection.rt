@@ -4,7 +4,7 @@ use mail_bytes::ByteText;
 use received_line::Invoked;
 
 /// How an input ended.
-#[derive(Clone, Copy, PartialEq, Eq)]
+#[derive(Clone, Copy)]
 pub enum InputEnd {
     /// At its end.
     Whole,
@@ -15,7 +15,7 @@ pub enum InputEnd {
 }
 
 /// A part of an injector's input.
-#[derive(Clone, Copy, PartialEq, Eq)]
+#[derive(Clone, Copy)]
 pub enum Part {
     /// The message, which comes first.
     Message,

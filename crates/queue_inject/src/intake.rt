@@ -16,7 +16,7 @@ use queue_limits::{INPUT, LONG_ADDRESS, MALFORMED, MOST_BYTES, TOO_LONG};
 use std::marker::Model;
 
 /// What the text at hand is, as far as it was fed.
-#[derive(Clone, Copy, PartialEq, Eq)]
+#[derive(Clone, Copy)]
 pub enum Verdict {
     /// It may go on.
     Open,

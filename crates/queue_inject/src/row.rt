@@ -7,7 +7,7 @@ use call_fs::Fd;
 /// Where an injector stands: at the call that is named. `number` is the number of the message file and so of the message;
 /// `fd` is an open file; `done` counts 8192 bytes for each piece of a text that was written, the last one as a whole one
 /// too; `status` is that of the failure that a clean up ends with.
-#[derive(Clone, Copy, PartialEq, Eq)]
+#[derive(Clone, Copy)]
 pub enum Row {
     /// Creates the pid name with this number at its end, from 1 to 9.
     Create { seq: u8 },

@@ -73,6 +73,7 @@ bounce_only q G n j made P far z there same = by P (G.suits (Of P n) z there).0 
     by Local h far = let w : AsPart Local n ≡ AsPart Bounce n = sym h ∙ role in cc
     by Remote h far = let w : AsPart Remote n ≡ AsPart Bounce n = sym h ∙ role in cc
     by Bounce h far = far refl
+    by other h far = absurd h
 
 lane_apart : (ch : Channel) → lane_part ch ≢ Bounce
 lane_apart channel.Local s = cc

@@ -30,11 +30,11 @@ use Rattle.queue_clean.specs.Table.{Place, place_after, found as found_step, fir
 use Rattle.queue_clean.specs.Table.Step.{Goes}
 use Rattle.queue_paths.specs.Names.{Name, Part, path, parse}
 use Rattle.queue_paths.specs.Names.Name.{Pid, Of}
-use Rattle.queue_paths.specs.Names.Part.{Mess, Intd, Todo, Info, Local, Remote, Bounce}
+use Rattle.queue_paths.specs.Names.Part.{Mess, Intd, Todo, Info, Local, Remote, Bounce, SplitIntd, SplitTodo}
 use Rattle.queue_paths.proofs.Paths.{parse-path, path-parse}
 use Rattle.queue_paths.specs.Parts.{in_intd}
 use Rattle.queue_paths.proofs.Parts.{intd_far, todo_far, intd_alone, todo_alone, intd_out, todo_out, intd_same, todo_same}
-use Rattle.queue_law.proofs.Waits.{intd_missed, todo_missed}
+use Rattle.queue_law.proofs.Waits.{no_split, intd_missed, todo_missed}
 use Rattle.send_known.specs.declared.channel.Channel.{Channel}
 use Rattle.send_known.specs.declared.channel.Channel.TheVariants as channel
 use Rattle.queue_law.specs.Books.{Injection, lane_in}
@@ -198,6 +198,8 @@ not_part Info n rest same = let w : 105 ≡ 112 = ap first same in omega (arith,
 not_part Local n rest same = let w : 108 ≡ 112 = ap first same in omega (arith, w)
 not_part Remote n rest same = let w : 114 ≡ 112 = ap first same in omega (arith, w)
 not_part Bounce n rest same = let w : 98 ≡ 112 = ap first same in omega (arith, w)
+not_part SplitIntd n rest same = let w : 105 ≡ 112 = ap first same in omega (arith, w)
+not_part SplitTodo n rest same = let w : 116 ≡ 112 = ap first same in omega (arith, w)
 
 lane_far : (ch : Channel) → (lane_part ch ≢ Intd) × (lane_part ch ≢ Todo)
 lane_far channel.Local = ((λ s. cc), (λ s. cc))
@@ -260,7 +262,7 @@ module _ (now : ℕ) (a : List ℕ) (q : Queue) (G : Sound q) where
   }
 
   intd_gone : (n : ℕ) → in_intd (about (gone q n Intd) n).parts ≡ None
-  intd_gone n = intd_alone (about (gone q n Intd) n).parts ∙ part_gone q n Intd
+  intd_gone n = intd_alone (about (gone q n Intd) n).parts (part_other q n Intd SplitIntd (λ s. cc) ∙ no_split q G.suits SplitIntd refl n) ∙ part_gone q n Intd
 
   part_ready : (n : ℕ) → IsReady (about q n) → IsReady (about (gone q n Intd) n)
   part_ready n h =
@@ -284,7 +286,7 @@ module _ (now : ℕ) (a : List ℕ) (q : Queue) (G : Sound q) where
       let other = part_other q n Todo in
       record {
         taken = taken_same w v refl (other Mess (λ s. cc)) h.queued.taken;
-        no_todo = todo_alone v.parts ∙ part_gone q n Todo;
+        no_todo = todo_alone v.parts (other SplitTodo (λ s. cc) ∙ no_split q G.suits SplitTodo refl n) ∙ part_gone q n Todo;
         no_intd = intd_same w.parts v.parts (λ p is. other p (intd_far p Todo is refl)) ∙ no_intd;
         no_nul = h.no_nul;
         info = h.made.info.file;
@@ -313,7 +315,7 @@ module _ (now : ℕ) (a : List ℕ) (q : Queue) (G : Sound q) where
         (spent_phase (about q n) (about (gone q n Intd) n) refl (part_lost q n Intd) (part_there q n Intd) (λ _. intd_gone n) h.rest (G.fine n))
         (λ k is. absurd (cc))
     foop_intd n p h (answer.Refused NotThere) fits =
-        still (at.UnlinkIntd (command.Foop n)) _ (record { closed = h.closed; rest = (h.rest, intd_missed q.disk.names q.disk.files n fits) }) (λ k is. absurd (cc))
+        still (at.UnlinkIntd (command.Foop n)) _ (record { closed = h.closed; rest = (h.rest, intd_missed q G.suits n fits) }) (λ k is. absurd (cc))
     foop_intd n p h (answer.Refused Fault) fits = still (at.UnlinkIntd (command.Foop n)) _ tt (λ k is. absurd (cc))
     foop_intd n p h given fits = absurd fits
 
@@ -334,7 +336,7 @@ module _ (now : ℕ) (a : List ℕ) (q : Queue) (G : Sound q) where
         (Queued ready.queued)
         (λ k is. absurd (cc))
     todo_intd n p h (answer.Refused NotThere) fits =
-        still (at.UnlinkIntd (command.Todo n)) _ (record { closed = h.closed; rest = (h.rest, intd_missed q.disk.names q.disk.files n fits) }) (λ k is. absurd (cc))
+        still (at.UnlinkIntd (command.Todo n)) _ (record { closed = h.closed; rest = (h.rest, intd_missed q G.suits n fits) }) (λ k is. absurd (cc))
     todo_intd n p h (answer.Refused Fault) fits = still (at.UnlinkIntd (command.Todo n)) _ tt (λ k is. absurd (cc))
     todo_intd n p h given fits = absurd fits
 
@@ -347,7 +349,7 @@ module _ (now : ℕ) (a : List ℕ) (q : Queue) (G : Sound q) where
         subst (λ j. RestsAs now (gone q n Todo) j IsPreprocessed) w (record { closed = part_closed n Todo (λ s. cc) h.closed; rest = done }))
     todo_todo n p h (answer.Refused NotThere) fits =
         let there = h.rest.0.queued.todo_there in
-        let none = todo_missed q.disk.names q.disk.files n fits in
+        let none = todo_missed q G.suits n fits in
         absurd (cc)
     todo_todo n p h (answer.Refused Fault) fits = still (at.UnlinkSecond (command.Todo n)) _ tt (λ k is plus. absurd (cc))
     todo_todo n p h given fits = absurd fits

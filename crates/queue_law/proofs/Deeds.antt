@@ -8,7 +8,7 @@ use Rattle.queue_inject.specs.declared.injection.Arguments.{Arguments}
 use Rattle.queue_inject.specs.declared.row.Row.{Row}
 use Rattle.queue_paths.specs.Names.{Name, Part, path}
 use Rattle.queue_paths.specs.Names.Name.{Pid, Of}
-use Rattle.queue_paths.specs.Names.Part.{Mess, Intd, Todo, Info, Local, Remote, Bounce}
+use Rattle.queue_paths.specs.Names.Part.{Mess, Intd, Todo, Info, Local, Remote, Bounce, SplitIntd, SplitTodo}
 use Rattle.queue_paths.specs.Parts.{in_todo}
 use Rattle.queue_paths.proofs.Parts.{todo_out}
 use Rattle.queue_law.specs.Books.{Injection, Books, IsInjected}
@@ -111,19 +111,16 @@ early_role (Pid p s k) i AsOld early h = refl
 early_role (Of Mess n) i role early h = ap is_later_role h.1.2
 early_role (Of Intd n) i role early h = ap is_later_role h
 early_role (Of Todo n) i role early h = ap is_later_role h
-early_role (Of Info n) i role early h = absurd (off (sym early))
-early_role (Of Local n) i role early h = absurd (off (sym early))
-early_role (Of Remote n) i role early h = absurd (off (sym early))
-early_role (Of Bounce n) i role early h = absurd (off (sym early))
+early_role (Of SplitIntd n) i role early h = absurd h
+early_role (Of SplitTodo n) i role early h = absurd h
+early_role (Of part n) i role early h = absurd (off (sym early))
 
 later_role : (part : Part) (n i : ℕ) (role : Role) → is_later part ≡ true → Suits (Of part n) i role → is_later_role role ≡ true
-later_role Mess n i role later h = absurd (off later)
-later_role Intd n i role later h = absurd (off later)
-later_role Todo n i role later h = absurd (off later)
 later_role Info n i role later h = ap is_later_role h
 later_role Local n i role later h = ap is_later_role h
 later_role Remote n i role later h = ap is_later_role h
 later_role Bounce n i role later h = ap is_later_role h
+later_role other n i role later h = absurd (off later)
 
 -- where the names lead
 module _ (q : Queue) (x : Name) where
@@ -182,6 +179,8 @@ module _ (now : ℕ) (q : Queue) (S : NamesSuit q) where
   its_number (Of Local k) y h = ap (λ u. Some (made_for y.number u)) (S (Of Local k) y h).0
   its_number (Of Remote k) y h = ap (λ u. Some (made_for y.number u)) (S (Of Remote k) y h).0
   its_number (Of Bounce k) y h = ap (λ u. Some (made_for y.number u)) (S (Of Bounce k) y h).0
+  its_number (Of SplitIntd k) y h = absurd (S (Of SplitIntd k) y h).0
+  its_number (Of SplitTodo k) y h = absurd (S (Of SplitTodo k) y h).0
 
   -- an injector's message is no other injector's
   pub own_apart : (a : List ℕ) (args : Arguments) (n : ℕ) → q.role n ≡ AsMessage a args → Apart now q a (Some n)

@@ -7,9 +7,9 @@ use Rattle.queue_inject.specs.declared.row.Row.{Row}
 use Rattle.queue_inject.specs.declared.row.Row.TheVariants as at
 use Rattle.queue_paths.specs.Names.{Name, path}
 use Rattle.queue_paths.specs.Names.Name.{Pid, Of}
-use Rattle.queue_paths.specs.Names.Part.{Mess, Intd, Todo, Bounce}
+use Rattle.queue_paths.specs.Names.Part.{Mess, Intd, Todo, Bounce, SplitIntd}
 use Rattle.queue_paths.specs.Parts.{in_intd, in_todo}
-use Rattle.queue_paths.proofs.Parts.{is_todo_name, intd_apart, todo_apart, intd_alone, todo_alone, intd_same, todo_same, todo_missing}
+use Rattle.queue_paths.proofs.Parts.{is_todo_name, intd_apart, todo_apart, intd_alone, todo_flat, intd_same, todo_same, todo_missing}
 use Rattle.queue_inject.specs.Texts.{message_text}
 use Rattle.queue_inject.specs.Table.{in_message}
 use Rattle.queue_law.specs.Books.{Injection, Books, begun, accept, IsInjected, IsValid}
@@ -18,6 +18,7 @@ use Rattle.queue_law.specs.Ledgers.{no_ledger}
 use Rattle.queue_law.specs.Injectors.{IsFailure, IsBegun, IsBare, Holds, AtLink, AtUnlink, AtLinkTodo, Basis}
 use Rattle.queue_law.specs.Marks.{IsSettled}
 use Rattle.queue_law.proofs.Tests.{off, same_text, tells_name}
+use Rattle.queue_law.proofs.Waits.{no_split, todo_here}
 use Rattle.queue_law.specs.Numbers.{Entry, entry, Queue, look, IsRight, NameSuits, About, about, is_later_name, IsUnsorted, Phase, Sound}
 use Rattle.queue_law.proofs.Looks.{find_put, find_gone, find_none, found}
 use Rattle.queue_law.specs.Numbers.Role.{AsMessage}
@@ -199,7 +200,7 @@ module _ (now : ℕ) (q : Queue) (a : List ℕ) (args : Arguments) (G : Sound q)
       let r = named q x None q.books in
       let begins = begun_still x n refl (λ s. cc) refl h.rest in
       gone_row x n _ refl refl h.rest.unsorted h.mine h.rest.lives refl (begun_phase r a args n begins)
-      (record { mine = h.mine; rest = record { begins = begins; no_intd = intd_alone (about r n).parts ∙ find_gone q.disk.names q.disk.files x } }, bad)
+      (record { mine = h.mine; rest = record { begins = begins; no_intd = intd_alone (about r n).parts (named_other q x None q.books (Of SplitIntd n) (λ s. cc) ∙ no_split q G.suits SplitIntd refl n) ∙ find_gone q.disk.names q.disk.files x } }, bad)
 
   pub clean_mess_row : (n : ℕ) (cause : ℕ) → Holds q a args n (λ w. IsBare w a args n) → IsFailure cause
       → To (named q (Of Mess n) None q.books) (at.Failed cause)
@@ -240,7 +241,7 @@ module _ (now : ℕ) (q : Queue) (a : List ℕ) (args : Arguments) (G : Sound q)
       (λ (same : Of Todo k ≡ x). let v = find_put q.disk.names q.disk.files x h.number in let u = ap (look r) same in absurd (cc))
       (λ (far : Of Todo k ≢ x).
       e.waits k i (sym (put_other q.books.living n _ k (λ s. far (ap (Of Todo) s))) ∙ living) t
-      (todo_alone (about q k).parts ∙ sym (named_other q x (Some h.number) c (Of Todo k) far) ∙ bare))
+      (todo_here q G.suits k ∙ sym (named_other q x (Some h.number) c (Of Todo k) far) ∙ bare))
       (tells_name x (Of Todo k)))
       (λ e. e.none_over)
       (Queued (record {
@@ -261,7 +262,7 @@ module _ (now : ℕ) (q : Queue) (a : List ℕ) (args : Arguments) (G : Sound q)
           };
         };
         todo = y;
-        todo_there = todo_alone (about (named q x (Some h.number) c) n).parts ∙ find_put q.disk.names q.disk.files x h.number ∙ ap Some (sym is);
+        todo_there = todo_flat (about (named q x (Some h.number) c) n).parts y (find_put q.disk.names q.disk.files x h.number ∙ ap Some (sym is));
         text = w.fulfils;
         no_bounce = named_other q x (Some h.number) c (Of Bounce n) (λ s. cc) ∙ w.begins.unsorted Bounce refl;
         fresh = refl;

@@ -22,7 +22,7 @@ use Rattle.queue_paths.specs.Names.{Part, path}
 use Rattle.queue_paths.specs.Names.Name.{Of}
 use Rattle.queue_paths.specs.Names.Part.{Mess, Todo, Bounce}
 use Rattle.queue_paths.specs.Parts.{is_todo}
-use Rattle.queue_paths.proofs.Parts.{todo_far, todo_alone, todo_same}
+use Rattle.queue_paths.proofs.Parts.{todo_far, todo_same}
 use Rattle.todo_pass.specs.declared.part.Target.{Target}
 use Rattle.todo_pass.specs.declared.part.Target.TheVariants as target
 use Rattle.todo_pass.specs.declared.row.Row.{Row}
@@ -40,6 +40,7 @@ use Rattle.queue_law.specs.Injectors.{created, IsHeld}
 use Rattle.queue_law.specs.Rests.{IsClosed, RestsAs}
 use Rattle.queue_law.specs.Senders.{called_queue}
 use Rattle.queue_law.specs.Passes.{file_part, HasOpen, Writes, HoldsAt, PassLeads, PassesKeep}
+use Rattle.queue_law.proofs.Waits.{todo_here}
 use Rattle.queue_law.proofs.Looks.{find_near, find_absent, found}
 use Rattle.queue_law.proofs.Frame.{outside_same}
 use Rattle.queue_law.proofs.Deeds.{made, written, made_suits, made_same, made_outside, made_old}
@@ -233,7 +234,7 @@ module _ (controls : Controls) (now : ℕ) (a : List ℕ) (q : Queue) (G : Sound
     open_todo : (p : Pass) → Steps at.OpenTodo p (call.Open (path (Of Todo n)) how.Read)
     open_todo p (answer.Opened fd) fits =
         let opened : Option ℕ → Option Open = option_map (λ k. record { number = k; mode = Mode.Opened how.Read }) in
-        let named = (found q.disk.names q.disk.files (Of Todo n) R.rest.todo (sym (todo_alone (about q n).parts) ∙ R.rest.todo_there)).0 in (
+        let named = (found q.disk.names q.disk.files (Of Todo n) R.rest.todo (sym (todo_here q G.suits n) ∙ R.rest.todo_there)).0 in (
           q.role,
           of_fds (put q.disk.opens fd.0 (opened (q.disk.names (path (Of Todo n))))) (put q.holder fd.0 (Some a)) (at.ReadTodo fd)
               (λ o k mode other h.

@@ -15,7 +15,7 @@ use Rattle.queue_inject.specs.Texts.{limit, envelope_text, envelope_of, intd_tex
 use Rattle.queue_paths.specs.Names.{Name, Part as FilePart, path}
 use Rattle.queue_paths.specs.Names.Name.{Of}
 use Rattle.queue_paths.specs.Names.Part.{Mess, Todo, Info, Local, Remote}
-use Rattle.queue_paths.proofs.Parts.{todo_alone}
+use Rattle.queue_paths.proofs.Parts.{todo_flat}
 use Rattle.send_known.specs.declared.channel.Channel.{Channel}
 use Rattle.send_known.specs.declared.channel.Channel.TheVariants as channel
 use Rattle.todo_pass.specs.declared.part.Target.{Target}
@@ -121,7 +121,9 @@ passes_make controls n past first q run leads at_give Q =
     let F = files_are_made controls n past first q.disk run leads (subst IsMadeRow (sym at_give) tt) in
     let args = Q.taken.injection.args in
     let held = F.todo at_give in
-    let read : p.todo ≡ (intd_text args).bytes = was_read q n Q.todo (intd_text args).bytes p.todo held.0 (sym (todo_alone (about q n).parts) ∙ Q.todo_there) Q.text held.1 held.2 in
+    let here = find_some q.disk.names q.disk.files (Of Todo n) held.0 held.1 in
+    let there = here ∙ sym (todo_flat (about q n).parts (entry q.disk.files held.0) here) ∙ Q.todo_there in
+    let read : p.todo ≡ (intd_text args).bytes = was_read q n Q.todo (intd_text args).bytes p.todo held.0 there Q.text held.1 held.2 in
     let so = says_so args F.sorted.0 Q.taken.valid.envelope (subst (λ t. IsTodo t F.sorted.0) read F.sorted.1) in
     let sorted = F.sorted.2 in
     let w = about q n in

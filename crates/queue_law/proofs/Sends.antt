@@ -16,7 +16,7 @@ use Rattle.call_fs.proofs.Maps.{put_cases, put_same, put_other, put_at_cases, pu
 use Rattle.queue_inject.specs.Texts.{message_text}
 use Rattle.queue_paths.specs.Names.{Name, Part, path}
 use Rattle.queue_paths.specs.Names.Name.{Of}
-use Rattle.queue_paths.specs.Names.Part.{Mess, Intd, Todo, Info, Local, Remote, Bounce}
+use Rattle.queue_paths.specs.Names.Part.{Mess, Intd, Todo, Info, Local, Remote, Bounce, SplitIntd, SplitTodo}
 use Rattle.queue_paths.specs.Parts.{in_todo}
 use Rattle.queue_paths.proofs.Parts.{intd_apart, todo_apart, intd_same, todo_same}
 use Rattle.queue_law.proofs.Waits.{intd_early, todo_early}
@@ -77,6 +77,8 @@ lane_role Todo n i role ch h e = let w : AsPart Todo n ≡ AsPart (lane_part ch)
 lane_role Info n i role ch h e = let w : AsPart Info n ≡ AsPart (lane_part ch) n = sym h ∙ e in cc
 lane_role Local n i role ch h e = let w : AsPart Local n ≡ AsPart (lane_part ch) n = sym h ∙ e in cc
 lane_role Remote n i role ch h e = let w : AsPart Remote n ≡ AsPart (lane_part ch) n = sym h ∙ e in cc
+lane_role SplitIntd n i role ch h e = absurd h
+lane_role SplitTodo n i role ch h e = absurd h
 lane_role Bounce n i role ch h e = let w : AsPart Bounce n ≡ AsPart (lane_part ch) n = sym h ∙ e in cc
 
 lane_suits : (ch : Channel) (n i : ℕ) (role : Role) → Suits (Of (lane_part ch) n) i role → role ≡ AsPart (lane_part ch) n
@@ -412,13 +414,11 @@ module _ (now : ℕ) (q : Queue) (a : List ℕ) (G : Sound q) where
       })
     where
       later : IsUnsorted (about (named q (Of Info n) None q.books) n)
-      later Mess is = absurd (off is)
-      later Intd is = absurd (off is)
-      later Todo is = absurd (off is)
       later Info is = find_gone q.disk.names q.disk.files (Of Info n)
       later Local is = named_other q (Of Info n) None q.books (Of Local n) (λ s. cc) ∙ may.gone channel.Local
       later Remote is = named_other q (Of Info n) None q.books (Of Remote n) (λ s. cc) ∙ may.gone channel.Remote
       later Bounce is = named_other q (Of Info n) None q.books (Of Bounce n) (λ s. cc) ∙ may.no_bounce
+      later other is = absurd (off is)
 
   pub ends_keep : (read n : ℕ) (told : Answer) (wrote : ℕ) → MayEnd (about q n) → Fits q.disk (Unlink (path (Of Info n))) told wrote
       → LeadsOn now a (Some n) q (called_queue q a read (Unlink (path (Of Info n))) told wrote q.role)

@@ -169,7 +169,7 @@ module _ (now : ℕ) (q : Queue) (a : List ℕ) (args : Arguments) (G : Sound q)
   at_clean_intd : (n : ℕ) (cause : ℕ) → Holds q a args n (λ w. IsBegun w a args n) → IsFailure cause → Steps (at.CleanIntd n cause) (Unlink (path (Of Intd n)))
   at_clean_intd n cause h bad Done fits = (q.role, clean_intd_row now q a args G n cause h bad)
   at_clean_intd n cause h bad (Refused NotThere) fits =
-      let none = intd_missed q.disk.names q.disk.files n fits in
+      let none = intd_missed q G.suits n fits in
       same (at.CleanMess n cause) (record { mine = h.mine; rest = record { begins = h.rest; no_intd = none } }, bad)
   at_clean_intd n cause h bad (Refused Fault) fits = same (at.Failed cause) (tt, bad)
   at_clean_intd n cause h bad answer fits = absurd fits

@@ -3,10 +3,10 @@ use Rattle.std.proofs.Common.{◌≡◌, ℕ, List, true, false, Option, Some, N
 use Rattle.call_fs.specs.Disk.{File}
 use Rattle.queue_paths.specs.Names.{Part, path}
 use Rattle.queue_paths.specs.Names.Name.{Of}
-use Rattle.queue_paths.specs.Names.Part.{Mess, Intd, Todo, Info, Local, Remote, Bounce}
-use Rattle.queue_paths.specs.Parts.{is_intd, is_todo, in_intd, in_todo, parts_of}
+use Rattle.queue_paths.specs.Names.Part.{Intd, Todo, SplitIntd, SplitTodo}
+use Rattle.queue_paths.specs.Parts.{is_intd, is_todo, is_split, in_intd, in_todo, parts_of}
 use Rattle.queue_paths.proofs.Parts.{intd_none, todo_none, todo_there, intd_alone, todo_alone, intd_out, todo_out, todo_stays}
-use Rattle.queue_law.specs.Numbers.{Entry, entry, find, Role, Suits, is_later}
+use Rattle.queue_law.specs.Numbers.{Entry, entry, find, Role, Suits, Queue, NamesSuit, look, about, is_later}
 use Rattle.queue_law.specs.Numbers.Role.{AsPart}
 use Rattle.queue_law.proofs.Tests.{off}
 use Rattle.queue_law.proofs.Looks.{find_some, find_none, not_found, found}
@@ -14,31 +14,54 @@ use Rattle.queue_law.proofs.Looks.{find_some, find_none, not_found, found}
 -- preprocessing makes none of them
 pub intd_early : (part : Part) → is_intd part ≡ true → is_later part ≡ false
 intd_early Intd is = refl
-intd_early Mess is = absurd (off is)
-intd_early Todo is = absurd (off is)
-intd_early Info is = absurd (off is)
-intd_early Local is = absurd (off is)
-intd_early Remote is = absurd (off is)
-intd_early Bounce is = absurd (off is)
+intd_early SplitIntd is = refl
+intd_early other is = absurd (off is)
 
 pub todo_early : (part : Part) → is_todo part ≡ true → is_later part ≡ false
 todo_early Todo is = refl
-todo_early Mess is = absurd (off is)
-todo_early Intd is = absurd (off is)
-todo_early Info is = absurd (off is)
-todo_early Local is = absurd (off is)
-todo_early Remote is = absurd (off is)
-todo_early Bounce is = absurd (off is)
+todo_early SplitTodo is = refl
+todo_early other is = absurd (off is)
 
 -- a file in todo was made as the number's
 pub todo_role : (part : Part) (n i : ℕ) (role : Role) → is_todo part ≡ true → Suits (Of part n) i role → role ≡ AsPart Todo n
 todo_role Todo n i role is h = h
-todo_role Mess n i role is h = absurd (off is)
-todo_role Intd n i role is h = absurd (off is)
-todo_role Info n i role is h = absurd (off is)
-todo_role Local n i role is h = absurd (off is)
-todo_role Remote n i role is h = absurd (off is)
-todo_role Bounce n i role is h = absurd (off is)
+todo_role SplitTodo n i role is h = absurd h
+todo_role other n i role is h = absurd (off is)
+
+-- no name of the split layout is there
+
+unfit : (part : Part) (n i : ℕ) (role : Role) → is_split part ≡ true → Suits (Of part n) i role → ⊥
+unfit SplitIntd n i role is h = h
+unfit SplitTodo n i role is h = h
+unfit other n i role is h = off is
+
+module _ (q : Queue) (suits : NamesSuit q) where
+  pub no_split : (part : Part) → is_split part ≡ true → (n : ℕ) → look q (Of part n) ≡ None
+  no_split part is n = by (look q (Of part n)) refl
+    where
+      by : (o : Option Entry) → look q (Of part n) ≡ o → look q (Of part n) ≡ None
+      by None e = e
+      by (Some y) e = absurd (unfit part n y.number (q.role y.number) is (suits (Of part n) y e).0)
+
+  pub no_split_name : (part : Part) → is_split part ≡ true → (n : ℕ) → q.disk.names (path (Of part n)) ≡ None
+  no_split_name part is n = not_found q.disk.names q.disk.files (Of part n) (no_split part is n)
+
+  -- so a number has one name in intd and in todo
+  pub intd_here : (n : ℕ) → in_intd (about q n).parts ≡ look q (Of Intd n)
+  intd_here n = intd_alone (about q n).parts (no_split SplitIntd refl n)
+
+  pub todo_here : (n : ℕ) → in_todo (about q n).parts ≡ look q (Of Todo n)
+  todo_here n = todo_alone (about q n).parts (no_split SplitTodo refl n)
+
+  pub todo_here_name : (n : ℕ) → in_todo (parts_of q.disk.names n) ≡ q.disk.names (path (Of Todo n))
+  todo_here_name n = todo_alone (parts_of q.disk.names n) (no_split_name SplitTodo refl n)
+
+  -- a call was told that it isn't there
+  pub intd_missed : (n : ℕ) → q.disk.names (path (Of Intd n)) ≡ None → in_intd (about q n).parts ≡ None
+  intd_missed n none = intd_here n ∙ find_none q.disk.names q.disk.files (Of Intd n) none
+
+  pub todo_missed : (n : ℕ) → q.disk.names (path (Of Todo n)) ≡ None → in_todo (about q n).parts ≡ None
+  todo_missed n none = todo_here n ∙ find_none q.disk.names q.disk.files (Of Todo n) none
 
 module _ (names : List ℕ → Option ℕ) (files : ℕ → File) (n : ℕ) where
   abbrev entries : Part → Option Entry
@@ -74,10 +97,3 @@ module _ (names : List ℕ → Option ℕ) (files : ℕ → File) (n : ℕ) wher
 
   pub todo_bare : ((part : Part) → names (path (Of part n)) ≡ None) → in_todo entries ≡ None
   todo_bare empty = todo_none entries (λ part is. find_none names files (Of part n) (empty part))
-
-  -- the one name that a call was told of isn't there
-  pub intd_missed : names (path (Of Intd n)) ≡ None → in_intd entries ≡ None
-  intd_missed none = intd_alone entries ∙ find_none names files (Of Intd n) none
-
-  pub todo_missed : names (path (Of Todo n)) ≡ None → in_todo entries ≡ None
-  todo_missed none = todo_alone entries ∙ find_none names files (Of Todo n) none

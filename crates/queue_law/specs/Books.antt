@@ -13,7 +13,7 @@ use Rattle.call_fs.specs.Disk.{Among}
 use Rattle.call_fs.specs.Maps.{put}
 use Rattle.queue_paths.specs.Names.{Name, path, parse}
 use Rattle.queue_paths.specs.Names.Name.{Of}
-use Rattle.queue_paths.specs.Names.Part.{Mess, Intd, Todo}
+use Rattle.queue_paths.specs.Names.Part.{Mess, Intd, Todo, SplitIntd, SplitTodo}
 use Rattle.queue_inject.specs.declared.injection.Arguments.{Arguments}
 use Rattle.queue_inject.specs.Texts.{message_text, intd_text}
 use Rattle.send_known.specs.declared.channel.Channel.{Channel}
@@ -59,6 +59,8 @@ linked b a args old (Some (Of Mess n)) =
     record { living = put b.living n (Some (begun a args n)); over = option_to_list (b.living n) ++ b.over }
 linked b a args old (Some (Of Todo n)) =
     if bytes_eq old (path (Of Intd n)) then record { living = put b.living n (accept a (b.living n)); over = b.over } else b
+linked b a args old (Some (Of SplitTodo n)) =
+    if bytes_eq old (path (Of SplitIntd n)) then record { living = put b.living n (accept a (b.living n)); over = b.over } else b
 linked b a args old name = b
 
 -- what the books say after a call of an injector

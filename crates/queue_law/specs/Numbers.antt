@@ -6,7 +6,7 @@ use Rattle.queue_inject.specs.declared.injection.Arguments.{Arguments}
 use Rattle.queue_inject.specs.Texts.{message_text, intd_text}
 use Rattle.queue_paths.specs.Names.{Name, Part, path}
 use Rattle.queue_paths.specs.Names.Name.{Pid, Of}
-use Rattle.queue_paths.specs.Names.Part.{Mess, Intd, Todo, Info, Local, Remote, Bounce}
+use Rattle.queue_paths.specs.Names.Part.{Mess, Intd, Todo, Info, Local, Remote, Bounce, SplitIntd, SplitTodo}
 use Rattle.queue_paths.specs.Parts.{in_intd, in_todo}
 use Rattle.send_known.specs.declared.channel.Channel.{Channel}
 use Rattle.queue_law.specs.Books.{Injection, Books, IsValid}
@@ -45,7 +45,7 @@ abbrev pub look : Queue → Name → Option Entry
 look q x = find q.disk.names q.disk.files x
 
 -- A name suits what its file was made as: a pid name tells the start of its injector, and a message has the number of its
--- file.
+-- file. No program makes a name of the split layout.
 abbrev pub IsPidRole : ℕ → Role → Type 0
 IsPidRole start (AsMessage actor args) = args.start ≡ start
 IsPidRole start (AsPart part n) = ⊥
@@ -61,6 +61,8 @@ Suits (Of Info n) i role = role ≡ AsPart Info n
 Suits (Of Local n) i role = role ≡ AsPart Local n
 Suits (Of Remote n) i role = role ≡ AsPart Remote n
 Suits (Of Bounce n) i role = role ≡ AsPart Bounce n
+Suits (Of SplitIntd n) i role = ⊥
+Suits (Of SplitTodo n) i role = ⊥
 
 -- a message file is no older than its injector
 abbrev pub IsRecent : File → Role → Type 0
@@ -88,13 +90,11 @@ about q n = record { parts = λ part. look q (Of part n); living = q.books.livin
 
 -- a part that comes with preprocessing, and a name of one
 abbrev pub is_later : Part → Bool
-is_later Mess = false
-is_later Intd = false
-is_later Todo = false
 is_later Info = true
 is_later Local = true
 is_later Remote = true
 is_later Bounce = true
+is_later other = false
 
 abbrev pub is_later_name : Name → Bool
 is_later_name (Pid pid start seq) = false

@@ -10,7 +10,7 @@ use std::alloc::Global;
 pub const FLAT_DIRS: [&[u8]; 3] = [b"intd", b"todo", b"bounce"];
 
 /// Those that have one directory for each split.
-pub const SPLIT_DIRS: [&[u8]; 4] = [b"mess", b"info", b"local", b"remote"];
+pub const SPLIT_DIRS: [&[u8]; 6] = [b"mess", b"info", b"local", b"remote", b"intdx", b"todox"];
 
 /// How many splits there are; the first is 0.
 pub const SPLITS: u64 = 23;
@@ -48,7 +48,9 @@ fn put_queue_dirs(alloc: Global, dirs: &mut Vec<ByteText>) -> Result<(), Memory>
     put_splits(alloc, dirs, b"mess")?;
     put_splits(alloc, dirs, b"info")?;
     put_splits(alloc, dirs, b"local")?;
-    put_splits(alloc, dirs, b"remote")
+    put_splits(alloc, dirs, b"remote")?;
+    put_splits(alloc, dirs, b"intdx")?;
+    put_splits(alloc, dirs, b"todox")
 }
 
 /// Puts the directories of the splits after others, from the last to the first.

@@ -33,9 +33,13 @@ pub enum Name {
     Remote(u64),
     /// The failures: `bounce/N`.
     Bounce(u64),
+    /// The envelope while it is written, of the split layout: `intdx/S/N`.
+    SplitIntd(u64),
+    /// The envelope of a queued message, of the split layout: `todox/S/N`.
+    SplitTodo(u64),
 }
 
-/// The directory below mess, info, local or remote that the files of this number lie in, from 0 to 22.
+/// The directory below mess, info, local, remote, intdx or todox that the files of this number lie in, from 0 to 22.
 pub fn split(n: u64) -> u64
     ensures { result ≡ split n }
 {
@@ -57,6 +61,8 @@ pub fn path(name: &Name, into: &mut NameBuf)
         Name::Local(n) => extend_split(into, b"local/", *n),
         Name::Remote(n) => extend_split(into, b"remote/", *n),
         Name::Bounce(n) => extend_flat(into, b"bounce/", *n),
+        Name::SplitIntd(n) => extend_split(into, b"intdx/", *n),
+        Name::SplitTodo(n) => extend_split(into, b"todox/", *n),
     }
 }
 
@@ -125,6 +131,8 @@ pub fn parse(text: &[u8]) -> Option<Name>
         .or(split_number(text, b"local/").map(Name::Local))
         .or(split_number(text, b"remote/").map(Name::Remote))
         .or(flat_number(text, b"bounce/").map(Name::Bounce))
+        .or(split_number(text, b"intdx/").map(Name::SplitIntd))
+        .or(split_number(text, b"todox/").map(Name::SplitTodo))
 }
 
 /// The number of a text that is a directory and a message number.

@@ -1,6 +1,6 @@
 -- A whole audit.
 use Rattle.std.proofs.Common.{◌≡◌, ◌≢◌, ◌⊎◌, ℕ, ◌<◌, ◌-◌, List, [], ◌∷◌, length, Option, Some, None, Bool, true, false, codes, map, take, drop, get_or, nat_cmp, refl, sym, ◌∙◌, ap, subst, ⊎_elim, arith}
-use Rattle.std.specs.Prelude.{◌↔◌, IsTrue, All, Contains}
+use Rattle.std.specs.Prelude.{◌||◌, ◌↔◌, IsTrue, All, Contains}
 use Rattle.std.specs.BTreeMap.{BTreeMap, IsOrdered, get}
 use Rattle.std.specs.List.Sorted.{IsStrictlyIncreasing}
 use Rattle.std.proofs.lemmas.Bool.{false≢true}
@@ -14,7 +14,7 @@ use Rattle.mail_bytes.specs.Told.{OnTold}
 use Rattle.call_fs.specs.Disk.{Disk}
 use Rattle.queue_paths.specs.Dirs.{queue_dirs}
 use Rattle.queue_paths.specs.Names.{Part, is_number}
-use Rattle.queue_paths.specs.Names.Part.{Mess, Intd, Todo, Info, Local, Remote, Bounce}
+use Rattle.queue_paths.specs.Names.Part.{Mess, Intd, Todo, Info, Local, Remote, Bounce, SplitIntd, SplitTodo}
 use Rattle.queue_states.specs.declared.state.State.{State}
 use Rattle.queue_states.specs.declared.files.Files.{Files}
 use Rattle.queue_states.specs.States.{state_by, state_of, is_there}
@@ -27,15 +27,16 @@ use Rattle.queue_states.proofs.Searches.{told_both, told_each}
 
 -- the state of files that are there just if these tests say so
 state_same : (files : Files) (test : Part → Bool) → ((part : Part) → has files part ≡ test part)
-    → state_with files ≡ state_by (test Mess) (test Intd) (test Todo) (test Info) (test Local) (test Remote) (test Bounce)
+    → state_with files ≡ state_by (test Mess) (test Intd || test SplitIntd) (test Todo || test SplitTodo) (test Info) (test Local) (test Remote) (test Bounce)
 state_same files test same =
-    ap (λ x. state_by x files.intd files.todo files.info files.local files.remote files.bounce) (same Mess)
-    ∙ ap (λ x. state_by (test Mess) x files.todo files.info files.local files.remote files.bounce) (same Intd)
-    ∙ ap (λ x. state_by (test Mess) (test Intd) x files.info files.local files.remote files.bounce) (same Todo)
-    ∙ ap (λ x. state_by (test Mess) (test Intd) (test Todo) x files.local files.remote files.bounce) (same Info)
-    ∙ ap (λ x. state_by (test Mess) (test Intd) (test Todo) (test Info) x files.remote files.bounce) (same Local)
-    ∙ ap (λ x. state_by (test Mess) (test Intd) (test Todo) (test Info) (test Local) x files.bounce) (same Remote)
-    ∙ ap (λ x. state_by (test Mess) (test Intd) (test Todo) (test Info) (test Local) (test Remote) x) (same Bounce)
+    let either = λ (a b : Part) (i : has files a ≡ test a) (j : has files b ≡ test b). ap (λ x. x || has files b) i ∙ ap (λ x. test a || x) j in
+    ap (λ x. state_by x (files.intd || files.split_intd) (files.todo || files.split_todo) files.info files.local files.remote files.bounce) (same Mess)
+    ∙ ap (λ x. state_by (test Mess) x (files.todo || files.split_todo) files.info files.local files.remote files.bounce) (either Intd SplitIntd (same Intd) (same SplitIntd))
+    ∙ ap (λ x. state_by (test Mess) (test Intd || test SplitIntd) x files.info files.local files.remote files.bounce) (either Todo SplitTodo (same Todo) (same SplitTodo))
+    ∙ ap (λ x. state_by (test Mess) (test Intd || test SplitIntd) (test Todo || test SplitTodo) x files.local files.remote files.bounce) (same Info)
+    ∙ ap (λ x. state_by (test Mess) (test Intd || test SplitIntd) (test Todo || test SplitTodo) (test Info) x files.remote files.bounce) (same Local)
+    ∙ ap (λ x. state_by (test Mess) (test Intd || test SplitIntd) (test Todo || test SplitTodo) (test Info) (test Local) x files.bounce) (same Remote)
+    ∙ ap (λ x. state_by (test Mess) (test Intd || test SplitIntd) (test Todo || test SplitTodo) (test Info) (test Local) (test Remote) x) (same Bounce)
 
 -- two truths that follow from each other
 same_truth : (a b : Bool) → (a ≡ true → b ≡ true) → (b ≡ true → a ≡ true) → a ≡ b

@@ -11,7 +11,7 @@ use Rattle.call_fs.specs.Disk.{Disk}
 use Rattle.call_fs.specs.Apply.{StandsAfter, IsNextName, IsLastName}
 use Rattle.queue_paths.specs.Names.{Name, Part, path, is_number, used_name}
 use Rattle.queue_paths.specs.Names.Name.{Pid, Of}
-use Rattle.queue_paths.specs.Names.Part.{Mess, Intd, Todo, Info, Local, Remote, Bounce}
+use Rattle.queue_paths.specs.Names.Part.{Mess, Intd, Todo, Info, Local, Remote, Bounce, SplitIntd, SplitTodo}
 use Rattle.queue_paths.proofs.Paths.{used_name-path, is_number_tells}
 use Rattle.queue_states.specs.declared.files.Files.{Files}
 use Rattle.queue_states.specs.States.{is_there}
@@ -31,25 +31,17 @@ same_or_kept Info Info files = inl refl
 same_or_kept Local Local files = inl refl
 same_or_kept Remote Remote files = inl refl
 same_or_kept Bounce Bounce files = inl refl
+same_or_kept SplitIntd SplitIntd files = inl refl
+same_or_kept SplitTodo SplitTodo files = inl refl
 same_or_kept a b files = inr refl
 
 has_own : (part : Part) (files : Files) → has (with_part part files) part ≡ true
 has_own Mess files = refl
-has_own Intd files = refl
-has_own Todo files = refl
-has_own Info files = refl
-has_own Local files = refl
-has_own Remote files = refl
-has_own Bounce files = refl
+has_own part files = refl
 
 has_none : (part : Part) → has no_files part ≡ false
 has_none Mess = refl
-has_none Intd = refl
-has_none Todo = refl
-has_none Info = refl
-has_none Local = refl
-has_none Remote = refl
-has_none Bounce = refl
+has_none part = refl
 
 -- what was found of a number, as its files
 has_files : (o : Option Files) (part : Part) → has_in o part ≡ has (unwrap_or o no_files) part

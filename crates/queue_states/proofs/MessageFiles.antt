@@ -12,7 +12,7 @@ use Rattle.call_fs.specs.Apply.{StandsAfter, IsLater}
 use Rattle.queue_paths.specs.Dirs.{queue_dirs, splits_of}
 use Rattle.queue_paths.specs.Names.{Name, Part, path, split, parse, is_number, is_used, used, used_name}
 use Rattle.queue_paths.specs.Names.Name.{Of}
-use Rattle.queue_paths.specs.Names.Part.{Mess, Intd, Todo, Info, Local, Remote, Bounce}
+use Rattle.queue_paths.specs.Names.Part.{Mess, Intd, Todo, Info, Local, Remote, Bounce, SplitIntd, SplitTodo}
 use Rattle.queue_paths.proofs.Paths.{path-parse, is_number_tells}
 use Rattle.queue_states.specs.States.{is_there}
 
@@ -75,8 +75,11 @@ abbrev flats : List (List ℕ)
 flats = codes "intd" ∷ codes "todo" ∷ codes "bounce" ∷ []
 
 -- those of the splits, from each directory on
+abbrev from_intdx : List (List ℕ)
+from_intdx = splits_of (codes "intdx") 23 ++ splits_of (codes "todox") 23
+
 abbrev from_remote : List (List ℕ)
-from_remote = splits_of (codes "remote") 23
+from_remote = splits_of (codes "remote") 23 ++ from_intdx
 
 abbrev from_local : List (List ℕ)
 from_local = splits_of (codes "local") 23 ++ from_remote
@@ -102,6 +105,9 @@ local_one dir here = info_one dir (Contains-append_right (splits_of (codes "info
 remote_one : (dir : List ℕ) → Contains from_remote dir → Contains (drop 1 queue_dirs) dir
 remote_one dir here = local_one dir (Contains-append_right (splits_of (codes "local") 23) from_remote dir here)
 
+intdx_one : (dir : List ℕ) → Contains from_intdx dir → Contains (drop 1 queue_dirs) dir
+intdx_one dir here = remote_one dir (Contains-append_right (splits_of (codes "remote") 23) from_intdx dir here)
+
 -- a number's own split
 own : (dir : List ℕ) (n : ℕ) → Contains (splits_of dir 23) (dir ++ 47 ∷ digits (split n))
 own dir n = among_splits dir 23 (split n) (split_low n)
@@ -120,4 +126,12 @@ lies_in Info n =
 lies_in Local n =
     let at = codes "local" ++ 47 ∷ digits (split n) in
     record { dir = at; one = local_one at (Contains-append_left (splits_of (codes "local") 23) from_remote at (own (codes "local") n)); path_is = refl }
-lies_in Remote n = let at = codes "remote" ++ 47 ∷ digits (split n) in record { dir = at; one = remote_one at (own (codes "remote") n); path_is = refl }
+lies_in Remote n =
+    let at = codes "remote" ++ 47 ∷ digits (split n) in
+    record { dir = at; one = remote_one at (Contains-append_left (splits_of (codes "remote") 23) from_intdx at (own (codes "remote") n)); path_is = refl }
+lies_in SplitIntd n =
+    let at = codes "intdx" ++ 47 ∷ digits (split n) in
+    record { dir = at; one = intdx_one at (Contains-append_left (splits_of (codes "intdx") 23) (splits_of (codes "todox") 23) at (own (codes "intdx") n)); path_is = refl }
+lies_in SplitTodo n =
+    let at = codes "todox" ++ 47 ∷ digits (split n) in
+    record { dir = at; one = intdx_one at (Contains-append_right (splits_of (codes "intdx") 23) (splits_of (codes "todox") 23) at (own (codes "todox") n)); path_is = refl }

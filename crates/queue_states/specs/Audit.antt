@@ -10,7 +10,7 @@ use Rattle.queue_states.specs.declared.outcome.Audit.{Audit}
 use Rattle.queue_states.specs.States.{is_there, state_of}
 use Rattle.queue_states.specs.Listing.{AreNamesIn}
 
--- one of the seven files of this number is there
+-- one of the files of this number is there
 abbrev pub HasFile : Disk → ℕ → Type 0
 HasFile d n = (part : Part) × IsTrue (is_there d part n)
 
@@ -18,7 +18,7 @@ HasFile d n = (part : Part) × IsTrue (is_there d part n)
 abbrev pub IsAscending : List (ℕ × State) → Type 0
 IsAscending states = IsStrictlyIncreasing (map (λ entry. entry.0) states)
 
--- each message number, a u64 from 1, that has one of the seven files, with its state, and nothing else
+-- each message number, a u64 from 1, that has one of its files, with its state, and nothing else
 abbrev pub AreStates : Disk → List (ℕ × State) → Type 0
 AreStates d states =
     (n : ℕ) (state : State) → Contains states (n, state) ↔ (IsTrue (is_number n) × HasFile d n × (state ≡ state_of d n))

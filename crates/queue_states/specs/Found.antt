@@ -1,12 +1,12 @@
 -- Which of a number's files were found. What was found so far is a map from numbers to files.
-use Rattle.std.specs.Prelude.{◌≡◌, ◌≢◌, ◌⊎◌, ◌↔◌, ℕ, List, ◌∷◌, ◌++◌, Bool, true, false, Option, Some, None, IsTrue, Contains}
+use Rattle.std.specs.Prelude.{◌≡◌, ◌≢◌, ◌⊎◌, ◌||◌, ◌↔◌, ℕ, List, ◌∷◌, ◌++◌, Bool, true, false, Option, Some, None, IsTrue, Contains}
 use Rattle.std.specs.Ordering.{nat_cmp}
 use Rattle.std.specs.BTreeMap.{BTreeMap, get}
 use Rattle.mail_bytes.specs.Decimal.{digits}
 use Rattle.call_fs.specs.Disk.{Disk}
 use Rattle.queue_paths.specs.Names.{Name, Part, path, is_number}
 use Rattle.queue_paths.specs.Names.Name.{Pid, Of}
-use Rattle.queue_paths.specs.Names.Part.{Mess, Intd, Todo, Info, Local, Remote, Bounce}
+use Rattle.queue_paths.specs.Names.Part.{Mess, Intd, Todo, Info, Local, Remote, Bounce, SplitIntd, SplitTodo}
 use Rattle.queue_states.specs.declared.state.State.{State}
 use Rattle.queue_states.specs.declared.files.Files.{Files}
 use Rattle.queue_states.specs.States.{state_by, is_there}
@@ -19,6 +19,8 @@ has files Info = files.info
 has files Local = files.local
 has files Remote = files.remote
 has files Bounce = files.bounce
+has files SplitIntd = files.split_intd
+has files SplitTodo = files.split_todo
 
 -- one file more
 abbrev pub with_part : Part → Files → Files
@@ -29,6 +31,8 @@ with_part Info files = record files { info = true }
 with_part Local files = record files { local = true }
 with_part Remote files = record files { remote = true }
 with_part Bounce files = record files { bounce = true }
+with_part SplitIntd files = record files { split_intd = true }
+with_part SplitTodo files = record files { split_todo = true }
 
 abbrev pub with_name : Name → Files → Files
 with_name (Pid pid start seq) files = files
@@ -40,11 +44,11 @@ number_of (Pid pid start seq) = None
 number_of (Of part n) = Some n
 
 abbrev pub no_files : Files
-no_files = record { mess = false; intd = false; todo = false; info = false; local = false; remote = false; bounce = false }
+no_files = record { mess = false; intd = false; todo = false; info = false; local = false; remote = false; bounce = false; split_intd = false; split_todo = false }
 
 -- the state of a number that has these files
 abbrev pub state_with : Files → State
-state_with files = state_by files.mess files.intd files.todo files.info files.local files.remote files.bounce
+state_with files = state_by files.mess (files.intd || files.split_intd) (files.todo || files.split_todo) files.info files.local files.remote files.bounce
 
 -- what is told of a number
 abbrev pub entry_of : ℕ × Files → ℕ × State

@@ -8,7 +8,7 @@ use Rattle.queue_paths.specs.Names.Name.{Of}
 use Rattle.queue_states.specs.declared.state.State.{State}
 use Rattle.queue_states.specs.declared.state.State.TheVariants.{S1, S2, S3, S4, S5, Other}
 
--- by which files are there: mess, intd, todo, info, local, remote, bounce
+-- by which files are there: mess, intd, todo, info, local, remote, bounce; intd and todo under a name of either layout
 abbrev pub state_by : Bool → Bool → Bool → Bool → Bool → Bool → Bool → State
 state_by false false false false false false false = S1
 state_by true false false false false false false = S2

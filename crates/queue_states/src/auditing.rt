@@ -13,7 +13,7 @@ use std::alloc::Global;
 use std::collections::BTreeMap;
 
 /// Looks at a queue (qmail's INTERNALS, "Queue structure"): counts the names in `pid/`, and tells the state of each number
-/// that has one of the seven files. Other names in the other directories are passed over. It searches for names and does
+/// that has one of the files of a message. Other names in the other directories are passed over. It searches for names and does
 /// nothing else, so it opens and changes nothing. For n names it makes n searches and one more for each directory, and
 /// takes time in proportion to n log n beside them. A search reads no clock, so the moment `_now` isn't looked at.
 ///

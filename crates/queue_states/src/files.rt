@@ -32,6 +32,10 @@ pub struct Files {
     pub remote: bool,
     /// The failures.
     pub bounce: bool,
+    /// The envelope while it is written, of the split layout.
+    pub split_intd: bool,
+    /// The envelope of a queued message, of the split layout.
+    pub split_todo: bool,
 }
 
 impl Files {
@@ -47,6 +51,8 @@ impl Files {
             local: false,
             remote: false,
             bounce: false,
+            split_intd: false,
+            split_todo: false,
         }
     }
 
@@ -72,6 +78,14 @@ impl Files {
                 bounce: true,
                 ..self
             },
+            Name::SplitIntd(_) => Files {
+                split_intd: true,
+                ..self
+            },
+            Name::SplitTodo(_) => Files {
+                split_todo: true,
+                ..self
+            },
         }
     }
 
@@ -81,8 +95,8 @@ impl Files {
     {
         state_of([
             self.mess,
-            self.intd,
-            self.todo,
+            self.intd || self.split_intd,
+            self.todo || self.split_todo,
             self.info,
             self.local,
             self.remote,
@@ -128,7 +142,9 @@ fn number_of(name: Name) -> Option<u64>
         | Name::Info(n)
         | Name::Local(n)
         | Name::Remote(n)
-        | Name::Bounce(n) => Some(n),
+        | Name::Bounce(n)
+        | Name::SplitIntd(n)
+        | Name::SplitTodo(n) => Some(n),
     }
 }
 

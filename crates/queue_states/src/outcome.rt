@@ -9,7 +9,7 @@ use thiserror::Error;
 pub struct Audit {
     /// How many names `pid/` has, whatever they are.
     pub pids: u64,
-    /// Each number that has one of the seven files of a message, in ascending order, with its state.
+    /// Each number that has one of the files of a message, in ascending order, with its state.
     pub states: StateList,
 }
 

@@ -1,4 +1,4 @@
-//! The states of a message number, by which of its seven files are there.
+//! The states of a message number, by which of its files are there.
 ghost use Rattle.std.specs.Prelude.{◌≡◌};
 ghost use Rattle.queue_states.specs.States.{state_by_all};
 ghost use Rattle.queue_states.specs.Lines.{state_word};

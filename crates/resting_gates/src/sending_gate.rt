@@ -19,7 +19,7 @@ const AT_IDLE_TURNS: u64 = 1;
 /// The gate of a sender. Each pause sleeps until a piece is pushed, or a limit is over:
 ///
 /// - `pause(0, k)`, before the k-th look in a row that found nothing to do: 10 milliseconds, doubled up to a second
-/// - `pause(1, k)`, after the k-th idle turn in a row: what the environment tells for that
+/// - `pause(1, k)`, after the k-th idle turn in a row: what the environment tells for that, or until the queue is nudged
 /// - any other, before the turn that is the k-th from the last, with deliveries in flight: its share of what is left of the
 ///   time that children have to end, so that all these pauses together are no longer than that
 #[derive(Drop)]
@@ -34,11 +34,18 @@ pub struct SendingGate<R: Wait + Drop, Q: Restful + Drop> {
 pub trait Restful {
     /// Sleeps until a piece is there, at most so long; it may also return for no reason.
     fn rest<R: Wait>(&self, rt: &R, most: Duration);
+
+    /// The same, or until somebody nudges: not at all after a nudge for which nobody slept so since.
+    fn rest_for_news<R: Wait>(&self, rt: &R, most: Duration);
 }
 
 impl Restful for PieceQueue {
     fn rest<R: Wait>(&self, rt: &R, most: Duration) {
         PieceQueue::rest(self, rt, most);
+    }
+
+    fn rest_for_news<R: Wait>(&self, rt: &R, most: Duration) {
+        PieceQueue::rest_for_news(self, rt, most);
     }
 }
 
@@ -72,8 +79,14 @@ impl<R: Wait + Drop, Q: Restful + Drop> Gate for SendingGate<R, Q> {
             AT_IDLE_TURNS => self.idle,
             _ => self.share(step),
         };
-        if most > 0 {
-            self.queue.rest(&self.rt, Duration::from_millis(most));
+        if most == 0 {
+            return;
+        }
+        let most = Duration::from_millis(most);
+        if mail == AT_IDLE_TURNS {
+            self.queue.rest_for_news(&self.rt, most);
+        } else {
+            self.queue.rest(&self.rt, most);
         }
     }
 }

@@ -6,12 +6,14 @@ use Rattle.call_fs.specs.Apply.{empty_file}
 use Rattle.call_fs.specs.Disk.{Disk}
 use Rattle.call_fs.specs.Maps.{put, put_at}
 use Rattle.call_fs.proofs.Maps.{put_at_cases, put_at_same, put_at_other}
-use Rattle.mem_fs.specs.MemDisk.{IsGreatestFree, Places, with_dir, with_file}
+use Rattle.call_fs.specs.Free.{IsGreatestFree}
+use Rattle.call_fs.specs.Placing.{with_dir, with_file, HasMade}
+use Rattle.mem_fs.specs.MemDisk.{Places}
 use Rattle.mem_files.specs.MemFile.{settled_file}
 use Rattle.script_words.specs.declared.entry.Entry.{Entry}
 use Rattle.script_words.specs.declared.entry.Entry.TheVariants.{File as FileOf, Dir}
 use Rattle.script_words.specs.Entries.{dirs_above}
-use Rattle.script_disks.specs.FirstDisk.{bare_dirs, HasMade, AreMade, Enters, EntersAll, IsFirstDisk}
+use Rattle.script_disks.specs.FirstDisk.{bare_dirs, AreMade, Enters, EntersAll, IsFirstDisk}
 use Rattle.crash_fs.proofs.Decided.{listed, same_text}
 
 -- Nothing is open, and of the numbers just so many of the greatest are named.

@@ -4,12 +4,15 @@ use Rattle.std.proofs.lemmas.Bool.{cases_lt}
 use mathlib.Core.Path.{fun_ext}
 use Rattle.call_fs.specs.Disk.{Disk, File, Open}
 use Rattle.call_fs.specs.Maps.{put, put_at}
-use Rattle.mem_fs.specs.MemDisk.{IsGreatestFree, Places, PlacesNew}
+use Rattle.call_fs.specs.Free.{IsGreatestFree}
+use Rattle.call_fs.specs.Placing.{PlacesNew}
+use Rattle.mem_fs.specs.MemDisk.{Places}
 use Rattle.mem_files.specs.MemFile.{settled_file}
 use Rattle.script_words.specs.declared.entry.Entry.{Entry}
 use Rattle.script_words.specs.declared.entry.Entry.TheVariants.{File as FileOf, Dir}
 use Rattle.script_words.specs.Entries.{dirs_above}
-use Rattle.script_disks.specs.FirstDisk.{IsBareDisk, HasMade, AreMade, Enters, EntersAll, IsFirstDisk}
+use Rattle.call_fs.specs.Placing.{HasMade}
+use Rattle.script_disks.specs.FirstDisk.{IsBareDisk, AreMade, Enters, EntersAll, IsFirstDisk}
 
 one_bare : (d e : Disk) → IsBareDisk d → IsBareDisk e → d ≡ e
 one_bare d e p q =

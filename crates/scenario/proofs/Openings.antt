@@ -6,19 +6,20 @@ use Rattle.call_fs.specs.Apply.{empty_file}
 use Rattle.call_fs.specs.Disk.{Disk, File, Among, IsSynced}
 use Rattle.call_fs.specs.Maps.{put, put_at}
 use Rattle.call_fs.proofs.Maps.{put_cases, put_at_cases}
-use Rattle.mem_fs.specs.MemDisk.{Places, with_dir, with_file}
+use Rattle.call_fs.specs.Placing.{with_dir, with_file, HasMade}
+use Rattle.mem_fs.specs.MemDisk.{Places}
 use Rattle.mem_files.specs.MemFile.{settled_file}
 use Rattle.mem_files.proofs.Survivors.{Lasts, lasts-settled}
 use Rattle.mail_world.specs.History.{Opening}
 use Rattle.queue_paths.specs.Dirs.{queue_dirs}
 use Rattle.queue_paths.specs.Names.{Part, path}
-use Rattle.queue_paths.specs.Names.Part.{Mess, Intd, Todo, Info, Local, Remote, Bounce}
+use Rattle.queue_paths.specs.Names.Part.{Mess, Intd, Todo, Info, Local, Remote, Bounce, SplitIntd, SplitTodo}
 use Rattle.queue_paths.specs.Names.Name.{Of}
 use Rattle.script_words.specs.declared.entry.Entry.{Entry}
 use Rattle.script_words.specs.declared.entry.Entry.TheVariants.{File as FileOf, Dir}
 use Rattle.script_words.specs.Entries.{IsEntryPath, dirs_above, entry_dirs, path_of}
 use Rattle.script_lines.specs.Contents.{HaveEntryPaths}
-use Rattle.script_disks.specs.FirstDisk.{IsBareDisk, HasMade, AreMade, Enters, EntersAll, IsFirstDisk}
+use Rattle.script_disks.specs.FirstDisk.{IsBareDisk, AreMade, Enters, EntersAll, IsFirstDisk}
 use Rattle.crash_fs.specs.Answers.{IsFinite}
 use Rattle.crash_fs.proofs.FiniteDisks.{finite_empty, finite_placed}
 use Rattle.crash_fs.proofs.InOrder.{contains_among}
@@ -58,6 +59,8 @@ no_part Todo n = none_of 116 (path (Of Todo n)) refl (λ e. omega arith) (λ e. 
 no_part Info n = none_of 105 (path (Of Info n)) refl (λ e. omega arith) (λ e. omega arith) (λ e. omega arith) (λ e. omega arith)
 no_part Local n = none_of 108 (path (Of Local n)) refl (λ e. omega arith) (λ e. omega arith) (λ e. omega arith) (λ e. omega arith)
 no_part Remote n = none_of 114 (path (Of Remote n)) refl (λ e. omega arith) (λ e. omega arith) (λ e. omega arith) (λ e. omega arith)
+no_part SplitIntd n = none_of 105 (path (Of SplitIntd n)) refl (λ e. omega arith) (λ e. omega arith) (λ e. omega arith) (λ e. omega arith)
+no_part SplitTodo n = none_of 116 (path (Of SplitTodo n)) refl (λ e. omega arith) (λ e. omega arith) (λ e. omega arith) (λ e. omega arith)
 no_part Bounce n = none_of 98 (path (Of Bounce n)) refl (λ e. omega arith) (λ e. omega arith) (λ e. omega arith) (λ e. omega arith)
 
 -- What entries keep

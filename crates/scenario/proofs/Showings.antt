@@ -16,8 +16,8 @@ use Rattle.call_fs.specs.Disk.{Disk}
 use Rattle.mem_fs.specs.MemDisk.{disk_of}
 use Rattle.queue_inject.specs.declared.injection.Arguments.{Arguments}
 use Rattle.queue_paths.specs.Names.{Name, is_number, is_used, parse, used}
-use Rattle.queue_paths.specs.Names.Name.{Of, Pid}
-use Rattle.queue_paths.specs.Names.Part.{Mess, Intd, Todo, Info, Local, Remote, Bounce}
+use Rattle.queue_paths.specs.Names.Name.{Of}
+use Rattle.queue_paths.specs.Names.Part.{Mess}
 use Rattle.world_events.specs.declared.books.Entry.{Entry}
 use Rattle.world_events.specs.declared.books.Life.{Life as ToldLife}
 use Rattle.world_events.specs.declared.books.Life.TheVariants as told_life
@@ -98,18 +98,12 @@ not_mess false name none = tt
 
 used_mess : (name : Option Name) → IsUsed (mess_number (used name))
 used_mess None = tt
-used_mess (Some (Pid pid start seq)) = not_mess (is_used (Pid pid start seq)) (Pid pid start seq) refl
 used_mess (Some (Of Mess n)) = by (is_number n) refl
   where
     by : (b : Bool) → is_number n ≡ b → IsUsed (mess_number (if b then Some (Of Mess n) else None))
     by true is = is
     by false is = tt
-used_mess (Some (Of Intd n)) = not_mess (is_number n) (Of Intd n) refl
-used_mess (Some (Of Todo n)) = not_mess (is_number n) (Of Todo n) refl
-used_mess (Some (Of Info n)) = not_mess (is_number n) (Of Info n) refl
-used_mess (Some (Of Local n)) = not_mess (is_number n) (Of Local n) refl
-used_mess (Some (Of Remote n)) = not_mess (is_number n) (Of Remote n) refl
-used_mess (Some (Of Bounce n)) = not_mess (is_number n) (Of Bounce n) refl
+used_mess (Some name) = not_mess (is_used name) name refl
 
 used_call : (c : CallData) (reply : Answer) → IsUsed (linked_number c reply)
 used_call (Link old new) Done = used_mess (parse new)

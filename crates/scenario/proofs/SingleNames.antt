@@ -7,7 +7,8 @@ use Rattle.mem_fs.specs.MemDisk.{Places}
 use Rattle.script_words.specs.declared.entry.Entry.{Entry}
 use Rattle.script_words.specs.declared.entry.Entry.TheVariants.{File, Dir}
 use Rattle.script_words.specs.Entries.{dirs_above}
-use Rattle.script_disks.specs.FirstDisk.{HasMade, AreMade, Enters, EntersAll, IsFirstDisk}
+use Rattle.call_fs.specs.Placing.{HasMade}
+use Rattle.script_disks.specs.FirstDisk.{AreMade, Enters, EntersAll, IsFirstDisk}
 
 abbrev AreSingle : Disk → Type 0
 AreSingle d = (a b : List ℕ) (n : ℕ) → d.names a ≡ Some n → d.names b ≡ Some n → a ≡ b

@@ -13,7 +13,7 @@ use mail_bytes::{ByteText, Memory};
 use mail_world::Entry;
 use mem_fs::MemFs;
 use queue_paths::Name;
-use script_disks::{Routed, is_among, is_there, is_unmarked, noted_on, routes_of};
+use script_disks::{Routed, is_among, is_either, is_unmarked, noted_on, routes_of};
 use script_fates::{Fates, Spot};
 use script_traces::{RecipientFate, alike, put_fates, put_life};
 use std::alloc::Global;
@@ -187,7 +187,7 @@ impl Overview<'_> {
         ensures { result ≡ is_queued (disk_of self.now.disk.now.held) number }
     {
         match number {
-            Some(n) => is_there(self.disk, Name::Todo(n)),
+            Some(n) => is_either(self.disk, Name::Todo(n), Name::SplitTodo(n)),
             None => false,
         }
     }

@@ -10,7 +10,7 @@ use Rattle.call_fs.specs.Apply.{StandsAfter}
 use Rattle.queue_paths.specs.declared.names.Name.{Name as Owned}
 use Rattle.queue_paths.specs.declared.names.Name.TheVariants as owned
 use Rattle.queue_paths.specs.Names.{Part, name_of, path, split, split_text, is_number, used_name}
-use Rattle.queue_paths.specs.Names.Part.{Mess, Intd, Todo, Info, Local, Remote, Bounce}
+use Rattle.queue_paths.specs.Names.Part.{Mess, Intd, Todo, Info, Local, Remote, Bounce, SplitIntd, SplitTodo}
 use Rattle.queue_paths.specs.Names.Name.{Of}
 use Rattle.queue_paths.proofs.Paths.{used_name-path, is_number_tells}
 use Rattle.queue_states.specs.States.{is_there}
@@ -21,10 +21,11 @@ use Rattle.queue_states.specs.Listing.{AreNamesIn}
 same_number : (part other : Part) (m n : ℕ) → Some (Of part m) ≡ Some (Of other n) → m ≡ n
 same_number part other m n e = cc
 
--- one of the seven names with this number
+-- one of the names with this number
 abbrev pub IsNumbered : Owned → ℕ → Type 0
 IsNumbered name m =
-    (name ≡ owned.Mess m) ⊎ ((name ≡ owned.Intd m) ⊎ ((name ≡ owned.Todo m) ⊎ ((name ≡ owned.Info m) ⊎ ((name ≡ owned.Local m) ⊎ ((name ≡ owned.Remote m) ⊎ (name ≡ owned.Bounce m))))))
+    (name ≡ owned.Mess m) ⊎ ((name ≡ owned.Intd m) ⊎ ((name ≡ owned.Todo m) ⊎ ((name ≡ owned.Info m) ⊎ ((name ≡ owned.Local m) ⊎ ((name ≡ owned.Remote m)
+    ⊎ ((name ≡ owned.Bounce m) ⊎ ((name ≡ owned.SplitIntd m) ⊎ (name ≡ owned.SplitTodo m))))))))
 
 part_of : (name : Owned) (m : ℕ) → IsNumbered name m → (part : Part) × (name_of name ≡ Of part m)
 part_of name m is =
@@ -33,7 +34,9 @@ part_of name m is =
     (⊎_elim (λ e. (Todo, ap name_of e))
     (⊎_elim (λ e. (Info, ap name_of e))
     (⊎_elim (λ e. (Local, ap name_of e))
-    (⊎_elim (λ e. (Remote, ap name_of e)) (λ e. (Bounce, ap name_of e))))))) is
+    (⊎_elim (λ e. (Remote, ap name_of e))
+    (⊎_elim (λ e. (Bounce, ap name_of e))
+    (⊎_elim (λ e. (SplitIntd, ap name_of e)) (λ e. (SplitTodo, ap name_of e))))))))) is
 
 -- a name with a number has that
 pub number_is : (o : Option Owned) (name : Owned) (m : ℕ) → o ≡ Some name → IsNumbered name m → (n : ℕ) → (Some m ≡ Some n) ↔ ((part : Part) × (option_map name_of o ≡ Some (Of part n)))
@@ -231,7 +234,7 @@ gathered_deep d flats deeps dir old new g kept only all = record {
   deep = All-push (FoundIn d split_text new) deeps dir (still d split_text old new deeps kept g.deep) all;
 }
 
--- the directories of the seven parts
+-- the directories of the parts
 abbrev pub flat_dirs : List (List ℕ)
 flat_dirs = codes "intd" ∷ codes "todo" ∷ codes "bounce" ∷ []
 
@@ -245,7 +248,7 @@ flats_gathered d numbers only all = record {
 }
 
 abbrev pub split_dirs : List (List ℕ)
-split_dirs = codes "mess" ∷ codes "info" ∷ codes "local" ∷ codes "remote" ∷ []
+split_dirs = codes "mess" ∷ codes "info" ∷ codes "local" ∷ codes "remote" ∷ codes "intdx" ∷ codes "todox" ∷ []
 
 pub found_part : (d : Disk) (numbers : List ℕ) → Gathered d flat_dirs split_dirs numbers → (part : Part) (n : ℕ) → IsTrue (is_number n) → IsTrue (is_there d part n) → Contains numbers n
 unfolding path
@@ -256,6 +259,8 @@ found_part d numbers g Info n number there = g.deep 1 [] (omega arith) Info n nu
 found_part d numbers g Local n number there = g.deep 2 [] (omega arith) Local n number refl there
 found_part d numbers g Remote n number there = g.deep 3 [] (omega arith) Remote n number refl there
 found_part d numbers g Bounce n number there = g.flat 2 [] (omega arith) Bounce n number refl there
+found_part d numbers g SplitIntd n number there = g.deep 4 [] (omega arith) SplitIntd n number refl there
+found_part d numbers g SplitTodo n number there = g.deep 5 [] (omega arith) SplitTodo n number refl there
 
 -- the directory at a place of a list was seen
 pub flat_at : (d : Disk) (dirs : List (Bor (List ℕ))) (i : ℕ) (b : Bor (List ℕ)) (deeps : List (List ℕ)) (old new : List ℕ) → Gathered d (texts (take i dirs)) deeps old → i < length dirs

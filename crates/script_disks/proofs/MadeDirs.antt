@@ -7,7 +7,8 @@ use Rattle.mem_fs.specs.MemDisk.{Places}
 use Rattle.script_words.specs.declared.entry.Entry.{Entry}
 use Rattle.script_words.specs.declared.entry.Entry.TheVariants.{Dir}
 use Rattle.script_words.specs.Entries.{dirs_above}
-use Rattle.script_disks.specs.FirstDisk.{HasMade, AreMade, Enters, EntersAll}
+use Rattle.call_fs.specs.Placing.{HasMade}
+use Rattle.script_disks.specs.FirstDisk.{AreMade, Enters, EntersAll}
 
 -- some, and then more
 pub made_both : (a mid b : Disk) (dirs more : List (List ℕ)) → AreMade a dirs mid → AreMade mid more b → AreMade a (dirs ++ more) b

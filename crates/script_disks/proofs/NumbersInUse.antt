@@ -10,7 +10,7 @@ use Rattle.std.proofs.lemmas.Bool.{false≢true}
 use Rattle.std.proofs.lemmas.List.Elements.{All-weaker, All-contains_itself}
 use Rattle.call_fs.specs.Disk.{Disk}
 use Rattle.queue_paths.specs.Names.{Part}
-use Rattle.queue_paths.specs.Names.Part.{Mess, Intd, Todo, Info, Local, Remote, Bounce}
+use Rattle.queue_paths.specs.Names.Part.{Mess, Intd, Todo, Info, Local, Remote, Bounce, SplitIntd, SplitTodo}
 use Rattle.queue_paths.proofs.Paths.{is_number_tells, is_number_if}
 use Rattle.queue_states.specs.declared.state.State.{State}
 use Rattle.queue_states.specs.declared.state.State.TheVariants.{S1, S2, S3, S4, S5, Other}
@@ -87,36 +87,44 @@ either : (a b : Bool) → (a || b) ≡ true → (a ≡ true) ⊎ (b ≡ true)
 either true b h = inl refl
 either false b h = inr h
 
--- whether one of the seven is true
+-- whether one of the names is there
 any_part : (f : Part → Bool) → Bool
-any_part f = any (f Mess) (f Intd) (f Todo) (f Info) (f Local) (f Remote) (f Bounce)
+any_part f = any (f Mess) (f Intd || f SplitIntd) (f Todo || f SplitTodo) (f Info) (f Local) (f Remote) (f Bounce)
+
+past_intd : (f : Part → Bool) (rest : Bool) → rest ≡ true → (f Mess || ((f Intd || f SplitIntd) || rest)) ≡ true
+past_intd f rest e = right (f Mess) _ (right (f Intd || f SplitIntd) rest e)
+
+past_todo : (f : Part → Bool) (rest : Bool) → rest ≡ true → (f Mess || ((f Intd || f SplitIntd) || ((f Todo || f SplitTodo) || rest))) ≡ true
+past_todo f rest e = past_intd f _ (right (f Todo || f SplitTodo) rest e)
 
 any_if : (f : Part → Bool) (part : Part) → f part ≡ true → any_part f ≡ true
 unfolding any_part
 any_if f Mess e = left (f Mess) _ e
-any_if f Intd e = right (f Mess) _ (left (f Intd) _ e)
-any_if f Todo e = right (f Mess) _ (right (f Intd) _ (left (f Todo) _ e))
-any_if f Info e = right (f Mess) _ (right (f Intd) _ (right (f Todo) _ (left (f Info) _ e)))
-any_if f Local e = right (f Mess) _ (right (f Intd) _ (right (f Todo) _ (right (f Info) _ (left (f Local) _ e))))
-any_if f Remote e = right (f Mess) _ (right (f Intd) _ (right (f Todo) _ (right (f Info) _ (right (f Local) _ (left (f Remote) _ e)))))
-any_if f Bounce e = right (f Mess) _ (right (f Intd) _ (right (f Todo) _ (right (f Info) _ (right (f Local) _ (right (f Remote) _ e)))))
+any_if f Intd e = right (f Mess) _ (left (f Intd || f SplitIntd) _ (left (f Intd) _ e))
+any_if f SplitIntd e = right (f Mess) _ (left (f Intd || f SplitIntd) _ (right (f Intd) _ e))
+any_if f Todo e = past_intd f _ (left (f Todo || f SplitTodo) _ (left (f Todo) _ e))
+any_if f SplitTodo e = past_intd f _ (left (f Todo || f SplitTodo) _ (right (f Todo) _ e))
+any_if f Info e = past_todo f _ (left (f Info) _ e)
+any_if f Local e = past_todo f _ (right (f Info) _ (left (f Local) _ e))
+any_if f Remote e = past_todo f _ (right (f Info) _ (right (f Local) _ (left (f Remote) _ e)))
+any_if f Bounce e = past_todo f _ (right (f Info) _ (right (f Local) _ (right (f Remote) _ e)))
 
 any_tells : (f : Part → Bool) → any_part f ≡ true → (part : Part) × (f part ≡ true)
 unfolding any_part
 any_tells f h =
     ⊎_elim (λ e. (Mess, e)) (λ k1.
-    ⊎_elim (λ e. (Intd, e)) (λ k2.
-    ⊎_elim (λ e. (Todo, e)) (λ k3.
+    ⊎_elim (λ e. ⊎_elim (λ i. (Intd, i)) (λ i. (SplitIntd, i)) (either (f Intd) _ e)) (λ k2.
+    ⊎_elim (λ e. ⊎_elim (λ i. (Todo, i)) (λ i. (SplitTodo, i)) (either (f Todo) _ e)) (λ k3.
     ⊎_elim (λ e. (Info, e)) (λ k4.
     ⊎_elim (λ e. (Local, e)) (λ k5.
     ⊎_elim (λ e. (Remote, e)) (λ e. (Bounce, e))
-    (either (f Remote) _ k5)) (either (f Local) _ k4)) (either (f Info) _ k3)) (either (f Todo) _ k2)) (either (f Intd) _ k1)) (either (f Mess) _ h)
+    (either (f Remote) _ k5)) (either (f Local) _ k4)) (either (f Info) _ k3)) (either (f Todo || f SplitTodo) _ k2)) (either (f Intd || f SplitIntd) _ k1)) (either (f Mess) _ h)
 
 tested : (d : Disk) (n : ℕ) → (if is_s1 (state_of d n) then not (any_part (λ part. is_there d part n)) else any_part (λ part. is_there d part n)) ≡ true
 unfolding any_part
 tested d n = subst (λ (state : State). (if is_s1 state then not (any_part (λ part. is_there d part n)) else any_part (λ part. is_there d part n)) ≡ true)
     (sym (state_named d n))
-    (one_tells (is_there d Mess n) (is_there d Intd n) (is_there d Todo n) (is_there d Info n) (is_there d Local n) (is_there d Remote n) (is_there d Bounce n))
+    (one_tells (is_there d Mess n) (is_there d Intd n || is_there d SplitIntd n) (is_there d Todo n || is_there d SplitTodo n) (is_there d Info n) (is_there d Local n) (is_there d Remote n) (is_there d Bounce n))
 
 not_s1 : (d : Disk) (n : ℕ) (part : Part) → is_there d part n ≡ true → state_of d n ≢ S1
 not_s1 d n part there e =

@@ -1,8 +1,9 @@
 -- The disk that a script begins with: some directories and no file, and then what the script's entries put there.
-use Rattle.std.specs.Prelude.{◌≡◌, ◌⊎◌, ℕ, List, [], ◌∷◌, ◌++◌, None, Contains, codes}
+use Rattle.std.specs.Prelude.{◌≡◌, ℕ, List, [], ◌∷◌, ◌++◌, None, codes}
 use Rattle.call_fs.specs.Apply.{empty_file}
 use Rattle.call_fs.specs.Disk.{Disk}
-use Rattle.mem_fs.specs.MemDisk.{Places, with_dir}
+use Rattle.call_fs.specs.Placing.{HasMade}
+use Rattle.mem_fs.specs.MemDisk.{Places}
 use Rattle.queue_paths.specs.Dirs.{queue_dirs}
 use Rattle.script_words.specs.declared.entry.Entry.{Entry}
 use Rattle.script_words.specs.declared.entry.Entry.TheVariants.{File, Dir}
@@ -23,11 +24,6 @@ pub record IsBareDisk (d : Disk) : Type 0 where
   pub empty : (name : List ℕ) → d.names name ≡ None
   pub fresh : (n : ℕ) → d.files n ≡ empty_file 0
   pub shut : (fd : ℕ) → d.opens fd ≡ None
-
--- a directory is made if it is missing
-abbrev pub HasMade : Disk → List ℕ → Disk → Type 0
-HasMade old dir new =
-    (Contains old.dirs dir × (new ≡ old)) ⊎ ((¬ (Contains old.dirs dir)) × (new ≡ with_dir old dir))
 
 -- directories are made if they are missing, one after the other
 abbrev pub AreMade : Disk → List (List ℕ) → Disk → Type 0

@@ -22,7 +22,7 @@ mod opening_disk;
 mod records;
 mod routes;
 
-pub use numbers::{is_there, names_of, numbers_of, state_on};
+pub use numbers::{is_either, names_of, numbers_of, state_on};
 pub use opening_disk::entered_disk;
 pub use records::{is_among, is_unmarked, noted_on};
 pub use routes::{Routed, routes_of};

@@ -1,5 +1,5 @@
 // The names and the message numbers that a disk holds.
-ghost use Rattle.std.specs.Prelude.{◌≡◌, ◌⊎◌, ◌↔◌, ◌++◌, ◌∷◌, [], ℕ, All, Contains, IfOk, IsTrue, OnOk, Some, codes, is_some, map, option_map};
+ghost use Rattle.std.specs.Prelude.{◌≡◌, ◌⊎◌, ◌||◌, ◌↔◌, ◌++◌, ◌∷◌, [], ℕ, All, Contains, IfOk, IsTrue, OnOk, Some, codes, is_some, map, option_map};
 ghost use Rattle.mail_bytes.specs.Decimal.{digits};
 ghost use Rattle.mem_fs.specs.MemDisk.{disk_of};
 ghost use Rattle.queue_paths.specs.Names.{Part, is_number, name_of, path, split_text, used_name};
@@ -114,7 +114,9 @@ fn number_in(name: Option<Name>) -> Option<u64>
         | Name::Info(n)
         | Name::Local(n)
         | Name::Remote(n)
-        | Name::Bounce(n) => Some(n),
+        | Name::Bounce(n)
+        | Name::SplitIntd(n)
+        | Name::SplitTodo(n) => Some(n),
     }
 }
 
@@ -124,13 +126,21 @@ pub fn state_on(disk: &MemFs, number: u64) -> State
 {
     state_of([
         is_there(disk, Name::Mess(number)),
-        is_there(disk, Name::Intd(number)),
-        is_there(disk, Name::Todo(number)),
+        is_either(disk, Name::Intd(number), Name::SplitIntd(number)),
+        is_either(disk, Name::Todo(number), Name::SplitTodo(number)),
         is_there(disk, Name::Info(number)),
         is_there(disk, Name::Local(number)),
         is_there(disk, Name::Remote(number)),
         is_there(disk, Name::Bounce(number)),
     ])
+}
+
+/// Whether a file has one of two names.
+pub fn is_either(disk: &MemFs, flat: Name, split: Name) -> bool
+    ensures { result ≡ is_some ((disk_of disk.now.held).names (path (name_of flat)))
+        || is_some ((disk_of disk.now.held).names (path (name_of split))) }
+{
+    is_there(disk, flat) || is_there(disk, split)
 }
 
 /// Whether the file of a name is there.

@@ -2,7 +2,8 @@
 ghost use Rattle.std.specs.Prelude.{◌≡◌, [], IfOk, OnOk};
 ghost use Rattle.mem_fs.specs.MemDisk.{disk_of, held_nothing, with_held};
 ghost use Rattle.script_words.specs.Entries.{dirs_above};
-ghost use Rattle.script_disks.specs.FirstDisk.{with_dirs, HasMade, AreMade, Enters, EntersAll, IsFirstDisk};
+ghost use Rattle.call_fs.specs.Placing.{HasMade};
+ghost use Rattle.script_disks.specs.FirstDisk.{with_dirs, AreMade, Enters, EntersAll, IsFirstDisk};
 
 use crate::bare_dirs::{bare_dirs, put_dir};
 use mail_bytes::{ByteText, Memory};

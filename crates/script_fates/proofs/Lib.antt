@@ -1,3 +1,7 @@
+-- controls and lists are the same where each of their parts is
+pub mod Same
+-- control files that are kept
+pub mod Kept
 -- the lives of messages after a link, and after a report
 pub mod Lives
 -- by which controls a mail is routed

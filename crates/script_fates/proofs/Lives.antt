@@ -25,9 +25,9 @@ use Rattle.queue_inject.specs.declared.injection.Arguments.{Arguments}
 use Rattle.queue_law.specs.Books.{Books, Injection, accept, begun, booked, entered_in, linked, with_line}
 use Rattle.queue_law.specs.Ledgers.{Ledger, Line, Spot, line_in, unrouted}
 use Rattle.queue_law.specs.Ledgers.Line.{Delivers, Routes}
-use Rattle.queue_paths.specs.Names.{Name, is_number, parse, path, used, used_name}
-use Rattle.queue_paths.specs.Names.Name.{Of, Pid}
-use Rattle.queue_paths.specs.Names.Part.{Mess, Intd, Todo, Info, Local, Remote, Bounce}
+use Rattle.queue_paths.specs.Names.{Name, is_number, is_used, parse, path, used, used_name}
+use Rattle.queue_paths.specs.Names.Name.{Of}
+use Rattle.queue_paths.specs.Names.Part.{Mess, Intd, Todo, SplitIntd, SplitTodo}
 use Rattle.world_events.specs.Books.{mess_number, number_by}
 use Rattle.script_fates.specs.declared.fates.Fates.{Fates}
 use Rattle.script_fates.specs.declared.fates.Spot.{Spot as KeptSpot}
@@ -124,8 +124,6 @@ used_none n false is none = is
 used_none n true is none = absurd (cc)
 
 unnumbered : (f : Fates) (b : Books) (a : List ℕ) (args : Arguments) (old : List ℕ) (name : Option Name) → mess_number (used name) ≡ None → AreFates f b → AreFates f (linked b a args old name)
-unnumbered f b a args old None none h = h
-unnumbered f b a args old (Some (Pid pid start seq)) none h = h
 unnumbered f b a args old (Some (Of Mess n)) none h =
     let far = used_none n (is_number n) refl none in record {
       living = lives_apart f.routers (get nat_cmp f.living) b.living n (Some (begun a args n)) far h.living;
@@ -134,11 +132,8 @@ unnumbered f b a args old (Some (Of Mess n)) none h =
       placed = placed_put b.living n (Some (begun a args n)) (λ q is. ap (λ (q : Injection). q.number) (sym (some_is (begun a args n) q is))) h.placed;
     }
 unnumbered f b a args old (Some (Of Todo n)) none h = to_todo f b a n (bytes_eq old (path (Of Intd n))) h
-unnumbered f b a args old (Some (Of Intd n)) none h = h
-unnumbered f b a args old (Some (Of Info n)) none h = h
-unnumbered f b a args old (Some (Of Local n)) none h = h
-unnumbered f b a args old (Some (Of Remote n)) none h = h
-unnumbered f b a args old (Some (Of Bounce n)) none h = h
+unnumbered f b a args old (Some (Of SplitTodo n)) none h = to_todo f b a n (bytes_eq old (path (Of SplitIntd n))) h
+unnumbered f b a args old name none h = h
 
 -- A link of a message's name
 
@@ -203,16 +198,10 @@ not_mess n false name other told = cc
 
 name_is : (name : Option Name) (n : ℕ) → mess_number (used name) ≡ Some n → (name ≡ Some (Of Mess n)) × (is_number n ≡ true)
 name_is None n told = absurd (cc)
-name_is (Some (Pid pid start seq)) n told = absurd (not_mess n _ (Pid pid start seq) refl told)
 name_is (Some (Of Mess m)) n told =
     let it = used_mess n m (is_number m) refl told in
     (ap (λ (k : ℕ). Some (Of Mess k)) it.0, ap is_number (sym it.0) ∙ it.1)
-name_is (Some (Of Todo m)) n told = absurd (not_mess n (is_number m) (Of Todo m) refl told)
-name_is (Some (Of Intd m)) n told = absurd (not_mess n (is_number m) (Of Intd m) refl told)
-name_is (Some (Of Info m)) n told = absurd (not_mess n (is_number m) (Of Info m) refl told)
-name_is (Some (Of Local m)) n told = absurd (not_mess n (is_number m) (Of Local m) refl told)
-name_is (Some (Of Remote m)) n told = absurd (not_mess n (is_number m) (Of Remote m) refl told)
-name_is (Some (Of Bounce m)) n told = absurd (not_mess n (is_number m) (Of Bounce m) refl told)
+name_is (Some name) n told = absurd (not_mess n (is_used name) name refl told)
 
 numbers : (old new : Fates) (b : Books) (a : List ℕ) (args : Arguments) (first : List ℕ) (name : Option Name) (n : ℕ) → mess_number (used name) ≡ Some n → Begins old new a n → AreFates old b
     → AreFates new (linked b a args first name)

@@ -35,9 +35,9 @@ use Rattle.send_parts.specs.declared.row.Marked.{Marked}
 use Rattle.send_parts.specs.declared.row.Row.{Row}
 use Rattle.send_parts.specs.declared.row.Row.TheVariants as at
 use Rattle.send_core.specs.Booked.{booked_at, finished_at, if_done, if_ok, if_zero, marked_at, noted_at, returned_at, routed_at, routing_at, routing_by}
-use Rattle.send_core.specs.Stands.{Machine, Stands, looked_at, row_of}
+use Rattle.send_core.specs.Stands.{Machine, Stands, due_now, looked_at, row_of}
 use Rattle.call_fs.specs.declared.program.Ready.{Ready}
-use Rattle.send_core.specs.Table.{place_after as sender_after, due_at, port_of, row_now}
+use Rattle.send_core.specs.Table.{place_after as sender_after, due_at, moved_by, port_of, row_now}
 use Rattle.script_fates.specs.declared.fates.Fates.{Fates}
 use Rattle.script_fates.specs.Fates.{AreFates}
 use Rattle.script_fates.specs.Entering.{HasDue, heard_after, heard_by}
@@ -194,3 +194,16 @@ looked_routing old new past now read ready o stands looked same is =
 pub looked_controls : (old new : Machine) (past : List Own) (now : ℕ) (ready : Ready) (by : Controls) → Stands old None past → new ≡ looked_at old now ready → by ≡ new.desk.book.controls
     → by ≡ (sender_after None past).book.controls
 looked_controls old new past now ready by stands looked is = is ∙ ap (λ (m : Machine). m.desk.book.controls) looked ∙ ap (λ (d : Desk). d.book.controls) stands
+
+-- A sender that has looked, taken what came and cleared its log stands for one event more.
+pub goes_on : (old looked new last : Machine) (past : List Own) (own : Own) (now : ℕ) (came : GotData) → looked ≡ looked_at old now own.ready → now ≡ own.read → came ≡ own.came
+    → Stands new None ((let it : Own = record { read = looked.present; ready = looked.ready; due = due_now looked; came = came } in it) ∷ past) → last ≡ record new { log = [] } → Stands last None (own ∷ past)
+goes_on old looked new last past own now came is same comes stands cleared =
+    ap (λ (m : Machine). m.desk) cleared
+    ∙ stands
+    ∙ ap (λ (m : Machine). after m.present m.ready came) is
+    ∙ ap (λ (k : ℕ). after k own.ready came) same
+    ∙ ap (λ (c : GotData). after own.read own.ready c) comes
+  where
+    after : ℕ → Ready → GotData → Desk
+    after read ready came = moved_by (row_now (sender_after None past) read ready) read came (sender_after None past)

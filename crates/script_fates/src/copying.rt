@@ -30,20 +30,63 @@ pub fn unrouted(alloc: Global) -> Controls
 pub fn copied(alloc: Global, controls: &Controls) -> Result<Controls, Memory>
     ensures { IfOk result (λ copy. copy ≡ controls.now) }
 {
+    let (me, env_no_at_host, bounce_from) = three_of(
+        alloc,
+        &controls.me,
+        &controls.env_no_at_host,
+        &controls.bounce_from,
+    )?;
+    let (bounce_host, double_bounce_to, double_bounce_host) = three_of(
+        alloc,
+        &controls.bounce_host,
+        &controls.double_bounce_to,
+        &controls.double_bounce_host,
+    )?;
+    let (locals, percent_hack, virtual_domains) = lists_of(alloc, controls)?;
     Ok(Controls {
-        me: text_of(alloc, &controls.me)?,
-        locals: texts_of(alloc, &controls.locals)?,
-        percent_hack: texts_of(alloc, &controls.percent_hack)?,
-        virtual_domains: lines_of(alloc, &controls.virtual_domains)?,
-        env_no_at_host: text_of(alloc, &controls.env_no_at_host)?,
-        bounce_from: text_of(alloc, &controls.bounce_from)?,
-        bounce_host: text_of(alloc, &controls.bounce_host)?,
-        double_bounce_to: text_of(alloc, &controls.double_bounce_to)?,
-        double_bounce_host: text_of(alloc, &controls.double_bounce_host)?,
+        me,
+        locals,
+        percent_hack,
+        virtual_domains,
+        env_no_at_host,
+        bounce_from,
+        bounce_host,
+        double_bounce_to,
+        double_bounce_host,
         concurrency_local: controls.concurrency_local,
         concurrency_remote: controls.concurrency_remote,
         queue_lifetime: controls.queue_lifetime,
     })
+}
+
+/// The lists of these controls once more.
+fn lists_of(
+    alloc: Global,
+    controls: &Controls,
+) -> Result<(TextList, TextList, VirtualDomains), Memory>
+    ensures { IfOk result (λ lists. lists ≡ (controls.now.locals, controls.now.percent_hack, controls.now.virtual_domains)) }
+{
+    Ok((
+        texts_of(alloc, &controls.locals)?,
+        texts_of(alloc, &controls.percent_hack)?,
+        lines_of(alloc, &controls.virtual_domains)?,
+    ))
+}
+
+/// The same three texts once more.
+fn three_of(
+    alloc: Global,
+    one: &ByteText,
+    two: &ByteText,
+    three: &ByteText,
+) -> Result<(ByteText, ByteText, ByteText), Memory>
+    ensures { IfOk result (λ texts. texts ≡ (one.now, two.now, three.now)) }
+{
+    Ok((
+        text_of(alloc, one)?,
+        text_of(alloc, two)?,
+        text_of(alloc, three)?,
+    ))
 }
 
 /// The same text once more.
@@ -82,20 +125,25 @@ fn lines_of(alloc: Global, domains: &VirtualDomains) -> Result<VirtualDomains, M
 pub fn are_same(one: &Controls, other: &Controls) -> bool
     ensures { IsTrue result ↔ (one.now ≡ other.now) }
 {
-    one.me.is(other.me.as_slice())
-        && are_same_texts(&one.locals, &other.locals)
-        && are_same_texts(&one.percent_hack, &other.percent_hack)
-        && are_same_lines(&one.virtual_domains, &other.virtual_domains)
-        && one.env_no_at_host.is(other.env_no_at_host.as_slice())
-        && one.bounce_from.is(other.bounce_from.as_slice())
-        && one.bounce_host.is(other.bounce_host.as_slice())
-        && one.double_bounce_to.is(other.double_bounce_to.as_slice())
-        && one
-            .double_bounce_host
-            .is(other.double_bounce_host.as_slice())
-        && one.concurrency_local == other.concurrency_local
-        && one.concurrency_remote == other.concurrency_remote
-        && one.queue_lifetime == other.queue_lifetime
+    is_same(&one.me, &other.me)
+        & are_same_texts(&one.locals, &other.locals)
+        & are_same_texts(&one.percent_hack, &other.percent_hack)
+        & are_same_lines(&one.virtual_domains, &other.virtual_domains)
+        & is_same(&one.env_no_at_host, &other.env_no_at_host)
+        & is_same(&one.bounce_from, &other.bounce_from)
+        & is_same(&one.bounce_host, &other.bounce_host)
+        & is_same(&one.double_bounce_to, &other.double_bounce_to)
+        & is_same(&one.double_bounce_host, &other.double_bounce_host)
+        & (one.concurrency_local == other.concurrency_local)
+        & (one.concurrency_remote == other.concurrency_remote)
+        & (one.queue_lifetime == other.queue_lifetime)
+}
+
+/// Whether these are the same text.
+fn is_same(one: &ByteText, other: &ByteText) -> bool
+    ensures { IsTrue result ↔ (one.now ≡ other.now) }
+{
+    one.is(other.as_slice())
 }
 
 /// Whether these are the same texts.
@@ -107,7 +155,7 @@ fn are_same_texts(one: &TextList, other: &TextList) -> bool
         return false;
     }
     for at in 0..texts.len() {
-        if !texts[at].is(others[at].as_slice()) {
+        if !is_same(&texts[at], &others[at]) {
             return false;
         }
     }
@@ -134,5 +182,5 @@ fn are_same_lines(one: &VirtualDomains, other: &VirtualDomains) -> bool
 fn is_same_line(one: &VirtualDomain, other: &VirtualDomain) -> bool
     ensures { IsTrue result ↔ (one.now ≡ other.now) }
 {
-    one.domain.is(other.domain.as_slice()) && one.prefix.is(other.prefix.as_slice())
+    is_same(&one.domain, &other.domain) & is_same(&one.prefix, &other.prefix)
 }

@@ -2,12 +2,13 @@
 use Rattle.std.proofs.Common.{◌≡◌, ⊎_elim, ℕ, ◌+◌, ◌<◌, ◌≤◌, ◌^◌, List, [], ◌∷◌, ◌++◌, length, Option, Some, None, refl, sym, ◌∙◌, subst, arith}
 use Rattle.call_fs.specs.Disk.{Disk, IsUnused}
 use Rattle.call_fs.proofs.Maps.{put_at_cases}
-use Rattle.mem_fs.specs.MemDisk.{Places, with_dir}
+use Rattle.call_fs.specs.Placing.{with_dir, HasMade}
+use Rattle.mem_fs.specs.MemDisk.{Places}
 use Rattle.script_words.specs.declared.entry.Entry.{Entry}
 use Rattle.script_words.specs.declared.entry.Entry.TheVariants.{Dir, File}
 use Rattle.script_words.specs.Entries.{dirs_above}
 use Rattle.script_lines.specs.Contents.{HaveEntryPaths}
-use Rattle.script_disks.specs.FirstDisk.{AreMade, Enters, EntersAll, HasMade, IsBareDisk, IsFirstDisk}
+use Rattle.script_disks.specs.FirstDisk.{AreMade, Enters, EntersAll, IsBareDisk, IsFirstDisk}
 use Rattle.scenario.proofs.Openings.{is_ready, none_of}
 use Rattle.settle_law.specs.Well.{TodoIsEmpty, todo_name}
 use Rattle.settle_law.proofs.PlayedNumbers.{UsesFew}

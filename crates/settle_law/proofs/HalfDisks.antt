@@ -16,10 +16,10 @@ use Rattle.call_fs.specs.declared.past.NeedData.{NeedData}
 use Rattle.call_fs.specs.declared.past.NeedData.TheVariants as needs
 use Rattle.queue_paths.proofs.Paths.{parse-path}
 use Rattle.queue_paths.specs.Names.Name.{Of}
-use Rattle.queue_paths.specs.Names.Part.{Info, Mess, Todo}
-use Rattle.queue_paths.specs.Names.{Name, parse, path}
-use Rattle.queue_paths.specs.Parts.{in_todo, parts_of}
-use Rattle.queue_paths.proofs.Parts.{todo_alone, todo_missing}
+use Rattle.queue_paths.specs.Names.Part.{Info, Mess, Todo, SplitTodo}
+use Rattle.queue_paths.specs.Names.{Name, Part, parse, path}
+use Rattle.queue_paths.specs.Parts.{in_todo, is_todo, parts_of}
+use Rattle.queue_paths.proofs.Parts.{todo_missing, todo_split}
 use Rattle.mail_world.specs.History.{ComesOf, State, disk_after}
 use Rattle.settle_law.specs.inside.HalfWay.{IsHalfWay}
 
@@ -34,11 +34,15 @@ abbrev pub Takes : CallData → Name → Type 0
 Takes (call.Unlink name) x = parse name ≡ Some x
 Takes c x = ⊥
 
--- the number was no half-way one, or is none: its message file is made, or its todo file or its info file goes
+-- one of a number's names in todo
+abbrev pub TakesTodo : CallData → ℕ → Type 0
+TakesTodo c n = (part : Part) × (is_todo part ≡ true) × Takes c (Of part n)
+
+-- the number was no half-way one, or is none: its message file is made, or a name of it in todo or its info file goes
 abbrev pub Undoes : ℕ → NeedData → Type 0
 Undoes n (needs.File (call.CreateExcl name)) = parse name ≡ Some (Of Mess n)
 Undoes n (needs.File (call.Link old new)) = parse new ≡ Some (Of Mess n)
-Undoes n (needs.File (call.Unlink name)) = (parse name ≡ Some (Of Todo n)) ⊎ (parse name ≡ Some (Of Info n))
+Undoes n (needs.File (call.Unlink name)) = TakesTodo (call.Unlink name) n ⊎ (parse name ≡ Some (Of Info n))
 Undoes n due = ⊥
 
 brings_undoes : (c : CallData) (n : ℕ) → Brings c (Of Mess n) → Undoes n (needs.File c)
@@ -46,9 +50,9 @@ brings_undoes (call.CreateExcl name) n h = h
 brings_undoes (call.Link old new) n h = h
 brings_undoes c n h = absurd h
 
-takes_undoes : (c : CallData) (n : ℕ) → Takes c (Of Todo n) ⊎ Takes c (Of Info n) → Undoes n (needs.File c)
+takes_undoes : (c : CallData) (n : ℕ) → TakesTodo c n ⊎ Takes c (Of Info n) → Undoes n (needs.File c)
 takes_undoes (call.Unlink name) n h = h
-takes_undoes c n h = ⊎_elim (λ e. absurd e) (λ e. absurd e) h
+takes_undoes c n h = ⊎_elim (λ (e : TakesTodo c n). absurd e.2) (λ e. absurd e) h
 
 named : (x : Name) (name : List ℕ) → path x ≡ name → parse name ≡ Some x
 named x name is = ap parse (sym is) ∙ parse-path x
@@ -138,7 +142,7 @@ is_refusal (came.Answered told) = is_refused told.answer
 is_refusal got = false
 
 abbrev pub UnlinksTodo : ℕ → NeedData → Type 0
-UnlinksTodo n (needs.File c) = Takes c (Of Todo n)
+UnlinksTodo n (needs.File c) = TakesTodo c n
 UnlinksTodo n due = ⊥
 
 pub record IsUndone (d : Disk) (n : ℕ) (due : NeedData) (got : GotData) : Type 0 where
@@ -150,20 +154,29 @@ module _ (d : Disk) (read : ℕ) (c : CallData) (told : Told) (wrote n : ℕ) (f
   abbrev Undone : Type 0
   Undone = IsUndone d n (needs.File c) (came.Answered told)
 
-  no_todo : Is (Takes c (Of Todo n)) told.answer ⊎ (in_todo (parts_of d.names n) ≡ None)
+  name_gone : (part : Part) → is_todo part ≡ true → Is (TakesTodo c n) told.answer ⊎ (d.names (path (Of part n)) ≡ None)
+  name_gone part is = ⊎_elim
+      (λ (takes : Is (Takes c (Of part n)) told.answer). inl ((part, is, takes.0), takes.1))
+      (λ (none : d.names (path (Of part n)) ≡ None). inr none)
+      (was_none d (Of part n) read c told.answer wrote fits (todo_missing (parts_of (effect d read c told.answer wrote).names n) half.no_todo part is))
+
+  no_todo : Is (TakesTodo c n) told.answer ⊎ (in_todo (parts_of d.names n) ≡ None)
   no_todo = ⊎_elim
-      (λ (takes : Is (Takes c (Of Todo n)) told.answer). inl takes)
-      (λ (none : d.names (path (Of Todo n)) ≡ None). inr (todo_alone (parts_of d.names n) ∙ none))
-      (was_none d (Of Todo n) read c told.answer wrote fits (todo_missing (parts_of (effect d read c told.answer wrote).names n) half.no_todo Todo refl))
+      (λ (takes : Is (TakesTodo c n) told.answer). inl takes)
+      (λ (flat : d.names (path (Of Todo n)) ≡ None). ⊎_elim
+      (λ (takes : Is (TakesTodo c n) told.answer). inl takes)
+      (λ (none : d.names (path (Of SplitTodo n)) ≡ None). inr (todo_split (parts_of d.names n) flat ∙ none))
+      (name_gone SplitTodo refl))
+      (name_gone Todo refl)
 
   todo_so : UnlinksTodo n (needs.File c) ⊎ (in_todo (parts_of d.names n) ≡ None)
-  todo_so = ⊎_elim (λ (takes : Is (Takes c (Of Todo n)) told.answer). inl takes.0) (λ (none : in_todo (parts_of d.names n) ≡ None). inr none) no_todo
+  todo_so = ⊎_elim (λ (takes : Is (TakesTodo c n) told.answer). inl takes.0) (λ (none : in_todo (parts_of d.names n) ≡ None). inr none) no_todo
 
   was_half : Undone ⊎ IsHalfWay d n
   was_half = ⊎_elim
       (λ (brings : Is (Brings c (Of Mess n)) told.answer). inl (record { undoes = brings_undoes c n brings.0; fine = brings.1; todo = todo_so }))
       (λ (mess : d.names (path (Of Mess n)) ≢ None). ⊎_elim
-      (λ (takes : Is (Takes c (Of Todo n)) told.answer). inl (record { undoes = takes_undoes c n (inl takes.0); fine = takes.1; todo = inl takes.0 }))
+      (λ (takes : Is (TakesTodo c n) told.answer). inl (record { undoes = takes_undoes c n (inl takes.0); fine = takes.1; todo = inl takes.0 }))
       (λ (none : in_todo (parts_of d.names n) ≡ None). ⊎_elim
       (λ (takes : Is (Takes c (Of Info n)) told.answer). inl (record { undoes = takes_undoes c n (inr takes.0); fine = takes.1; todo = inr none }))
       (λ (no_info : d.names (path (Of Info n)) ≡ None). inr (record { mess = mess; no_todo = none; no_info = no_info }))

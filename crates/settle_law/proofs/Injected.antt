@@ -20,7 +20,7 @@ use Rattle.queue_law.specs.Ledgers.{Line}
 use Rattle.queue_law.specs.Ledgers.Line.{Drops, Notes, Reads, Returns, Marks, Routes}
 use Rattle.queue_paths.specs.Names.{Name, parse, path}
 use Rattle.queue_paths.specs.Names.Name.{Of}
-use Rattle.queue_paths.specs.Names.Part.{Intd, Mess, Todo}
+use Rattle.queue_paths.specs.Names.Part.{Intd, Mess, Todo, SplitIntd, SplitTodo}
 use Rattle.send_core.specs.Booked.{booked_at}
 use Rattle.send_core.specs.Table.{place_after as sender_after, row_now}
 use Rattle.send_jobs.specs.Bookings.{Booking}
@@ -84,13 +84,14 @@ module _ (P : ℕ → Arguments → Type 0) where
 
   -- what an injector links
 
+  accepts_of : (b : Books) (a : List ℕ) (n : ℕ) → OfAll b → (t : Bool) → OfAll (if t then record { living = put b.living n (accept a (b.living n)); over = b.over } else b)
+  accepts_of b a n S true = put_of b.living n (accept a (b.living n)) S (accepted_of a n (b.living n) (S n))
+  accepts_of b a n S false = S
+
   linked_of : (b : Books) (a : List ℕ) (args : Arguments) (old : List ℕ) (name : Option Name) → ((n : ℕ) → name ≡ Some (Of Mess n) → P n args) → OfAll b → OfAll (linked b a args old name)
   linked_of b a args old (Some (Of Mess n)) here S = put_of b.living n (Some (begun a args n)) S (here n refl)
-  linked_of b a args old (Some (Of Todo n)) here S = by (bytes_eq old (path (Of Intd n)))
-    where
-      by : (t : Bool) → OfAll (if t then record { living = put b.living n (accept a (b.living n)); over = b.over } else b)
-      by true = put_of b.living n (accept a (b.living n)) S (accepted_of a n (b.living n) (S n))
-      by false = S
+  linked_of b a args old (Some (Of Todo n)) here S = accepts_of b a n S (bytes_eq old (path (Of Intd n)))
+  linked_of b a args old (Some (Of SplitTodo n)) here S = accepts_of b a n S (bytes_eq old (path (Of SplitIntd n)))
   linked_of b a args old name here S = S
 
   booked_of : (b : Books) (a : List ℕ) (args : Arguments) (c : CallData) (told : Answer) → ((old new : List ℕ) (n : ℕ) → c ≡ Link old new → parse new ≡ Some (Of Mess n) → P n args) → OfAll b

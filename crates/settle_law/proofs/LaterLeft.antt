@@ -11,7 +11,7 @@ use Rattle.queue_clean.specs.Commands.{first_name, message_of, second_name}
 use Rattle.queue_clean.specs.Table.{due_at}
 use Rattle.queue_paths.specs.Names.{Name, Part, path}
 use Rattle.queue_paths.specs.Names.Name.{Of}
-use Rattle.queue_paths.specs.Names.Part.{Mess, Intd, Todo, Info, Local, Remote, Bounce}
+use Rattle.queue_paths.specs.Names.Part.{Info, Local, Remote, Bounce}
 use Rattle.queue_law.specs.Cleaners.{number_at}
 use Rattle.queue_law.specs.Numbers.{About, Entry, IsSorted, IsUnsorted, Queue, about, is_later}
 use Rattle.queue_law.specs.Senders.{called_queue}
@@ -31,9 +31,7 @@ all_none w i l r b Info e = i
 all_none w i l r b Local e = l
 all_none w i l r b Remote e = r
 all_none w i l r b Bounce e = b
-all_none w i l r b Mess e = absurd (cc)
-all_none w i l r b Intd e = absurd (cc)
-all_none w i l r b Todo e = absurd (cc)
+all_none w i l r b part e = absurd (cc)
 
 sorted_or : (w : About) → IsSorted w ⊎ IsUnsorted w
 sorted_or w = ⊎_elim

@@ -42,7 +42,7 @@ use Rattle.queue_paths.specs.Names.{Name, path}
 use Rattle.queue_paths.specs.Names.Name.{Of}
 use Rattle.queue_paths.specs.Names.Part.{Info, Intd, Mess, Todo}
 use Rattle.queue_paths.specs.Parts.{in_todo, parts_of}
-use Rattle.queue_paths.proofs.Parts.{todo_same}
+use Rattle.queue_paths.proofs.Parts.{todo_apart, todo_same}
 use Rattle.queue_law.proofs.Waits.{todo_named}
 use Rattle.remote_spawn.specs.Table.{place_after as remote_after, program_of as remote_asks}
 use Rattle.send_core.specs.Table.{arrive, due_at, moved_by, row_now}
@@ -442,7 +442,8 @@ module _ (s : State) (H : Holds s) (a : List ℕ) (own : Own) (wrote : ℕ) (may
             let due_is : own.due ≡ needs.File (call.Unlink (path (Of Info d.pass.n))) =
             sym sender_due ∙ ap (λ (r : Row). due_at r d) at_it ∙ ap (λ (r : PassRow). pass_table.due_at r d.pass) e in
             ⊎_elim
-            (λ (unlinks : UnlinksTodo n own.due). apart (Of Info d.pass.n) (Of Todo n) (λ e. cc) (subst (UnlinksTodo n) due_is unlinks))
+            (λ (unlinks : UnlinksTodo n own.due).
+            let w = subst (UnlinksTodo n) due_is unlinks in apart (Of Info d.pass.n) (Of w.0 n) (λ e. todo_apart w.0 n (Of Info d.pass.n) w.1 refl (sym e)) w.2)
             (λ (none : in_todo (parts_of s.disk.names n) ≡ None). none_some queued.todo.number (sym none ∙ todo_is))
             u.todo
         by r e st clearing = absurd clearing

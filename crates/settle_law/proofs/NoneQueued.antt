@@ -15,6 +15,7 @@ use Rattle.call_fs.specs.declared.past.GotData.TheVariants as came
 use Rattle.call_fs.specs.declared.past.NeedData.{NeedData}
 use Rattle.call_fs.specs.declared.past.NeedData.TheVariants as needs
 use Rattle.call_fs.specs.declared.past.Own.{Own}
+use Rattle.queue_paths.specs.Names.Part.{SplitTodo}
 use Rattle.queue_states.specs.declared.state.State.TheVariants.{S4}
 use Rattle.queue_states.specs.States.{state_of}
 use Rattle.retry_law.specs.Left.{NoneLeft}
@@ -45,7 +46,7 @@ use Rattle.settle_law.proofs.Passed.{passes_go_on}
 use Rattle.settle_law.proofs.Queued.{none}
 use Rattle.settle_law.proofs.Strays.{none_given}
 use Rattle.settle_law.proofs.TurnPasts as turned
-use Rattle.settle_law.proofs.Unqueued.{has_todo, waits_small}
+use Rattle.settle_law.proofs.Unqueued.{has_todo, no_split, waits_small}
 
 -- A search that went well found none, or gave a name.
 
@@ -162,6 +163,7 @@ module _ (d : Disk) (later : List Deed) (first : Deed) (before : List Deed) (res
 pub unqueued_then : (d : Disk) (later : List Deed) (first : Deed) (before : List Deed) → SendersRest d later first before → (n : ℕ) → state_of (after d (later ++ first ∷ before)).disk n ≢ S4
 unqueued_then d later first before rest n e =
     none (after d before).disk rest.turn.searches.wrote (found_none d later first before rest) n (waits_small d (history_of (later ++ first ∷ before)) n rest.well e)
+    (no_split d (history_of before) (turned.well_before d later first before rest.turn rest.well).legal SplitTodo n refl)
     (ap (λ (disk : Disk). state_of disk n) (turned.alike d later first before rest.turn).disk ∙ e)
 
 pub unqueued : RestsUnqueued

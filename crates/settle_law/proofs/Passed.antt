@@ -23,13 +23,14 @@ use Rattle.call_fs.specs.declared.program.Port.TheVariants as port
 use Rattle.queue_clean.specs.declared.command.Command.TheVariants as command
 use Rattle.queue_inject.specs.Texts.{intd_text}
 use Rattle.queue_law.proofs.Looks.{found}
+use Rattle.queue_law.proofs.Waits.{todo_here}
 use Rattle.queue_law.specs.Books.{Injection, IsValid}
 use Rattle.queue_law.specs.Numbers.{Entry, IsQueued, Queue, about, look}
 use Rattle.queue_paths.specs.Dirs.{queue_dirs}
 use Rattle.queue_paths.specs.Names.{Part, path}
 use Rattle.queue_paths.specs.Names.Name.{Of}
 use Rattle.queue_paths.specs.Names.Part.{Mess, Todo}
-use Rattle.queue_paths.proofs.Parts.{todo_alone}
+use Rattle.queue_paths.specs.Parts.{in_todo}
 use Rattle.send_core.specs.declared.desk.Desk.{Desk}
 use Rattle.send_parts.specs.declared.row.Row.{Row}
 use Rattle.send_parts.specs.declared.row.Row.TheVariants as at
@@ -218,6 +219,10 @@ module _ (s : State) (I : Inv s) (A : IsApt s) (a : List ℕ) (own : Own) (wrote
   abbrev row : Row
   row = row_now d own.read own.ready
 
+  -- no program makes a name of the split layout
+  flat : in_todo (about q p.n).parts ≡ look q (Of Todo p.n)
+  flat = todo_here q I.sound.suits p.n
+
   queued : PassGoesOn d.book.controls s.now q a p → HoldsTodo p.row → IsQueued (about q p.n)
   queued h holds = (h.stands.rests holds).rest
 
@@ -230,7 +235,7 @@ module _ (s : State) (I : Inv s) (A : IsApt s) (a : List ℕ) (own : Own) (wrote
   -- what was read is the message's todo text
   read_well : (Q : IsQueued (about q p.n)) → HoldsWhatWasRead p.n p s.disk → (place : ℕ) → sort_todo d.book.controls p.todo ≡ Err place → ⊥
   read_well Q held place bad =
-      let w = found q.disk.names q.disk.files (Of Todo p.n) Q.todo (sym (todo_alone (about q p.n).parts) ∙ Q.todo_there) in
+      let w = found q.disk.names q.disk.files (Of Todo p.n) Q.todo (sym flat ∙ Q.todo_there) in
       let number : held.0 ≡ Q.todo.number = (let u = w.0 in let v = held.1 in cc) in
       let text_is : p.todo ≡ (intd_text Q.taken.injection.args).bytes =
       sym held.2 ∙ ap (λ (j : ℕ). (s.disk.files j).bytes) number ∙ ap (λ (z : Entry). z.file.bytes) (sym w.1) ∙ Q.text.holds in
@@ -262,7 +267,7 @@ module _ (s : State) (I : Inv s) (A : IsApt s) (a : List ℕ) (own : Own) (wrote
   by_row todo.OpenTodo e at_pass h unshut comes =
       let Q = queued h (subst HoldsTodo (sym e) tt) in
       by_answer s a (λ g. came_well g ≡ true → Goes (Moves todo.OpenTodo g).row) (call.Open (path_in part.Todo p.n) how.Read) wrote own.came comes
-      (λ answers bytes fits fine. open_goes s.disk (path_in part.Todo p.n) Q.todo.number (named Todo p.n Q.todo (sym (todo_alone (about q p.n).parts) ∙ Q.todo_there)) answers wrote fits fine) well
+      (λ answers bytes fits fine. open_goes s.disk (path_in part.Todo p.n) Q.todo.number (named Todo p.n Q.todo (sym flat ∙ Q.todo_there)) answers wrote fits fine) well
   by_row (todo.ReadTodo fd) e at_pass h unshut comes =
       by_answer s a (λ g. came_well g ≡ true → Goes (Moves (todo.ReadTodo fd) g).row) (call.ReadAt fd (length p.todo) 8192) wrote own.came comes
       (λ answers bytes fits fine. read_goes s.disk fd (length p.todo) 8192 p answers bytes wrote fits fine) well

@@ -21,8 +21,8 @@ queued mess intd todo info local remote bounce e = absurd (cc)
 
 pub none : NoneIsQueued
 unfolding path
-none d wrote fits n small e =
+none d wrote fits n small alone e =
     let there : is_there d Todo n ≡ true =
-    ap is_some (sym (todo_alone (parts_of d.names n)))
+    ap is_some (sym (todo_alone (parts_of d.names n) alone))
     ∙ queued (is_there d Mess n) (is_in_intd d n) (is_in_todo d n) (is_there d Info n) (is_there d Local n) (is_there d Remote n) (is_there d Bounce n) e in
     fits.1 (digits n) (there, is_part n small)

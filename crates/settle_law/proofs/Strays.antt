@@ -23,10 +23,10 @@ use Rattle.program_law.specs.Delivery.Names.{IsDropName}
 use Rattle.queue_clean.specs.Table.{pid_path}
 use Rattle.queue_law.specs.Cleaners.{IsOnePart}
 use Rattle.queue_paths.specs.Names.{Name, path}
-use Rattle.queue_paths.specs.Names.Name.{Of, Pid}
-use Rattle.queue_paths.specs.Names.Part.{Bounce, Info, Intd, Local, Mess, Remote, Todo}
+use Rattle.queue_paths.specs.Names.Name.{Of}
+use Rattle.queue_paths.specs.Names.Part.{Todo, SplitTodo}
 use Rattle.queue_paths.specs.Parts.{parts_of}
-use Rattle.queue_paths.proofs.Parts.{todo_alone}
+use Rattle.queue_paths.proofs.Parts.{todo_flat}
 use Rattle.retry_law.specs.Left.{GivesStray, NoneLeft}
 use Rattle.retry_law.proofs.Left.{no_number_left, strays_were_given}
 use Rattle.send_parts.specs.declared.row.Row.{Row}
@@ -79,19 +79,18 @@ abbrev after_five : List ℕ → List ℕ
 after_five (a ∷ b ∷ c ∷ d ∷ e ∷ rest) = rest
 after_five rest = []
 
+abbrev is_slashed : List ℕ → Bool
+is_slashed (a ∷ b ∷ c ∷ d ∷ e ∷ rest) = e == 47
+is_slashed rest = false
+
 other_path : (name part : List ℕ) → begins_so name ≡ false → name ≢ todo_name part
 other_path name part other is = false≢true (sym other ∙ ap begins_so is)
 
 not_queue : (part : List ℕ) → bytes_eq (digits (value part)) part ≡ false → (x : Name) → path x ≢ todo_name part
 unfolding path
-not_queue part apart (Pid pid start seq) is = other_path (path (Pid pid start seq)) part refl is
-not_queue part apart (Of Mess n) is = other_path (path (Of Mess n)) part refl is
-not_queue part apart (Of Intd n) is = other_path (path (Of Intd n)) part refl is
 not_queue part apart (Of Todo n) is = not_text part n apart (ap after_five is)
-not_queue part apart (Of Info n) is = other_path (path (Of Info n)) part refl is
-not_queue part apart (Of Local n) is = other_path (path (Of Local n)) part refl is
-not_queue part apart (Of Remote n) is = other_path (path (Of Remote n)) part refl is
-not_queue part apart (Of Bounce n) is = other_path (path (Of Bounce n)) part refl is
+not_queue part apart (Of SplitTodo n) is = false≢true (ap is_slashed is)
+not_queue part apart x is = other_path (path x) part refl is
 
 -- and, as one part, no name of a drop
 
@@ -165,7 +164,7 @@ module _ (d : Disk) (empty : TodoIsEmpty d) where
       let I = always d h legal in
       let n = value part in
       let name : path (Of Todo n) ≡ todo_name part = path_is n part is in
-      let lives = living_by s n file I.role (I.sound.fine n) (todo_alone (parts_of s.disk.names n) ∙ ap s.disk.names name ∙ there) in
+      let lives = living_by s n file I.role (I.sound.fine n) (todo_flat (parts_of s.disk.names n) file (ap s.disk.names name ∙ there)) in
       let low = numbers_are_small d h legal well n lives.0 lives.1 in
       no_number part n none (ap message_number (sym is) ∙ numbered n low.0 low.1))
 

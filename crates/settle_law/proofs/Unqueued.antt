@@ -7,9 +7,11 @@ use Rattle.queue_law.specs.Numbers.{Phase, Role, about}
 use Rattle.queue_law.specs.Numbers.Phase.{Finished, Free, Queued, Sorted}
 use Rattle.queue_law.specs.Books.{Injection}
 use Rattle.queue_paths.specs.Dirs.{queue_dirs}
+use Rattle.queue_paths.specs.Names.{Part, path}
+use Rattle.queue_paths.specs.Names.Name.{Of}
 use Rattle.queue_paths.specs.Names.Part.{Bounce, Info, Local, Mess, Remote}
-use Rattle.queue_paths.specs.Parts.{in_todo, parts_of}
-use Rattle.queue_law.proofs.Waits.{todo_found}
+use Rattle.queue_paths.specs.Parts.{in_todo, is_split, parts_of}
+use Rattle.queue_law.proofs.Waits.{no_split_name, todo_found}
 use Rattle.queue_states.specs.declared.state.State.TheVariants.{S4}
 use Rattle.queue_states.specs.States.{is_there, state_of, is_in_intd, is_in_todo}
 use Rattle.world_law.proofs.Histories.{always}
@@ -42,6 +44,14 @@ waits_living d h n well e =
 
 pub waits_small : (d : Disk) (h : List Event) (n : ℕ) → GoesWell d h → state_of (after_events d h).disk n ≡ S4 → n < 2 ^ 64
 waits_small d h n well e = let i = waits_living d h n well e in (numbers_are_small d h well.legal well.well n i.0 i.1).1
+
+-- No program makes a name of the split layout
+
+pub no_split : (d : Disk) (h : List Event) → Legal d h → (part : Part) (n : ℕ) → is_split part ≡ true → (after_events d h).disk.names (path (Of part n)) ≡ None
+no_split d h legal part n is =
+    let s = after_events d h in
+    let I = always d h legal in
+    no_split_name (queue s I.role) I.sound.suits part is n
 
 -- The directory is there
 

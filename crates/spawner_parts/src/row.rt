@@ -3,7 +3,7 @@
 use call_fs::Fd;
 
 /// Where a spawner stands: at what is named.
-#[derive(Clone, Copy, PartialEq, Eq)]
+#[derive(Clone, Copy)]
 pub enum Row {
     /// Tells how many programs it runs at once.
     Greet,

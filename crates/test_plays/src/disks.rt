@@ -25,7 +25,7 @@ fn directories(alloc: Global) -> Result<Vec<ByteText>, Memory> {
     for dir in ["pid", "intd", "todo", "bounce"] {
         dirs.push(ByteText::from_slice(alloc, dir.as_bytes())?)?;
     }
-    for dir in ["mess", "info", "local", "remote"] {
+    for dir in ["mess", "info", "local", "remote", "intdx", "todox"] {
         put_splits(alloc, &mut dirs, dir)?;
     }
     Ok(dirs)

@@ -1,2 +1,3 @@
 mod carrying;
 mod failing;
+mod nudging;

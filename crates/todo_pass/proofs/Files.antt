@@ -24,9 +24,7 @@ back (Of TodoFile n) = part.Todo
 back (Of InfoFile n) = part.Info
 back (Of LocalFile n) = part.Local
 back (Of RemoteFile n) = part.Remote
-back (Of IntdFile n) = part.Mess
-back (Of BounceFile n) = part.Mess
-back (Pid pid start seq) = part.Mess
+back x = part.Mess
 
 back_is : (p : Part) (n : ℕ) → back (name_in p n) ≡ p
 back_is part.Mess n = refl

@@ -3,7 +3,7 @@ ghost use Rattle.std.specs.Prelude.{◌≡◌, ◌≤◌, None, IfOk, drop, leng
 ghost use Rattle.todo_pass.specs.Todo.{more_digit, digit_step, number_from, field_from, read_head};
 
 /// What a byte of a number does.
-#[derive(Clone, Copy, PartialEq, Eq)]
+#[derive(Clone, Copy)]
 pub enum Digit {
     /// The number is this one so far.
     More(u32),
@@ -14,7 +14,7 @@ pub enum Digit {
 }
 
 /// A number that was read.
-#[derive(Clone, Copy, PartialEq, Eq)]
+#[derive(Clone, Copy)]
 pub struct Number {
     /// The number.
     pub value: u32,
@@ -23,7 +23,7 @@ pub struct Number {
 }
 
 /// The head of a todo text.
-#[derive(Clone, Copy, PartialEq, Eq)]
+#[derive(Clone, Copy)]
 pub struct Head {
     /// The user who injected the message.
     pub uid: u32,

@@ -3,7 +3,7 @@
 use queue_paths::Name;
 
 /// A file of a message that a todo pass makes (INTERNALS, "Queue structure").
-#[derive(Clone, Copy, PartialEq, Eq)]
+#[derive(Clone, Copy)]
 pub enum Target {
     /// `info/S/N`: the sender.
     Info,
@@ -14,7 +14,7 @@ pub enum Target {
 }
 
 /// A file of a message at which a todo pass makes a call.
-#[derive(Clone, Copy, PartialEq, Eq)]
+#[derive(Clone, Copy)]
 pub enum Part {
     /// `mess/S/N`: the message.
     Mess,

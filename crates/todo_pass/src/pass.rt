@@ -304,7 +304,7 @@ impl Pass {
             self.go(Row::Shut { fd, why });
             return;
         }
-        if target == Target::Info {
+        if matches!(target, Target::Info) {
             self.birth = now;
         }
         let done = done + PIECE;

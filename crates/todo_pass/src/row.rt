@@ -4,7 +4,7 @@ use crate::{Part, Target};
 use call_fs::Fd;
 
 /// Why a pass left its number as it was.
-#[derive(Clone, Copy, PartialEq, Eq)]
+#[derive(Clone, Copy)]
 pub enum Why {
     /// A call at this file failed, or was told that a name is missing or taken, when that is no answer of its row.
     Fault(Part),
@@ -22,7 +22,7 @@ pub enum Why {
 }
 
 /// How a pass ended.
-#[derive(Clone, Copy, PartialEq, Eq)]
+#[derive(Clone, Copy)]
 pub enum End {
     /// The message is preprocessed: its info file and its channel files are complete and on the disk, and the cleaner has
     /// removed its todo file.
@@ -44,7 +44,7 @@ pub enum End {
 }
 
 /// Where a pass stands: at the step that is named. `fd` is an open file.
-#[derive(Clone, Copy, PartialEq, Eq)]
+#[derive(Clone, Copy)]
 pub enum Row {
     /// Unlinks what an earlier pass left: info, then local, then remote.
     Clear { target: Target },

@@ -12,7 +12,7 @@ use address_rules::Controls;
 use std::alloc::{AllocError, Global};
 
 /// Why a todo text can't be sorted.
-#[derive(Clone, Copy, PartialEq, Eq)]
+#[derive(Clone, Copy)]
 pub enum TodoError {
     /// The bytes are no todo text.
     BadRecord {

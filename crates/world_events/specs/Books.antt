@@ -54,9 +54,9 @@ entered_by (kept.Stop a) = []
 entered_by (kept.Moment m) = []
 entered_by (kept.Halt how) = []
 
--- a link to a name in todo, answered Ok
+-- a link to a name in todo, of either layout, answered Ok
 abbrev pub queues : CallData → Answer → Bool
-queues (Link old new) Done = bytes_eq (take 5 new) (codes "todo/")
+queues (Link old new) Done = bytes_eq (take 5 new) (codes "todo/") || bytes_eq (take 6 new) (codes "todox/")
 queues call answer = false
 
 -- an event put its actor's mail into the queue

@@ -273,6 +273,7 @@ fn mess_number(name: Option<Name>) -> Option<u64>
     match name {
         Some(Name::Mess(n)) => Some(n),
         Some(Name::Pid { .. } | Name::Intd(_) | Name::Todo(_) | Name::Info(_)) => None,
+        Some(Name::SplitIntd(_) | Name::SplitTodo(_)) => None,
         Some(Name::Local(_) | Name::Remote(_) | Name::Bounce(_)) | None => None,
     }
 }
@@ -300,12 +301,15 @@ fn queues_so(call: &CallData, came: &GotData) -> bool
     }
 }
 
-/// Whether a call put its mail into the queue: a link to a name in todo, answered Ok. An injector links only intd there.
+/// Whether a call put its mail into the queue: a link to a name in todo, of either layout, answered Ok. An injector links only its
+/// intd there.
 fn queues(call: &CallData, answer: &Answer) -> bool
     ensures { result ≡ queues call.now answer.now }
 {
     match (call, answer) {
-        (CallData::Link(_, new), Answer::Done) => new.as_slice().starts_with(b"todo/"),
+        (CallData::Link(_, new), Answer::Done) => {
+            new.as_slice().starts_with(b"todo/") || new.as_slice().starts_with(b"todox/")
+        }
         _ => false,
     }
 }

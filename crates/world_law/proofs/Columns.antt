@@ -14,7 +14,7 @@ use Rattle.queue_law.specs.Books.{Books, Injection, accept, begun, booked, enter
 use Rattle.queue_law.specs.Ledgers.{Ledger, Line, line_in, no_ledger}
 use Rattle.queue_paths.specs.Names.{Name, parse, path}
 use Rattle.queue_paths.specs.Names.Name.{Of}
-use Rattle.queue_paths.specs.Names.Part.{Intd, Mess, Todo}
+use Rattle.queue_paths.specs.Names.Part.{Intd, Mess, Todo, SplitIntd, SplitTodo}
 use Rattle.world_law.specs.Bounces.{IsKept}
 
 -- Injections of the books
@@ -90,6 +90,8 @@ module _ {X : Type 0} (column : Ledger → List X) where
       linked_has old (Some (Of Mess n)) x h = begun_has n x h
       linked_has old (Some (Of Todo n)) x h =
           if_has (bytes_eq old (path (Of Intd n))) (record { living = put b.living n (accept a (b.living n)); over = b.over }) x (accepted_has n x) h
+      linked_has old (Some (Of SplitTodo n)) x h =
+          if_has (bytes_eq old (path (Of SplitIntd n))) (record { living = put b.living n (accept a (b.living n)); over = b.over }) x (accepted_has n x) h
       linked_has old name x h = h
 
       pub call_has : (call : CallData) (told : Answer) (x : X) → Has (booked b a args call told) of x → Has b of x

@@ -24,7 +24,7 @@ use Rattle.queue_law.specs.Ledgers.{HasGrown, Ledger, Line, Spot, line_in, no_le
 use Rattle.queue_law.specs.Ledgers.Line.{Delivers, Drops, Fails, Notes, Reads, Returns, Marks, Routes}
 use Rattle.queue_paths.specs.Names.{Name, parse, path}
 use Rattle.queue_paths.specs.Names.Name.{Of}
-use Rattle.queue_paths.specs.Names.Part.{Intd, Mess, Todo}
+use Rattle.queue_paths.specs.Names.Part.{Intd, Mess, Todo, SplitIntd, SplitTodo}
 use Rattle.send_core.specs.Booked.{booked_at}
 use Rattle.send_core.specs.Table.{place_after as sender_after, row_now}
 use Rattle.send_jobs.specs.Bookings.{Booking}
@@ -347,6 +347,7 @@ module _ (by_whom : Controls) (b : Books) (a : List ℕ) (args : Arguments) wher
   linked_goes : (old : List ℕ) (name : Option Name) → Goes by_whom b (linked b a args old name) (mess_number name) []
   linked_goes old (Some (Of Mess n)) = begins_goes n
   linked_goes old (Some (Of Todo n)) = if_goes (bytes_eq old (path (Of Intd n))) (record { living = put b.living n (accept a (b.living n)); over = b.over }) (accepts_goes n)
+  linked_goes old (Some (Of SplitTodo n)) = if_goes (bytes_eq old (path (Of SplitIntd n))) (record { living = put b.living n (accept a (b.living n)); over = b.over }) (accepts_goes n)
   linked_goes old name = goes_same by_whom b []
 
   answered_goes : (old new : List ℕ) (told : Answer) → Goes by_whom b (booked b a args (Link old new) told) (begun_at (Link old new) told) []

@@ -17,7 +17,7 @@ use Rattle.maildir_drop.specs.Names.{names_of, pair_at, file_name as drop_name}
 use Rattle.queue_clean.specs.Table.{pid_path}
 use Rattle.queue_paths.specs.Names.{Name, path, split, split_text}
 use Rattle.queue_paths.specs.Names.Name.{Pid, Of}
-use Rattle.queue_paths.specs.Names.Part.{Mess, Intd, Todo, Info, Local, Remote, Bounce}
+use Rattle.queue_paths.specs.Names.Part.{Mess, Intd, Todo, Info, Local, Remote, Bounce, SplitIntd, SplitTodo}
 use Rattle.queue_law.specs.Cleaners.{IsOnePart}
 use Rattle.send_parts.specs.Steps.{control_text}
 use Rattle.program_law.specs.Delivery.Names.{IsDropName, IsTmpName, NamesAreApart}
@@ -134,6 +134,8 @@ path_far (Of Info n) = in_queue (codes "info") (split_text n) refl (low_split n)
 path_far (Of Local n) = in_queue (codes "local") (split_text n) refl (low_split n)
 path_far (Of Remote n) = in_queue (codes "remote") (split_text n) refl (low_split n)
 path_far (Of Bounce n) = in_queue (codes "bounce") (digits n) refl (low_last n)
+path_far (Of SplitIntd n) = in_queue (codes "intdx") (split_text n) refl (low_split n)
+path_far (Of SplitTodo n) = in_queue (codes "todox") (split_text n) refl (low_split n)
 
 pub no_queue_name : (x : Name) → IsDropName (path x) → ⊥
 no_queue_name x = no_drop (path x) (path_far x)

@@ -53,6 +53,7 @@ suits_none (Of Info n) i role o h e = part_none Info n o role h e
 suits_none (Of Local n) i role o h e = part_none Local n o role h e
 suits_none (Of Remote n) i role o h e = part_none Remote n o role h e
 suits_none (Of Bounce n) i role o h e = part_none Bounce n o role h e
+suits_none (Of part n) i role o h e = absurd h
 
 none_queued : (q : Queue) → NamesSuit q → (x : Name) (i : ℕ) (o : List ℕ) → q.disk.names (path x) ≡ Some i → q.role i ≡ AsDrop o → ⊥
 none_queued q S x i o there made =

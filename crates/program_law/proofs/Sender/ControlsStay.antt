@@ -9,7 +9,7 @@ use Rattle.call_fs.specs.Survival.{AllSurvive, HadAt, Survives}
 use Rattle.queue_clean.specs.Table.{pid_path}
 use Rattle.queue_paths.specs.Names.{Name, path}
 use Rattle.queue_paths.specs.Names.Name.{Of, Pid}
-use Rattle.queue_paths.specs.Names.Part.{Mess, Intd, Todo, Info, Local, Remote, Bounce}
+use Rattle.queue_paths.specs.Names.Part.{Mess, Intd, Todo, Info, Local, Remote, Bounce, SplitIntd, SplitTodo}
 use Rattle.send_parts.specs.Steps.{control_text}
 use Rattle.queue_law.specs.Cleaners.{LeavesButPid}
 use Rattle.queue_law.specs.Numbers.{Queue}
@@ -32,6 +32,8 @@ not_theirs f (Of Info n) e = heads 105 99 _ _ (λ (w : 105 ≡ 99). absurd (omeg
 not_theirs f (Of Local n) e = heads 108 99 _ _ (λ (w : 108 ≡ 99). absurd (omega arith)) e
 not_theirs f (Of Remote n) e = heads 114 99 _ _ (λ (w : 114 ≡ 99). absurd (omega arith)) e
 not_theirs f (Of Bounce n) e = heads 98 99 _ _ (λ (w : 98 ≡ 99). absurd (omega arith)) e
+not_theirs f (Of SplitIntd n) e = heads 105 99 _ _ (λ (w : 105 ≡ 99). absurd (omega arith)) e
+not_theirs f (Of SplitTodo n) e = heads 116 99 _ _ (λ (w : 116 ≡ 99). absurd (omega arith)) e
 
 not_in_pid : (f : ControlFile) (part : List ℕ) → control_text f ≢ pid_path part
 not_in_pid f part e = heads 99 112 _ _ (λ (w : 99 ≡ 112). absurd (omega arith)) e

@@ -18,7 +18,7 @@ use Rattle.mail_bytes.proofs.Digits.{number_of_some}
 use Rattle.queue_paths.specs.Names.{Part as FilePart, path}
 use Rattle.queue_paths.specs.Names.Name.{Of}
 use Rattle.queue_paths.specs.Names.Part.{Todo, Info, Local, Remote}
-use Rattle.queue_paths.proofs.Parts.{todo_alone}
+use Rattle.queue_paths.proofs.Parts.{todo_flat}
 use Rattle.send_known.specs.declared.channel.Channel.{Channel}
 use Rattle.send_known.specs.declared.channel.Channel.TheVariants as channel
 use Rattle.send_parts.specs.declared.dir.Dir.TheVariants as dir
@@ -133,7 +133,7 @@ search_begins controls now q a read after text wrote n G fits number =
       first = q.disk;
       leads = nothing_else n (pass_after controls n []).row q.disk;
       stands = record {
-        rests = λ holds. rests_begin.queued now q n (entry q.disk.files w.0) G (todo_alone (about q n).parts ∙ find_some q.disk.names q.disk.files (Of Todo n) w.0 w.1);
+        rests = λ holds. rests_begin.queued now q n (entry q.disk.files w.0) G (todo_flat (about q n).parts (entry q.disk.files w.0) (find_some q.disk.names q.disk.files (Of Todo n) w.0 w.1));
         holds = tt;
       };
     }

@@ -122,7 +122,7 @@ module _ (now : ℕ) (q : Queue) (a : List ℕ) (read wrote : ℕ) (G : Sound q)
         record { leads = reads (call.Stat (path (Of Todo n))) (answer.Stat stat) tt fits; stands = (h.0, (h.1, λ e. absurd (cc))) }
     stat_todo split n h (answer.Refused why.NotThere) bytes fits = record {
       leads = reads (call.Stat (path (Of Todo n))) (answer.Refused why.NotThere) tt fits;
-      stands = (h.0, (h.1, λ e. todo_missed q.disk.names q.disk.files n fits));
+      stands = (h.0, (h.1, λ e. todo_missed q G.suits n fits));
     }
     stat_todo split n h (answer.Refused why.Fault) bytes fits =
         record { leads = reads (call.Stat (path (Of Todo n))) (answer.Refused why.Fault) tt fits; stands = tt }

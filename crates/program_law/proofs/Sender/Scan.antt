@@ -17,7 +17,7 @@ use Rattle.queue_paths.specs.Names.{Name, path, split as split_of}
 use Rattle.queue_paths.specs.Names.Name.{Of}
 use Rattle.queue_paths.specs.Names.Part.{Todo, Info, Local as LocalFile, Remote as RemoteFile}
 use Rattle.queue_paths.specs.Parts.{in_todo}
-use Rattle.queue_paths.proofs.Parts.{todo_alone}
+use Rattle.queue_law.proofs.Waits.{todo_here}
 use Rattle.send_core.specs.declared.desk.Desk.{Desk}
 use Rattle.send_parts.specs.declared.row.Row.TheVariants as at
 use Rattle.send_core.specs.Start.{start_at}
@@ -321,7 +321,7 @@ module _ (now : ℕ) (q : Queue) (a : List ℕ) (G : Sound q) (d : Desk) (read w
         leads = L;
         stands = stated (Of Todo n) told fits on h.rests.0 h.rests.1.0 (start.Scan split) (start.ReadInfo split n Opening)
             (λ e. (tt, tt))
-            (λ e. (tt, (settles r n L.sound (taken_read now a q r n L.elsewhere h.rests.1.1) (todo_alone (about r n).parts ∙ g.looks Todo n (λ s. cc) ∙ tells_absent (answered told.answer told.bytes).way (look q (Of Todo n)) e t), tt)));
+            (λ e. (tt, (settles r n L.sound (taken_read now a q r n L.elsewhere h.rests.1.1) (todo_here r L.sound.suits n ∙ g.looks Todo n (λ s. cc) ∙ tells_absent (answered told.answer told.bytes).way (look q (Of Todo n)) e t), tt)));
       }
 
   stat_info : (split n : ℕ) (told : Told) → StandsAt now q a (at.Start (start.StatInfo split n)) d → Fits q.disk (call.Stat (path (Of Info n))) told.answer wrote

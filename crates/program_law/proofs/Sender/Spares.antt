@@ -53,9 +53,7 @@ later_far Info n m e = (λ f. absurd (cc), λ f. absurd (cc), λ f. absurd (cc))
 later_far Local n m e = (λ f. absurd (cc), λ f. absurd (cc), λ f. absurd (cc))
 later_far Remote n m e = (λ f. absurd (cc), λ f. absurd (cc), λ f. absurd (cc))
 later_far Bounce n m e = (λ f. absurd (cc), λ f. absurd (cc), λ f. absurd (cc))
-later_far Mess n m e = absurd (cc)
-later_far Intd n m e = absurd (cc)
-later_far Todo n m e = absurd (cc)
+later_far other n m e = absurd (cc)
 
 pub second_far : (part : Part) (n : ℕ) (command : Command) → is_later part ≡ true → Of part n ≢ second_name command
 second_far part n (Foop m) e = (later_far part n m e).1

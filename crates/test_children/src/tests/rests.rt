@@ -8,16 +8,33 @@ use std::sync::{Arc, Wait};
 use std::test::*;
 use std::time::Duration;
 
-/// A queue that doesn't rest, and keeps how long it was last asked to, in milliseconds.
+/// How long a queue was last asked to rest, in milliseconds, and whether news were to end it.
+#[derive(Clone, Copy)]
+struct Asked {
+    millis: u64,
+    for_news: bool,
+}
+
+/// A queue that doesn't rest, and keeps what it was last asked.
 #[derive(Drop)]
 struct Counting<'a> {
-    asked: &'a Cell<u64>,
+    asked: &'a Cell<Asked>,
+}
+
+impl Counting<'_> {
+    fn keep(&self, most: Duration, for_news: bool) {
+        let millis = u64::try_from(most.as_millis()).unwrap_or(u64::MAX);
+        self.asked.set(Asked { millis, for_news });
+    }
 }
 
 impl Restful for Counting<'_> {
     fn rest<R: Wait>(&self, _rt: &R, most: Duration) {
-        self.asked
-            .set(u64::try_from(most.as_millis()).unwrap_or(u64::MAX));
+        self.keep(most, false);
+    }
+
+    fn rest_for_news<R: Wait>(&self, _rt: &R, most: Duration) {
+        self.keep(most, true);
     }
 }
 
@@ -44,13 +61,20 @@ const PAUSES: [Pause; 13] = [
 /// Those of one that is told no rest.
 const WITHOUT: [Pause; 2] = [(1, 1, 0), (0, 1, 10)];
 
-/// Whether a gate, whose queue keeps there how long it is asked to rest, rests so at these pauses.
-fn pauses<G: Gate>(gate: &G, asked: &Cell<u64>, pauses: &[Pause]) -> bool {
+/// What a queue that was asked nothing keeps.
+const NOTHING: Asked = Asked {
+    millis: 0,
+    for_news: false,
+};
+
+/// Whether a gate, whose queue keeps there what it is asked, rests so at these pauses, and after idle turns alone until news come.
+fn pauses<G: Gate>(gate: &G, asked: &Cell<Asked>, pauses: &[Pause]) -> bool {
     let mut right = true;
     for (mail, step, millis) in pauses {
-        asked.set(0);
+        asked.set(NOTHING);
         gate.pause(*mail, *step);
-        right = asked.get() == *millis && right;
+        let told = asked.get();
+        right = told.millis == *millis && told.for_news == (*mail == 1 && *millis > 0) && right;
     }
     right
 }
@@ -63,7 +87,7 @@ fn rests<R: Wait + Copy + Drop>(
     drain: u64,
     rows: &[Pause],
 ) -> bool {
-    let asked = Cell::new(0);
+    let asked = Cell::new(NOTHING);
     match Arc::new(alloc, Counting { asked: &asked }) {
         Ok(queue) => {
             let gate = SendingGate::new(rt, queue, idle, drain);

@@ -91,20 +91,18 @@ pub fn floods<R: Wait + Drop, S: System>(yard: &mut Yard<R, S>, alloc: Global) -
 }
 
 /// Whether a remote program has a process group of its own, so that it ends nobody else, and `/dev/null` as descriptor 2; and whether
-/// one that can't be started, a local delivery that can't, and one with a word that the system can't take, are told so.
+/// one that can't be started, and one with a word that the system can't take, are told so.
 pub fn strangers<R: Wait + Drop, S: System>(yard: &mut Yard<R, S>, alloc: Global) -> bool {
     let killer = run(yard, alloc, &[b"/bin/sh", b"-c", b"kill -9 0", b"x"], b"");
     let none = run(yard, alloc, &[b"/proc/self/none", b"d", b"s", b"r"], b"");
     let is_silent = yard.bytes.is_empty();
-    // a system that takes this process for number 0 finds no program of its own
-    let delivery = run(yard, alloc, &[b"", b"local", b"d"], b"");
     let link: [&[u8]; 4] = [b"/bin/readlink", b"-n", b"-e", b"/proc/self/fd/2"];
     let linked = run(yard, alloc, &link, b"");
     let is_apart = linked == Status::Ended(0) && yard.bytes.as_slice() == b"/dev/null".as_slice();
     let wrong = yard
         .children
         .start(alloc, &[b"/bin/echo", b"d", b"s", b"\xff"]);
-    let are_crashed = [killer, none, delivery] == [Status::Crashed; 3];
+    let are_crashed = [killer, none] == [Status::Crashed; 2];
     are_crashed && is_silent && is_apart && wrong == Started::Failed
 }
 

@@ -124,7 +124,11 @@ const DIRS: &str =
     mess/21 mess/22 local/0 local/1 local/2 local/3 local/4 local/5 local/6 local/7 local/8 local/9 local/10 \
     local/11 local/12 local/13 local/14 local/15 local/16 local/17 local/18 local/19 local/20 local/21 local/22 \
     remote/0 remote/1 remote/2 remote/3 remote/4 remote/5 remote/6 remote/7 remote/8 remote/9 remote/10 remote/11 \
-    remote/12 remote/13 remote/14 remote/15 remote/16 remote/17 remote/18 remote/19 remote/20 remote/21 remote/22";
+    remote/12 remote/13 remote/14 remote/15 remote/16 remote/17 remote/18 remote/19 remote/20 remote/21 remote/22 \
+    intdx/0 intdx/1 intdx/2 intdx/3 intdx/4 intdx/5 intdx/6 intdx/7 intdx/8 intdx/9 intdx/10 intdx/11 intdx/12 \
+    intdx/13 intdx/14 intdx/15 intdx/16 intdx/17 intdx/18 intdx/19 intdx/20 intdx/21 intdx/22 todox/0 todox/1 \
+    todox/2 todox/3 todox/4 todox/5 todox/6 todox/7 todox/8 todox/9 todox/10 todox/11 todox/12 todox/13 todox/14 \
+    todox/15 todox/16 todox/17 todox/18 todox/19 todox/20 todox/21 todox/22";
 
 /// The files of a spawner or a delivery: the message `hi`, and the user `j` with its home.
 const PLAIN: &str = "mess/1/1=hi users/assign==j:j:1000:1000:home/j%20n:-::%0A.%0A";

@@ -73,9 +73,11 @@ run send 20; mail known; posts 2:x 3:x 3:end; pace 1; room 999; status 83; given
 const RESTS: &str =
     r#"# it waits for the first byte of each spawner: a pause before each look that found nothing to do
 run send 1; posts 2:x 3:x; pace 2; room 999; status 0; started 3; rests 4 6
-# after each idle turn but the last; a message that can't be preprocessed changes nothing of that
+# after each idle turn but the last
 run send 3; posts 2:x 3:x; room 999; status 0; started 3; rests 2 2003
-run send 3; mail todo/1=u1000%00p77%00Fa@x%00Tb@y%00; posts 2:x 3:x; room 999; status 0; given alert: left 1%0Aalert: left 1%0Aalert: left 1%0A; started 3; rests 2 2003
+# of messages that can't be preprocessed, which are tried by their names, only after one that comes no later than the one before it
+run send 3; mail todo/1=u1000%00p77%00Fa@x%00Tb@y%00; posts 2:x 3:x; room 999; status 0; given alert: left 1%0Aalert: left 1%0Aalert: left 1%0A; started 3; rests 1 1002
+run send 7; mail todo/1=u1000%00p77%00Fa@x%00Tb@y%00 todo/12=u1000%00p77%00Fa@x%00Tb@y%00 todo/5=u1000%00p77%00Fa@x%00Tb@y%00; posts 2:x 3:x; room 999; status 0; given alert: left 1%0Aalert: left 12%0Aalert: left 5%0Aalert: left 1%0Aalert: left 12%0Aalert: left 5%0Aalert: left 1%0A; started 3; rests 1 1004
 # while a delivery is in flight, before each of the last turns
 run send 3; mail known; posts 2:x 3:x; room 999; status 0; given starting delivery 1: msg 1 to remote b@y%0Astatus: local 0/10 remote 1/20%0A; started 3; fed3 %001/1%00a@x%00b@y%00; rests 2 4003
 # not while a report waits to be taken

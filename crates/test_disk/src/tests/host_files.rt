@@ -268,12 +268,12 @@ fn is_made(rt: &HostRuntime, path: &str, rights: u32) -> u64 {
 }
 
 /// The directories of a queue.
-const TOPS: &str = "bounce control home info intd local mess pid remote todo users";
+const TOPS: &str = "bounce control home info intd intdx local mess pid remote todo todox users";
 
 /// How many splits a directory has.
 fn splits_of(top: &str) -> u8 {
     match top {
-        "info" | "local" | "mess" | "remote" => 23,
+        "info" | "intdx" | "local" | "mess" | "remote" | "todox" => 23,
         _ => 0,
     }
 }
@@ -357,7 +357,7 @@ fn are_all_made(rt: &HostRuntime, root: &str) -> bool {
         entries(rt, mess.as_str()),
     );
     drop(mess);
-    is_so & (counts == (103, 11, 23))
+    is_so & (counts == (151, 13, 23))
 }
 
 #[test]

@@ -21,6 +21,8 @@ enum Deed<'a> {
     Dir(&'a [u8]),
     /// Puts a file with these bytes.
     Place(&'a [u8], &'a [u8]),
+    /// Replaces a file by these bytes from outside, at moment 9.
+    Replace(&'a [u8], &'a [u8]),
     /// Tells the bytes of a file.
     BytesOf(&'a [u8]),
     /// Tells the name of a directory after this one, as no call does.
@@ -35,7 +37,7 @@ enum Deed<'a> {
     Faults,
 }
 
-use Deed::{BytesOf, Call, Dir, Faults, NameAfter, Pick, Place, Stop};
+use Deed::{BytesOf, Call, Dir, Faults, NameAfter, Pick, Place, Replace, Stop};
 use Seen::{Bytes, Done, File, Made, Nothing, Number, Refused, Taken};
 
 /// A deed and what is seen of it.
@@ -177,6 +179,27 @@ const CHOSEN: &[Row] = &[
     (BytesOf(b"pid/b"), Bytes(b"")),
 ];
 
+/// A file that is replaced keeps its number, is on the disk, and has the moment 9. A new one takes the greatest free number, and
+/// its directory is made. The chosen call is still to come.
+const REPLACED: &[Row] = &[
+    (Call(Make(b"pid/a", b"one")), Made(1, 1)),
+    (Deed::Fail(1), Done),
+    (Replace(b"pid/a", b"other"), Done),
+    (Replace(b"control/me", b"host"), Done),
+    (Replace(b"control/locals", b""), Done),
+    (Replace(b"control/me", b"x"), Done),
+    (Faults, Number(0)),
+    (Call(Stat(b"pid/a")), Refused(FsError::Fault)),
+    (Call(Stat(b"pid/a")), File(1, 5, 9)),
+    (Call(Stat(b"control/me")), File(u64::MAX, 1, 9)),
+    (Call(Stat(b"control/locals")), File(u64::MAX - 1, 0, 9)),
+    (Call(Next(b"control", b"")), Bytes(b"locals")),
+    (Call(Next(b"control", b"locals")), Bytes(b"me")),
+    (Stop(Survival::Lose), Done),
+    (BytesOf(b"pid/a"), Bytes(b"other")),
+    (BytesOf(b"control/me"), Bytes(b"x")),
+];
+
 /// With much use of memory: a number over a thousand, many names of one file, a text longer than what is read at once.
 const AMPLE: &[Row] = &[
     (Pick(2000), Done),
@@ -275,6 +298,7 @@ fn act<'a>(
         }
         Dir(name) => put(disk.dir(alloc, name)),
         Place(name, bytes) => put(disk.place(alloc, name, bytes)),
+        Replace(name, bytes) => put(disk.replace(alloc, 9, name, bytes)),
         BytesOf(name) => text(disk.bytes_of(name)),
         NameAfter(dir, after) => text(disk.name_after(dir, after)),
         Stop(how) => stop(alloc, disk, how),
@@ -343,4 +367,5 @@ fn the_chosen_call_fails_and_the_chosen_number_is_taken(rt: HostRuntime) {
 fn no_call_fails_for_memory_that_is_there(rt: HostRuntime) {
     assert!(rt; play(&rt, rt.alloc(), &[], &[], AMPLE));
     assert!(rt; play(&rt, rt.alloc(), &[], &[], NO_BYTES));
+    assert!(rt; play(&rt, rt.alloc(), &[], &[], REPLACED));
 }

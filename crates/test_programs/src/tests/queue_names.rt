@@ -4,7 +4,7 @@ use mail_bytes::NameBuf;
 use queue_paths::{Name, parse, path, split};
 
 /// Names and their texts.
-const NAMES: [(Name, &str); 8] = [
+const NAMES: [(Name, &str); 11] = [
     (
         Name::Pid {
             pid: 77,
@@ -23,10 +23,16 @@ const NAMES: [(Name, &str); 8] = [
         Name::Bounce(18_446_744_073_709_551_615),
         "bounce/18446744073709551615",
     ),
+    (Name::SplitIntd(24), "intdx/1/24"),
+    (Name::SplitTodo(46), "todox/0/46"),
+    (
+        Name::SplitTodo(18_446_744_073_709_551_615),
+        "todox/5/18446744073709551615",
+    ),
 ];
 
 /// Texts that the queue uses for no name.
-const OTHERS: [&str; 10] = [
+const OTHERS: [&str; 16] = [
     "",
     "mess/1/457",
     "mess/01/1",
@@ -37,6 +43,12 @@ const OTHERS: [&str; 10] = [
     "pid/77.0.10",
     "pid/4294967296.0.1",
     "lock/1",
+    "intd/1/24",
+    "intdx/24",
+    "todo/0/46",
+    "todox/1/46",
+    "todox/0/046",
+    "todoy/0/46",
 ];
 
 /// A name in numbers: its kind, and what it is made of.
@@ -50,6 +62,8 @@ fn numbers(name: &Name) -> [u64; 4] {
         Name::Local(n) => [5, *n, 0, 0],
         Name::Remote(n) => [6, *n, 0, 0],
         Name::Bounce(n) => [7, *n, 0, 0],
+        Name::SplitIntd(n) => [8, *n, 0, 0],
+        Name::SplitTodo(n) => [9, *n, 0, 0],
     }
 }
 

@@ -15,6 +15,16 @@ const ROWS: &[Row] = &[
     Row(&["mess/1/1", "info/1/1", "intd/1"], "pid 0\n1 other\n"),
     Row(&["mess/1/1", "intd/1"], "pid 0\n1 S3\n"),
     Row(&["mess/1/1", "intd/1", "todo/1"], "pid 0\n1 S4\n"),
+    // the names of the split layout count as those of the flat one, and both together as one
+    Row(&["mess/1/1", "intdx/1/1"], "pid 0\n1 S3\n"),
+    Row(&["mess/1/1", "intdx/1/1", "todox/1/1"], "pid 0\n1 S4\n"),
+    Row(&["mess/1/1", "intdx/1/1", "todo/1"], "pid 0\n1 S4\n"),
+    Row(&["mess/1/1", "todo/1", "todox/1/1"], "pid 0\n1 S4\n"),
+    Row(&["mess/1/1", "info/1/1", "intdx/1/1"], "pid 0\n1 other\n"),
+    Row(
+        &["todox/22/22", "todox/0/23", "todox/1/24", "todox/0/46"],
+        "pid 0\n22 other\n23 other\n24 other\n46 other\n",
+    ),
     // in other splits, and with digits whose order as text is another
     Row(
         &["mess/20/457", "mess/10/10", "mess/2/2", "mess/0/23"],
@@ -42,6 +52,12 @@ const ROWS: &[Row] = &[
             "mess/1/01",
             "mess/1/x",
             "info/2/1",
+            "todo/1/1",
+            "todox/x",
+            "todox/1",
+            "todox/2/1",
+            "todox/1/01",
+            "intdx/0/1",
             "control/me",
             "mess/1/1",
         ],

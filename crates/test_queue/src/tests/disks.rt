@@ -4,13 +4,13 @@ use mem_fs::MemFs;
 use queue_states::{Audit, AuditError, State, audit};
 use std::alloc::Global;
 
-/// The directories of a queue, 96 in all.
+/// The directories of a queue, 142 in all.
 pub fn directories(alloc: Global) -> Result<Vec<ByteText>, Memory> {
     let mut dirs = Vec::new(alloc);
     for dir in ["pid", "intd", "todo", "bounce"] {
         dirs.push(ByteText::from_slice(alloc, dir.as_bytes())?)?;
     }
-    for dir in ["mess", "info", "local", "remote"] {
+    for dir in ["mess", "info", "local", "remote", "intdx", "todox"] {
         for split in 0..23u64 {
             let name = format!(in alloc; "{dir}/{split}")?;
             dirs.push(ByteText::from_slice(alloc, name.as_bytes())?)?;

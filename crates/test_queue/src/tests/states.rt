@@ -12,15 +12,18 @@ const TABLE: [(&str, &str); 4] = [
     ("S5", "+--+???"),
 ];
 
-/// The directories of a message's files, and whether each has splits.
-const FILES: [(&str, bool); 7] = [
-    ("mess", true),
-    ("intd", false),
-    ("todo", false),
-    ("info", true),
-    ("local", true),
-    ("remote", true),
-    ("bounce", false),
+/// The directories of a message's files: which file, whether there are splits, and in which layouts of a number it is: flat,
+/// split or both.
+const FILES: [(usize, &str, bool, &str); 9] = [
+    (0, "mess", true, "fsb"),
+    (1, "intd", false, "fb"),
+    (1, "intdx", true, "sb"),
+    (2, "todo", false, "fb"),
+    (2, "todox", true, "sb"),
+    (3, "info", true, "fsb"),
+    (4, "local", true, "fsb"),
+    (5, "remote", true, "fsb"),
+    (6, "bounce", false, "fsb"),
 ];
 
 /// Whether a combination has the file of this place: a bit for each.
@@ -52,10 +55,20 @@ fn word_of(combination: u64) -> &'static str {
     "other"
 }
 
-/// Adds the names of a number's files: number K has those of combination K.
+/// The layout of a number: flat below 128, then split, then both.
+fn layout_of(number: u64) -> u8 {
+    match number / 128 {
+        0 => b'f',
+        1 => b's',
+        _ => b'b',
+    }
+}
+
+/// Adds the names of a number's files: numbers K, K + 128 and K + 256 have those of combination K, each in its layout.
 fn add_names(alloc: Global, number: u64, names: &mut Vec<ByteText>) -> Result<(), Memory> {
-    for (place, (dir, splits)) in FILES.iter().enumerate() {
-        if has(number, place) {
+    let layout = layout_of(number);
+    for (place, dir, splits, layouts) in &FILES {
+        if has(number % 128, *place) && layouts.bytes().any(|one| one == layout) {
             let name = if *splits {
                 format!(in alloc; "{dir}/{}/{number}", number % 23)?
             } else {
@@ -71,10 +84,12 @@ fn add_names(alloc: Global, number: u64, names: &mut Vec<ByteText>) -> Result<()
 fn all(alloc: Global) -> Result<(String, String), Memory> {
     let mut names = Vec::new(alloc);
     let mut expected = String::from_str(alloc, "pid 0\n")?;
-    for number in 1..128u64 {
-        add_names(alloc, number, &mut names)?;
-        let line = format!(in alloc; "{number} {}\n", word_of(number))?;
-        expected.push_str(line.as_str())?;
+    for number in 1..384u64 {
+        if number % 128 != 0 {
+            add_names(alloc, number, &mut names)?;
+            let line = format!(in alloc; "{number} {}\n", word_of(number % 128))?;
+            expected.push_str(line.as_str())?;
+        }
     }
     let dirs = directories(alloc)?;
     let told = audit_of(alloc, disk_of(alloc, &dirs, b"", &names, Vec::new(alloc)))?;

@@ -63,6 +63,62 @@ fn run<D: CallFs>(
     pass.end()
 }
 
+/// Whether a pass ended so, or hasn't ended and wasn't to.
+pub fn is_end(found: Option<End>, wanted: Option<End>) -> bool {
+    match (found, wanted) {
+        (None, None) => true,
+        (
+            Some(
+                End::Done {
+                    n,
+                    has_local,
+                    has_remote,
+                },
+            ),
+            Some(
+                End::Done {
+                    n: number,
+                    has_local: local,
+                    has_remote: remote,
+                },
+            ),
+        ) => n == number && has_local == local && has_remote == remote,
+        (
+            Some(End::Left { n, why }),
+            Some(
+                End::Left {
+                    n: number,
+                    why: cause,
+                },
+            ),
+        ) => { n == number && is_why(why, cause) }
+        _ => false,
+    }
+}
+
+/// Whether a message was left for this reason.
+fn is_why(found: Why, wanted: Why) -> bool {
+    match (found, wanted) {
+        (Why::Fault(part), Why::Fault(other)) => is_part(part, other),
+        (Why::BadRecord { at }, Why::BadRecord { at: place }) => at == place,
+        (Why::NoMess, Why::NoMess) | (Why::Unclean, Why::Unclean) | (Why::Memory, Why::Memory) =>
+            true,
+        _ => false,
+    }
+}
+
+/// Whether two files of a message are the same.
+fn is_part(one: Part, other: Part) -> bool {
+    matches!(
+        (one, other),
+        (Part::Mess, Part::Mess)
+            | (Part::Todo, Part::Todo)
+            | (Part::Info, Part::Info)
+            | (Part::Local, Part::Local)
+            | (Part::Remote, Part::Remote)
+    )
+}
+
 /// Whether a pass of message 24 over this disk, to which the cleaner answers `+`, ends so after at most so many steps.
 fn ends(
     alloc: Global,
@@ -73,7 +129,7 @@ fn ends(
 ) -> bool {
     match TodoPass::new(alloc, 24, controls) {
         Ok(mut pass) => {
-            let is_so = run(alloc, &mut pass, disk, b"+", steps) == end;
+            let is_so = is_end(run(alloc, &mut pass, disk, b"+", steps), end);
             drop(pass);
             is_so
         }

@@ -1,7 +1,7 @@
 // Preprocessing, call by call.
 ghost use Rattle.call_fs.specs.Columns.{IsMomentIn};
 
-use super::todo_disks::controls;
+use super::todo_disks::{controls, is_end};
 use address_rules::Controls;
 use call_fs::{Answer, Call, Fd, FsError, Got, How, Need, Port, Stat, UNREADY};
 use std::alloc::Global;
@@ -231,7 +231,7 @@ fn ends_by(alloc: Global, pass: &mut TodoPass<'_>, todo: &[u8], end: Option<End>
         Came::Read(todo),
         Came::Done,
     ];
-    are_handed(alloc, pass, &came) && pass.end() == end
+    are_handed(alloc, pass, &came) && is_end(pass.end(), end)
 }
 
 /// So, of a todo file whose sender is of the letter `a` alone, and whose last byte, a NUL, is at this place.
@@ -261,12 +261,14 @@ fn does(alloc: Global, pass: &mut TodoPass<'_>, n: u64, what: &Try) -> bool {
     match what {
         Try::Steps(steps, has_local, has_remote) => {
             first_wrong(alloc, pass, steps).is_none()
-                && pass.end()
-                    == Some(End::Done {
+                && is_end(
+                    pass.end(),
+                    Some(End::Done {
                         n,
                         has_local: *has_local,
                         has_remote: *has_remote,
-                    })
+                    }),
+                )
         }
         Try::Tells => first_wrong(alloc, pass, STEPS).is_none() && tells(pass),
         Try::Again => {
@@ -277,7 +279,7 @@ fn does(alloc: Global, pass: &mut TodoPass<'_>, n: u64, what: &Try) -> bool {
             makes_first(alloc, pass, *at)
                 && hand_in(alloc, pass, 0, *failing)
                 && closes(alloc, pass)
-                && pass.end() == Some(left(*why))
+                && is_end(pass.end(), Some(left(*why)))
         }
         Try::Reads(todo, place) => ends_by(alloc, pass, todo, end_at(*place)),
         Try::ReadsLong(last, place) => ends_by_long(alloc, pass, *last, end_at(*place)),

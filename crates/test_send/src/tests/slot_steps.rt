@@ -155,8 +155,13 @@ fn is_mark(found: Option<&Mark>, row: Option<(u64, u64, Option<&[u8]>)>) -> bool
 
 /// Whether the job on message n is that of the row, or neither has one.
 fn is_job(found: Option<Job>, n: u64, row: Option<(u64, bool)>) -> bool {
-    let job = row.map(|(begun, unmarked)| Job { n, begun, unmarked });
-    found == job
+    match (found, row) {
+        (None, None) => true,
+        (Some(job), Some((begun, unmarked))) => {
+            job.n == n && job.begun == begun && job.unmarked == unmarked
+        }
+        _ => false,
+    }
 }
 
 /// Does what a step changes; whether it could.

@@ -21,3 +21,9 @@ returns-in-Mess-6 c = number_is c.args.name c.in_ok-name.field-0 c.in-Mess.n c.i
 
 pub returns-in-Mess-7 : goal.returns-in-Mess-7
 returns-in-Mess-7 c = number_is c.args.name c.in_ok-name.field-0 c.in-Mess.n c.in_ok-name.was c.in-Mess.is
+
+pub returns-in-Mess-8 : goal.returns-in-Mess-8
+returns-in-Mess-8 c = number_is c.args.name c.in_ok-name.field-0 c.in-Mess.n c.in_ok-name.was c.in-Mess.is
+
+pub returns-in-Mess-9 : goal.returns-in-Mess-9
+returns-in-Mess-9 c = number_is c.args.name c.in_ok-name.field-0 c.in-Mess.n c.in_ok-name.was c.in-Mess.is

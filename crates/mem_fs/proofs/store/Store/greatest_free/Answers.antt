@@ -1,6 +1,7 @@
 use Rattle.std.proofs.Common.{subst}
 use Rattle.std.specs.Option.{IfSome, IfNone}
-use Rattle.mem_fs.specs.MemDisk.{disk_of, NoneFree, IsGreatestFree}
+use Rattle.call_fs.specs.Free.{IsGreatestFree}
+use Rattle.mem_fs.specs.MemDisk.{disk_of, NoneFree}
 use Rattle.mem_fs.proofs.Uses.{none_free_from, greatest_free_from}
 use Rattle.mem_fs.proofs.store.Store.greatest_free.Goals as goal
 

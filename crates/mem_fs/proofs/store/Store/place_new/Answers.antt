@@ -3,7 +3,8 @@ use Rattle.mem_files.specs.declared.file.Inode.{Inode}
 use Rattle.call_fs.specs.Maps.{put, put_at}
 use Rattle.mem_files.specs.Tables.{at_number}
 use Rattle.mem_fs.specs.Tables.{at_name, texts}
-use Rattle.mem_fs.specs.MemDisk.{Held, disk_of, PlacesNew}
+use Rattle.call_fs.specs.Placing.{PlacesNew}
+use Rattle.mem_fs.specs.MemDisk.{Held, disk_of}
 use Rattle.mem_fs.proofs.Uses.{unused_idle}
 use Rattle.mem_fs.proofs.Steps.{sound-placed, disk-placed}
 use Rattle.mem_fs.proofs.Indexed.{with_put}
