@@ -14,21 +14,11 @@ top=$(cd "$(dirname "$0")/.." && pwd)
 program=$(realpath "${QMAIL:-$top/qmail}")
 [ -x "$program" ] || { echo "there is no $program"; exit 1; }
 PATH=$PATH:/usr/sbin
-work=$(mktemp -d)
 sender=
-with_postfix=
-end() {
-  [ -z "$with_postfix" ] || own_users postfix -c "$work/postfix/etc" stop 2> noise
-  kill -CONT $sender 2> noise
-  kill $sender 2> noise
-  wait
-  rm -rf "$work"
-}
-trap end EXIT
-cd "$work" || exit 1
-chmod 711 .
+running() { echo $sender; }
 . "$top/bench/check.sh"
 . "$top/bench/postfix.sh"
+work_beside_postfix
 
 cat > one.pl <<'END2'
 # one.pl SECONDS DIR COMMAND..: pauses, runs the command, and prints the milliseconds from its end to the next file in DIR

@@ -1,6 +1,23 @@
-# bench/postfix.sh: read by bench/rates.sh, and no script of its own: a Postfix with its own configuration, queue and log below the
-# current directory, for 20 users whose homes are there too, by root. Nothing of the machine is changed: the users are in a copy of
-# /etc/passwd that only a shell of `own_users` and what that starts see. All is on loopback addresses.
+# bench/postfix.sh: read by bench/rates.sh and bench/latency.sh, and no script of its own: a Postfix with its own configuration, queue
+# and log below the current directory, for 20 users whose homes are there too, by root. Nothing of the machine is changed: the users
+# are in a copy of /etc/passwd that only a shell of `own_users` and what that starts see. All is on loopback addresses.
+work_beside_postfix() { # [DIR]: into a fresh directory, $work, below DIR if that is told; it goes at the end, and so do Postfix and those
+  # whose numbers `running` prints
+  work=$(mktemp -d ${1:+-p "$1"})
+  with_postfix=
+  trap end_beside_postfix EXIT
+  cd "$work" || exit 1
+  chmod 711 .
+}
+
+end_beside_postfix() {
+  [ -z "$with_postfix" ] || own_users postfix -c "$work/postfix/etc" stop 2> noise
+  kill -CONT $(running) 2> noise
+  kill $(running) 2> noise
+  wait
+  rm -rf "$work"
+}
+
 postfix_service() { # NAME TYPE PRIVATE UNPRIVILEGED WAKEUP MOST: a line of master.cf
   echo "$1 $2 $3 $4 n $5 $6 ${7:-$1}"
 }

@@ -20,21 +20,12 @@ program=$(realpath "${QMAIL:-$top/qmail}")
 [ -x "$program" ] || { echo "there is no $program"; exit 1; }
 earlier=${BEFORE:+$(realpath "$BEFORE")}
 PATH=$PATH:/usr/sbin
-work=$(mktemp -d ${2:+-p "$2"})
 senders=
 sink=
-with_postfix=
-end() {
-  [ -z "$with_postfix" ] || own_users postfix -c "$work/postfix/etc" stop 2> noise
-  kill $senders $sink 2> noise
-  wait
-  rm -rf "$work"
-}
-trap end EXIT
-cd "$work" || exit 1
-chmod 711 .
+running() { echo $senders $sink; }
 . "$top/bench/check.sh"
 . "$top/bench/postfix.sh"
+work_beside_postfix ${2:+"$2"}
 export QMAIL_IDLE_MS=20
 port=$((20000 + $$ % 10000))
 
